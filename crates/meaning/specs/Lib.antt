@@ -1,0 +1,11 @@
+pub mod Bytes
+pub mod Refusals
+pub mod Items
+pub mod Writing
+pub mod Schema
+pub mod Editions
+pub mod Records
+pub mod Values
+pub mod Ring
+pub mod Drain
+pub mod Names

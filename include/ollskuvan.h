@@ -1,0 +1,493 @@
+/*
+ * ollskuvan.h: the C face of Ollskuvan, a proved reader of the Linux perf ring.
+ *
+ * Link with libollskuvan.a. C99; the header may also be included from C++.
+ * All numbers in rings, records and journals are little-endian. The library is
+ * for x86-64.
+ *
+ * What the library does not do: it opens no event, maps no memory, issues no
+ * memory barrier, allocates nothing, keeps nothing between two calls and reads
+ * no byte outside the slices it is lent. Every call answers for every input:
+ * there is no input that is not allowed beyond what is owed here.
+ *
+ * What the caller owes:
+ *
+ *  - A slice is a pointer and a length in elements. The pointer must be good
+ *    for that many elements for the time of the call, for writing too where it
+ *    is not const, and the u64 slices must be aligned to 8 bytes. A slice of
+ *    length 0 may have any pointer, also a null pointer.
+ *  - A slice that is written (scratch, journal, buffer, fields) must not
+ *    overlap any other slice of the same call. Slices that are only read may
+ *    overlap each other.
+ *  - Nobody else may write to a lent slice during the call. For a live ring
+ *    this means: read data_head, then issue your own read barrier, then call;
+ *    after the call issue your own full barrier and only then store the new
+ *    tail in data_tail. The bytes between tail and head are the reader's until
+ *    that store.
+ *  - ring is the data area alone (data_offset, data_size), not the metadata
+ *    page before it. head and tail are the 64-bit counts as the kernel and the
+ *    caller keep them, not reduced by the ring's length.
+ *  - One attribute set serves a whole ring: sample_type, read_format,
+ *    sample_id_all, user_mask (sample_regs_user) and interrupt_mask
+ *    (sample_regs_intr) are those the event was opened with. sample_id_all is
+ *    set if it is not zero; it and the edition are not narrowed (edition 257 is
+ *    not edition 1).
+ */
+#ifndef OLLSKUVAN_H
+#define OLLSKUVAN_H
+
+#include <stddef.h>
+#include <stdint.h>
+
+#ifdef __cplusplus
+extern "C" {
+#endif
+
+/* ------------------------------------------------------------------------
+ * Editions: what is known of sample bits and record types.
+ *   1: sample bits 0 to 15, types 1 to 9
+ *   2: sample bits 0 to 18, types 1 to 15
+ *   3: sample bits 0 to 24, types 1 to 20, and the build-id form of MMAP2
+ * All three know read-format bits 0 to 3.
+ */
+#define OLLSKUVAN_EDITION_1 1u
+#define OLLSKUVAN_EDITION_2 2u
+#define OLLSKUVAN_EDITION_3 3u
+
+/* The ring's length: a power of two between these two. */
+#define OLLSKUVAN_RING_MIN 64u
+#define OLLSKUVAN_RING_MAX 1048576u
+
+/* The greatest size of a record: the greatest u16 that is a multiple of 8. */
+#define OLLSKUVAN_RECORD_MAX 65528u
+
+/* The bytes of one journal entry. */
+#define OLLSKUVAN_JOURNAL_ENTRY 16u
+/* Where the parts of an entry lie in it. */
+#define OLLSKUVAN_JOURNAL_LENGTH 0u /* 4 bytes: always 16 */
+#define OLLSKUVAN_JOURNAL_KIND 4u   /* 2 bytes: the type, or 65535 if larger */
+#define OLLSKUVAN_JOURNAL_ANSWER 6u /* 2 bytes: 0 or the refusal */
+#define OLLSKUVAN_JOURNAL_TAIL 8u   /* 8 bytes: the record's own tail count */
+/* The kind of a record whose type does not fit in 2 bytes. */
+#define OLLSKUVAN_KIND_OTHER 65535u
+
+/* ------------------------------------------------------------------------
+ * Answers. The numbers are fixed and never used for anything else.
+ *
+ * Stops: the drain ends, and tail, scratch and journal are as they stood
+ * before that record. Tested at every record in this order:
+ * 1, 2, 4, 5, 0, 8, 9, 10, 6, 7, 3.
+ */
+#define OLLSKUVAN_OK 0u                  /* a record: accepted; a copy or a writing: done */
+#define OLLSKUVAN_STOP_NOTHING 0u        /* head equals tail: nothing to take */
+#define OLLSKUVAN_STOP_RING_LENGTH 1u    /* the ring's length is not allowed */
+#define OLLSKUVAN_STOP_EDITION 2u        /* the edition is not 1, 2 or 3 */
+#define OLLSKUVAN_STOP_SCRATCH 3u        /* the record crosses the ring's end and the scratch is shorter than it */
+#define OLLSKUVAN_STOP_DISTANCE 4u       /* head minus tail, wrapping, is above the ring's length */
+#define OLLSKUVAN_STOP_ALIGNMENT 5u      /* head or tail is no multiple of 8 */
+#define OLLSKUVAN_STOP_SIZE 6u           /* the record's size is below 8 or no multiple of 8 */
+#define OLLSKUVAN_STOP_PAST_HEAD 7u      /* the record's size is above the distance that is left */
+#define OLLSKUVAN_STOP_BUDGET 8u         /* the budget is used up */
+#define OLLSKUVAN_STOP_JOURNAL 9u        /* fewer than 16 journal bytes are left */
+#define OLLSKUVAN_STOP_HEADER_CROSSES 10u /* the 8-byte header crosses the ring's end (cannot happen once 1 and 5 pass) */
+
+/* The same numbers as answers of check, read and write, where nothing stops. */
+#define OLLSKUVAN_REFUSED_EDITION 2u /* check, read, write: the edition is not 1, 2 or 3 */
+#define OLLSKUVAN_REFUSED_SIZE 6u    /* check, read: as OLLSKUVAN_STOP_SIZE */
+#define OLLSKUVAN_REFUSED_LENGTH 7u  /* check, read: the slice is shorter than 8 bytes, or the size is not its length */
+
+/* Name copy alone: the name and one zero do not fit the buffer. */
+#define OLLSKUVAN_REFUSED_NAME_ROOM 12u
+
+/* Refusals of a record: it is taken, the tail moves by its size, and it has no
+ * value. 20 to 24 are tested in this order, before the bytes of the body are
+ * looked at; of 30 to 33 the first in field order is given. */
+#define OLLSKUVAN_REFUSED_TYPE 20u        /* type 0, or above the edition's */
+#define OLLSKUVAN_REFUSED_SAMPLE_TYPE 21u /* a sample bit the edition doesn't know; a SAMPLE, or sample_id_all is set */
+#define OLLSKUVAN_REFUSED_READ_FORMAT 22u /* read-format bit 4 or higher; READ, or a SAMPLE with sample bit 4 */
+#define OLLSKUVAN_REFUSED_BUILD_ID 23u    /* MMAP2 with misc bit 14, edition below 3 */
+#define OLLSKUVAN_REFUSED_WEIGHTS 24u     /* a SAMPLE with sample bits 14 and 24 both selected */
+#define OLLSKUVAN_REFUSED_SHORT 30u       /* a field or the trailer would pass the record's end */
+#define OLLSKUVAN_REFUSED_LEFT_OVER 31u   /* bytes are left over after the last field */
+#define OLLSKUVAN_REFUSED_INNER 32u       /* raw size + 4, stack size or aux size no multiple of 8; filled above stack size; build id above 20 */
+#define OLLSKUVAN_REFUSED_NAME 33u        /* no zero byte in the name's room, or the first is not among its last 8 bytes */
+
+/* Refusals by what is lent: room, places and values. */
+#define OLLSKUVAN_REFUSED_ROOM 40u  /* write: the record doesn't fit the buffer; read: fewer than OLLSKUVAN_FIELDS words */
+#define OLLSKUVAN_REFUSED_PLACE 41u /* copy_name, write: place plus bytes, as plain numbers, passes the end */
+#define OLLSKUVAN_REFUSED_VALUE 42u /* write: no record decodes to this value; or fewer than OLLSKUVAN_FIELDS words */
+
+/* ------------------------------------------------------------------------
+ * Record types.
+ */
+#define OLLSKUVAN_TYPE_MMAP 1u
+#define OLLSKUVAN_TYPE_LOST 2u
+#define OLLSKUVAN_TYPE_COMM 3u
+#define OLLSKUVAN_TYPE_EXIT 4u
+#define OLLSKUVAN_TYPE_THROTTLE 5u
+#define OLLSKUVAN_TYPE_UNTHROTTLE 6u
+#define OLLSKUVAN_TYPE_FORK 7u
+#define OLLSKUVAN_TYPE_READ 8u
+#define OLLSKUVAN_TYPE_SAMPLE 9u
+#define OLLSKUVAN_TYPE_MMAP2 10u
+#define OLLSKUVAN_TYPE_AUX 11u
+#define OLLSKUVAN_TYPE_ITRACE_START 12u
+#define OLLSKUVAN_TYPE_LOST_SAMPLES 13u
+#define OLLSKUVAN_TYPE_SWITCH 14u
+#define OLLSKUVAN_TYPE_SWITCH_CPU_WIDE 15u
+#define OLLSKUVAN_TYPE_NAMESPACES 16u
+#define OLLSKUVAN_TYPE_KSYMBOL 17u
+#define OLLSKUVAN_TYPE_BPF_EVENT 18u
+#define OLLSKUVAN_TYPE_CGROUP 19u
+#define OLLSKUVAN_TYPE_TEXT_POKE 20u
+
+/* Misc bits of the header. */
+#define OLLSKUVAN_MISC_CPUMODE_MASK 0x0007u
+#define OLLSKUVAN_MISC_MMAP_DATA 0x2000u          /* MMAP, MMAP2: bit 13 */
+#define OLLSKUVAN_MISC_COMM_EXEC 0x2000u          /* COMM: bit 13 */
+#define OLLSKUVAN_MISC_SWITCH_OUT 0x2000u         /* SWITCH, SWITCH_CPU_WIDE: bit 13 */
+#define OLLSKUVAN_MISC_EXACT_IP 0x4000u           /* SAMPLE: bit 14 */
+#define OLLSKUVAN_MISC_SWITCH_OUT_PREEMPT 0x4000u /* SWITCH, SWITCH_CPU_WIDE: bit 14 */
+#define OLLSKUVAN_MISC_MMAP_BUILD_ID 0x4000u      /* MMAP2: bit 14 */
+
+/* Sample bits (sample_type). */
+#define OLLSKUVAN_BIT_IP (UINT64_C(1) << 0)
+#define OLLSKUVAN_BIT_TID (UINT64_C(1) << 1)
+#define OLLSKUVAN_BIT_TIME (UINT64_C(1) << 2)
+#define OLLSKUVAN_BIT_ADDR (UINT64_C(1) << 3)
+#define OLLSKUVAN_BIT_READ (UINT64_C(1) << 4)
+#define OLLSKUVAN_BIT_CALLCHAIN (UINT64_C(1) << 5)
+#define OLLSKUVAN_BIT_ID (UINT64_C(1) << 6)
+#define OLLSKUVAN_BIT_CPU (UINT64_C(1) << 7)
+#define OLLSKUVAN_BIT_PERIOD (UINT64_C(1) << 8)
+#define OLLSKUVAN_BIT_STREAM_ID (UINT64_C(1) << 9)
+#define OLLSKUVAN_BIT_RAW (UINT64_C(1) << 10)
+#define OLLSKUVAN_BIT_BRANCHES (UINT64_C(1) << 11)
+#define OLLSKUVAN_BIT_USER_REGISTERS (UINT64_C(1) << 12)
+#define OLLSKUVAN_BIT_USER_STACK (UINT64_C(1) << 13)
+#define OLLSKUVAN_BIT_WEIGHT (UINT64_C(1) << 14)
+#define OLLSKUVAN_BIT_DATA_SOURCE (UINT64_C(1) << 15)
+#define OLLSKUVAN_BIT_IDENTIFIER (UINT64_C(1) << 16)
+#define OLLSKUVAN_BIT_TRANSACTION (UINT64_C(1) << 17)
+#define OLLSKUVAN_BIT_INTERRUPT_REGISTERS (UINT64_C(1) << 18)
+#define OLLSKUVAN_BIT_PHYSICAL_ADDRESS (UINT64_C(1) << 19)
+#define OLLSKUVAN_BIT_AUX (UINT64_C(1) << 20)
+#define OLLSKUVAN_BIT_CGROUP (UINT64_C(1) << 21)
+#define OLLSKUVAN_BIT_DATA_PAGE_SIZE (UINT64_C(1) << 22)
+#define OLLSKUVAN_BIT_CODE_PAGE_SIZE (UINT64_C(1) << 23)
+#define OLLSKUVAN_BIT_WEIGHT_STRUCT (UINT64_C(1) << 24)
+/* The sample bits that have an eight-byte item in the trailer (66246). */
+#define OLLSKUVAN_TRAILER_BITS UINT64_C(0x102c6)
+
+/* Read-format bits. */
+#define OLLSKUVAN_READ_FORMAT_ENABLED (UINT64_C(1) << 0)
+#define OLLSKUVAN_READ_FORMAT_RUNNING (UINT64_C(1) << 1)
+#define OLLSKUVAN_READ_FORMAT_ID (UINT64_C(1) << 2)
+#define OLLSKUVAN_READ_FORMAT_GROUP (UINT64_C(1) << 3)
+
+/* ------------------------------------------------------------------------
+ * The words of a value, for ollskuvan_read and ollskuvan_write. These numbers
+ * are final.
+ *
+ * A value is OLLSKUVAN_FIELDS words of 64 bits. Words 0, 1 and 2 are the
+ * header's; the body's words start at 3 and depend on the type; the trailer's
+ * are 48 to 54. A list or name has a word for its place, the byte offset in the
+ * record that was read (in the source, when writing), and a word for its count
+ * in elements: words, entries or bytes. For a list that has a count or size
+ * word in the record, the count is that word.
+ *
+ * A field that is not selected reads 0, and must be 0 to be written; so do the
+ * words that no constant names for the type. A list that is selected and empty
+ * has the place where it would start. The place of a list that is not selected
+ * reads 0; when writing it is not looked at, and the list's count must be 0.
+ *
+ * Words marked "kept" are kept free for fields that may come later: they read
+ * 0 and must be 0 to be written.
+ */
+#define OLLSKUVAN_FIELDS 56u
+
+/* Every record */
+#define OLLSKUVAN_TYPE 0u
+#define OLLSKUVAN_MISC 1u
+#define OLLSKUVAN_SIZE 2u
+
+/* 1 MMAP */
+#define OLLSKUVAN_MMAP_PID 3u
+#define OLLSKUVAN_MMAP_TID 4u
+#define OLLSKUVAN_MMAP_ADDR 5u
+#define OLLSKUVAN_MMAP_LEN 6u
+#define OLLSKUVAN_MMAP_PGOFF 7u
+#define OLLSKUVAN_MMAP_NAME 8u       /* place */
+#define OLLSKUVAN_MMAP_NAME_COUNT 9u /* bytes, without the zero */
+#define OLLSKUVAN_MMAP_NAME_FLAG 10u /* kept: reads 0, must be 0 */
+
+/* 2 LOST */
+#define OLLSKUVAN_LOST_ID 3u
+#define OLLSKUVAN_LOST_LOST 4u
+
+/* 3 COMM */
+#define OLLSKUVAN_COMM_PID 3u
+#define OLLSKUVAN_COMM_TID 4u
+#define OLLSKUVAN_COMM_NAME 5u       /* place */
+#define OLLSKUVAN_COMM_NAME_COUNT 6u /* bytes, without the zero */
+#define OLLSKUVAN_COMM_NAME_FLAG 7u  /* kept: reads 0, must be 0 */
+
+/* 4 EXIT */
+#define OLLSKUVAN_EXIT_PID 3u
+#define OLLSKUVAN_EXIT_PPID 4u
+#define OLLSKUVAN_EXIT_TID 5u
+#define OLLSKUVAN_EXIT_PTID 6u
+#define OLLSKUVAN_EXIT_TIME 7u
+
+/* 5 THROTTLE */
+#define OLLSKUVAN_THROTTLE_TIME 3u
+#define OLLSKUVAN_THROTTLE_ID 4u
+#define OLLSKUVAN_THROTTLE_STREAM_ID 5u
+
+/* 6 UNTHROTTLE */
+#define OLLSKUVAN_UNTHROTTLE_TIME 3u
+#define OLLSKUVAN_UNTHROTTLE_ID 4u
+#define OLLSKUVAN_UNTHROTTLE_STREAM_ID 5u
+
+/* 7 FORK */
+#define OLLSKUVAN_FORK_PID 3u
+#define OLLSKUVAN_FORK_PPID 4u
+#define OLLSKUVAN_FORK_TID 5u
+#define OLLSKUVAN_FORK_PTID 6u
+#define OLLSKUVAN_FORK_TIME 7u
+
+/* 8 READ. Without read-format bit 3: value, enabled, running, id; with it:
+ * values_count, enabled, running and the list of entries. */
+#define OLLSKUVAN_READ_PID 3u
+#define OLLSKUVAN_READ_TID 4u
+#define OLLSKUVAN_READ_VALUE 5u
+#define OLLSKUVAN_READ_VALUES_COUNT 6u /* entries */
+#define OLLSKUVAN_READ_ENABLED 7u
+#define OLLSKUVAN_READ_RUNNING 8u
+#define OLLSKUVAN_READ_ID 9u
+#define OLLSKUVAN_READ_LOST 10u   /* kept: reads 0, must be 0 */
+#define OLLSKUVAN_READ_VALUES 11u /* place; entries of 8 bytes, of 16 with read-format bit 2 */
+
+/* 9 SAMPLE */
+#define OLLSKUVAN_SAMPLE_IDENTIFIER 3u
+#define OLLSKUVAN_SAMPLE_IP 4u
+#define OLLSKUVAN_SAMPLE_PID 5u
+#define OLLSKUVAN_SAMPLE_TID 6u
+#define OLLSKUVAN_SAMPLE_TIME 7u
+#define OLLSKUVAN_SAMPLE_ADDR 8u
+#define OLLSKUVAN_SAMPLE_ID 9u
+#define OLLSKUVAN_SAMPLE_STREAM_ID 10u
+#define OLLSKUVAN_SAMPLE_CPU 11u
+#define OLLSKUVAN_SAMPLE_PERIOD 12u
+#define OLLSKUVAN_SAMPLE_READ_VALUE 13u
+#define OLLSKUVAN_SAMPLE_READ_VALUES_COUNT 14u /* entries */
+#define OLLSKUVAN_SAMPLE_READ_ENABLED 15u
+#define OLLSKUVAN_SAMPLE_READ_RUNNING 16u
+#define OLLSKUVAN_SAMPLE_READ_ID 17u
+#define OLLSKUVAN_SAMPLE_READ_LOST 18u       /* kept: reads 0, must be 0 */
+#define OLLSKUVAN_SAMPLE_READ_VALUES 19u     /* place; entries of 8 bytes, of 16 with read-format bit 2 */
+#define OLLSKUVAN_SAMPLE_CALLCHAIN_COUNT 20u /* words */
+#define OLLSKUVAN_SAMPLE_CALLCHAIN 21u       /* place */
+#define OLLSKUVAN_SAMPLE_RAW_COUNT 22u       /* bytes: the raw size */
+#define OLLSKUVAN_SAMPLE_RAW 23u             /* place */
+#define OLLSKUVAN_SAMPLE_BRANCHES_COUNT 24u  /* entries */
+#define OLLSKUVAN_SAMPLE_HW_INDEX 25u        /* kept: reads 0, must be 0 */
+#define OLLSKUVAN_SAMPLE_BRANCHES 26u        /* place; entries of 24 bytes */
+#define OLLSKUVAN_SAMPLE_USER_ABI 27u
+#define OLLSKUVAN_SAMPLE_USER_REGISTERS 28u       /* place */
+#define OLLSKUVAN_SAMPLE_USER_REGISTERS_COUNT 29u /* words: 0 if the abi is 0, else the ones of user_mask */
+#define OLLSKUVAN_SAMPLE_STACK_COUNT 30u          /* bytes: the stack size */
+#define OLLSKUVAN_SAMPLE_STACK 31u                /* place */
+#define OLLSKUVAN_SAMPLE_STACK_FILLED 32u         /* the filled length; 0 if the stack size is 0 */
+#define OLLSKUVAN_SAMPLE_WEIGHT 33u               /* of bit 14 or bit 24 */
+#define OLLSKUVAN_SAMPLE_DATA_SOURCE 34u
+#define OLLSKUVAN_SAMPLE_TRANSACTION 35u
+#define OLLSKUVAN_SAMPLE_INTERRUPT_ABI 36u
+#define OLLSKUVAN_SAMPLE_INTERRUPT_REGISTERS 37u       /* place */
+#define OLLSKUVAN_SAMPLE_INTERRUPT_REGISTERS_COUNT 38u /* words: 0 if the abi is 0, else the ones of interrupt_mask */
+#define OLLSKUVAN_SAMPLE_PHYSICAL_ADDRESS 39u
+#define OLLSKUVAN_SAMPLE_CGROUP 40u
+#define OLLSKUVAN_SAMPLE_DATA_PAGE_SIZE 41u
+#define OLLSKUVAN_SAMPLE_CODE_PAGE_SIZE 42u
+#define OLLSKUVAN_SAMPLE_AUX_COUNT 43u /* bytes: the aux size */
+#define OLLSKUVAN_SAMPLE_AUX 44u       /* place */
+
+/* 10 MMAP2. Without misc bit 14: maj, min, ino, generation; with it: the build id. */
+#define OLLSKUVAN_MMAP2_PID 3u
+#define OLLSKUVAN_MMAP2_TID 4u
+#define OLLSKUVAN_MMAP2_ADDR 5u
+#define OLLSKUVAN_MMAP2_LEN 6u
+#define OLLSKUVAN_MMAP2_PGOFF 7u
+#define OLLSKUVAN_MMAP2_MAJ 8u
+#define OLLSKUVAN_MMAP2_MIN 9u
+#define OLLSKUVAN_MMAP2_INO 10u
+#define OLLSKUVAN_MMAP2_GENERATION 11u
+#define OLLSKUVAN_MMAP2_BUILD_ID_COUNT 12u /* bytes: 0 to 20 */
+#define OLLSKUVAN_MMAP2_BUILD_ID 13u       /* place */
+#define OLLSKUVAN_MMAP2_PROT 14u
+#define OLLSKUVAN_MMAP2_FLAGS 15u
+#define OLLSKUVAN_MMAP2_NAME 16u       /* place */
+#define OLLSKUVAN_MMAP2_NAME_COUNT 17u /* bytes, without the zero */
+#define OLLSKUVAN_MMAP2_NAME_FLAG 18u  /* kept: reads 0, must be 0 */
+
+/* 11 AUX */
+#define OLLSKUVAN_AUX_OFFSET 3u
+#define OLLSKUVAN_AUX_SIZE 4u
+#define OLLSKUVAN_AUX_FLAGS 5u
+
+/* 12 ITRACE_START */
+#define OLLSKUVAN_ITRACE_START_PID 3u
+#define OLLSKUVAN_ITRACE_START_TID 4u
+
+/* 13 LOST_SAMPLES */
+#define OLLSKUVAN_LOST_SAMPLES_LOST 3u
+
+/* 14 SWITCH: no words of its own */
+
+/* 15 SWITCH_CPU_WIDE */
+#define OLLSKUVAN_SWITCH_CPU_WIDE_PID 3u
+#define OLLSKUVAN_SWITCH_CPU_WIDE_TID 4u
+
+/* 16 NAMESPACES */
+#define OLLSKUVAN_NAMESPACES_PID 3u
+#define OLLSKUVAN_NAMESPACES_TID 4u
+#define OLLSKUVAN_NAMESPACES_NAMESPACES_COUNT 5u /* entries */
+#define OLLSKUVAN_NAMESPACES_NAMESPACES 6u       /* place; entries of 16 bytes */
+
+/* 17 KSYMBOL */
+#define OLLSKUVAN_KSYMBOL_ADDR 3u
+#define OLLSKUVAN_KSYMBOL_LEN 4u
+#define OLLSKUVAN_KSYMBOL_KSYM_TYPE 5u
+#define OLLSKUVAN_KSYMBOL_FLAGS 6u
+#define OLLSKUVAN_KSYMBOL_NAME 7u       /* place */
+#define OLLSKUVAN_KSYMBOL_NAME_COUNT 8u /* bytes, without the zero */
+#define OLLSKUVAN_KSYMBOL_NAME_FLAG 9u  /* kept: reads 0, must be 0 */
+
+/* 18 BPF_EVENT */
+#define OLLSKUVAN_BPF_EVENT_BPF_TYPE 3u
+#define OLLSKUVAN_BPF_EVENT_FLAGS 4u
+#define OLLSKUVAN_BPF_EVENT_ID 5u
+#define OLLSKUVAN_BPF_EVENT_TAG 6u       /* place */
+#define OLLSKUVAN_BPF_EVENT_TAG_COUNT 7u /* bytes: always 8 */
+
+/* 19 CGROUP */
+#define OLLSKUVAN_CGROUP_ID 3u
+#define OLLSKUVAN_CGROUP_NAME 4u       /* place */
+#define OLLSKUVAN_CGROUP_NAME_COUNT 5u /* bytes, without the zero */
+#define OLLSKUVAN_CGROUP_NAME_FLAG 6u  /* kept: reads 0, must be 0 */
+
+/* 20 TEXT_POKE */
+#define OLLSKUVAN_TEXT_POKE_ADDR 3u
+#define OLLSKUVAN_TEXT_POKE_OLD_COUNT 4u /* bytes */
+#define OLLSKUVAN_TEXT_POKE_NEW_COUNT 5u /* bytes */
+#define OLLSKUVAN_TEXT_POKE_OLD 6u       /* place */
+#define OLLSKUVAN_TEXT_POKE_NEW 7u       /* place */
+
+/* The trailer: every type but SAMPLE, if sample_id_all is set. */
+#define OLLSKUVAN_TRAILER_PID 48u
+#define OLLSKUVAN_TRAILER_TID 49u
+#define OLLSKUVAN_TRAILER_TIME 50u
+#define OLLSKUVAN_TRAILER_ID 51u
+#define OLLSKUVAN_TRAILER_STREAM_ID 52u
+#define OLLSKUVAN_TRAILER_CPU 53u
+#define OLLSKUVAN_TRAILER_IDENTIFIER 54u
+
+/* ------------------------------------------------------------------------
+ * The calls.
+ */
+
+struct ollskuvan_drained {
+    uint64_t taken; /* records taken: the number of journal entries written */
+    uint64_t bytes; /* bytes taken: the sum of the records' sizes */
+    uint64_t tail;  /* the new tail: the given tail plus bytes, wrapping */
+    uint32_t stop;  /* why it stopped: OLLSKUVAN_STOP_... */
+};
+
+/*
+ * ollskuvan_drain takes records from tail towards head, at most budget of them.
+ *
+ * At every record the stops are tested in the order 1, 2, 4, 5, 0, 8, 9, 10, 6,
+ * 7, 3; the first that holds ends the drain and is reported as stop. So an empty
+ * ring with budget 0 is 0, and a budget used up just as head is reached is 0.
+ *
+ * A record taken is shown where it lies, or, if it crosses the ring's end, is
+ * copied to the start of the scratch; it is then checked as ollskuvan_check
+ * does from 20 on. Whatever the answer, an entry of 16 bytes goes to the
+ * journal (16, kind, answer, the record's tail count) and the tail moves by the
+ * record's size: a refused record is passed over.
+ *
+ * Afterwards: the ring is unchanged. The journal's first 16 * taken bytes are
+ * the entries, its other bytes are unchanged. The scratch begins with the
+ * record that crossed the ring's end, if one was taken, and its other bytes are
+ * unchanged; if none was, the whole scratch is unchanged. A scratch as long as
+ * the ring, or of OLLSKUVAN_RECORD_MAX bytes, never gives stop 3.
+ */
+struct ollskuvan_drained ollskuvan_drain(const uint8_t *ring, size_t ring_len, uint64_t head, uint64_t tail,
+    uint64_t sample_type, uint64_t read_format, uint32_t sample_id_all, uint64_t user_mask, uint64_t interrupt_mask,
+    uint32_t edition, uint64_t budget, uint8_t *scratch, size_t scratch_len, uint8_t *journal, size_t journal_len);
+
+/*
+ * ollskuvan_check answers for one record, which is the whole slice: 2; 7 if the
+ * slice is shorter than 8 bytes; 6; 7 if the record's size is not the slice's
+ * length; 20 to 24; 30 to 33; otherwise 0. It writes nothing.
+ */
+uint32_t ollskuvan_check(const uint8_t *record, size_t record_len, uint64_t sample_type, uint64_t read_format,
+    uint32_t sample_id_all, uint64_t user_mask, uint64_t interrupt_mask, uint32_t edition);
+
+/*
+ * ollskuvan_copy_name copies count bytes at place in the record, and one zero
+ * after them, to the start of the buffer. In this order: 41 if place plus
+ * count, as plain numbers, passes the slice's end (also with count 0); 12 if
+ * count + 1 bytes don't fit the buffer; otherwise 0. It looks at the slice's
+ * length alone, not at what the record holds: zeros inside the name are copied
+ * as they are. Refused: the buffer is unchanged; nothing is ever cut short.
+ * Accepted: the buffer's bytes after the zero are unchanged.
+ */
+uint32_t ollskuvan_copy_name(const uint8_t *record, size_t record_len, uint64_t place, uint64_t count,
+    uint8_t *buffer, size_t buffer_len);
+
+/*
+ * ollskuvan_read reads one record, which is the whole slice, to its value.
+ * It answers as ollskuvan_check does; where that is 0, it is 40 if fields_len
+ * is below OLLSKUVAN_FIELDS. Refused: the words are unchanged. Accepted (0):
+ * words 0 to OLLSKUVAN_FIELDS - 1 are the value, further words are unchanged.
+ */
+uint32_t ollskuvan_read(const uint8_t *record, size_t record_len, uint64_t sample_type, uint64_t read_format,
+    uint32_t sample_id_all, uint64_t user_mask, uint64_t interrupt_mask, uint32_t edition,
+    uint64_t *fields, size_t fields_len);
+
+/*
+ * ollskuvan_write writes the record of a value: the first OLLSKUVAN_FIELDS
+ * words, and for its lists and names the bytes at their places in the source.
+ * In this order:
+ *   42 if fields_len is below OLLSKUVAN_FIELDS;
+ *   2;
+ *   20 to 24, by the words of type and misc (a type is compared as the whole
+ *      word: any above the edition's is 20);
+ *   41 if a selected list or name, by place plus bytes as plain numbers, passes
+ *      the source's end, even where it is empty. A list is selected by the type,
+ *      misc bit 14 (build id), the sample bits and read-format bit 3; an abi of
+ *      0 or a stack size of 0 does not unselect it;
+ *   42 if no record decodes, under this edition and these attributes, to the same
+ *      numbers and listed bytes: a word that is not selected and not 0; a word too
+ *      wide for its field; a zero inside a name; a register count that is not
+ *      the ones of its mask (not 0, where the abi is 0); a count, size or filled
+ *      length that breaks an inner rule (32); a tag count other than 8; a
+ *      record above OLLSKUVAN_RECORD_MAX; a size word that is not the record's
+ *      true size;
+ *   40 if the record doesn't fit the buffer;
+ *   otherwise 0.
+ * Refused: the buffer is unchanged. Accepted: the buffer begins with the record
+ * (its length is word OLLSKUVAN_SIZE), its other bytes are unchanged. Bytes that
+ * the reader ignores are written as zero. What is written reads back, under
+ * the same edition and attributes, as the same record.
+ */
+uint32_t ollskuvan_write(const uint64_t *fields, size_t fields_len, const uint8_t *source, size_t source_len,
+    uint64_t sample_type, uint64_t read_format, uint32_t sample_id_all, uint64_t user_mask, uint64_t interrupt_mask,
+    uint32_t edition, uint8_t *buffer, size_t buffer_len);
+
+#ifdef __cplusplus
+}
+#endif
+
+#endif
