@@ -1,0 +1,10 @@
+pub mod Bytes
+pub mod Items
+pub mod There
+pub mod Again
+pub mod Fixed
+pub mod Answers
+pub mod Whole
+pub mod Every
+pub mod More
+pub mod Places
