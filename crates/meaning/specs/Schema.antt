@@ -131,26 +131,26 @@ thread = u32 ∷ u32 ∷ []
 abbrev pub schemas : ℕ → Attributes → List (List Item)
 schemas misc a =
     []
-    ∷ (u32 ∷ u32 ∷ u64 ∷ u64 ∷ u64 ∷ always Name ∷ [])                                                        -- 1 MMAP
-    ∷ (u64 ∷ u64 ∷ [])                                                                                        -- 2 LOST
-    ∷ (u32 ∷ u32 ∷ always Name ∷ [])                                                                          -- 3 COMM
-    ∷ tasks                                                                                                   -- 4 EXIT
-    ∷ threeWords                                                                                              -- 5 THROTTLE
-    ∷ threeWords                                                                                              -- 6 UNTHROTTLE
-    ∷ tasks                                                                                                   -- 7 FORK
-    ∷ (u32 ∷ u32 ∷ readValues a true)                                                                         -- 8 READ
-    ∷ sample a                                                                                                -- 9 SAMPLE
-    ∷ mmap2 (bit misc 14)                                                                                     -- 10 MMAP2
-    ∷ threeWords                                                                                              -- 11 AUX
-    ∷ thread                                                                                                  -- 12 ITRACE_START
-    ∷ (u64 ∷ [])                                                                                              -- 13 LOST_SAMPLES
-    ∷ []                                                                                                      -- 14 SWITCH
-    ∷ thread                                                                                                  -- 15 SWITCH_CPU_WIDE
-    ∷ (u32 ∷ u32 ∷ always (Count W8) ∷ always (Times 16) ∷ [])                                                -- 16 NAMESPACES
-    ∷ (u64 ∷ u32 ∷ u16 ∷ u16 ∷ always Name ∷ [])                                                              -- 17 KSYMBOL
-    ∷ (u16 ∷ u16 ∷ u32 ∷ always (Bytes 8) ∷ [])                                                               -- 18 BPF_EVENT
-    ∷ (u64 ∷ always Name ∷ [])                                                                                -- 19 CGROUP
-    ∷ (u64 ∷ always (Count W2) ∷ always (Count W2) ∷ always (Earlier 1) ∷ always (Times 1) ∷ always Pad ∷ []) -- 20 TEXT_POKE
+    ∷ (u32 ∷ u32 ∷ u64 ∷ u64 ∷ u64 ∷ always Name ∷ [])  -- 1 MMAP
+    ∷ (u64 ∷ u64 ∷ [])  -- 2 LOST
+    ∷ (u32 ∷ u32 ∷ always Name ∷ [])  -- 3 COMM
+    ∷ tasks  -- 4 EXIT
+    ∷ threeWords  -- 5 THROTTLE
+    ∷ threeWords  -- 6 UNTHROTTLE
+    ∷ tasks  -- 7 FORK
+    ∷ (u32 ∷ u32 ∷ readValues a true)  -- 8 READ
+    ∷ sample a  -- 9 SAMPLE
+    ∷ mmap2 (bit misc 14)  -- 10 MMAP2
+    ∷ threeWords  -- 11 AUX
+    ∷ thread  -- 12 ITRACE_START
+    ∷ (u64 ∷ [])  -- 13 LOST_SAMPLES
+    ∷ []  -- 14 SWITCH
+    ∷ thread  -- 15 SWITCH_CPU_WIDE
+    ∷ (u32 ∷ u32 ∷ always (Count W8) ∷ always (Times 16) ∷ [])  -- 16 NAMESPACES
+    ∷ (u64 ∷ u32 ∷ u16 ∷ u16 ∷ always Name ∷ [])  -- 17 KSYMBOL
+    ∷ (u16 ∷ u16 ∷ u32 ∷ always (Bytes 8) ∷ [])  -- 18 BPF_EVENT
+    ∷ (u64 ∷ always Name ∷ [])  -- 19 CGROUP
+    ∷ (u64 ∷ always (Count W2) ∷ always (Count W2) ∷ always (Earlier 1) ∷ always (Times 1) ∷ always Pad ∷ [])  -- 20 TEXT_POKE
     ∷ []
 
 abbrev pub schema : ℕ → ℕ → Attributes → List Item

@@ -1,0 +1,86 @@
+//! The exports of libollskuvan.a, as include/ollskuvan.h declares them.
+
+use crate::ring::Drained;
+use crate::rules::Attributes;
+
+#[repr(C)]
+pub struct CDrained {
+    pub taken: u64,
+    pub bytes: u64,
+    pub tail: u64,
+    pub stop: u32,
+}
+
+extern "C" {
+    pub fn ollskuvan_drain(
+        ring: *const u8, ring_len: usize, head: u64, tail: u64, sample_type: u64, read_format: u64,
+        sample_id_all: u32, user_mask: u64, interrupt_mask: u64, edition: u32, budget: u64,
+        scratch: *mut u8, scratch_len: usize, journal: *mut u8, journal_len: usize,
+    ) -> CDrained;
+    pub fn ollskuvan_check(
+        record: *const u8, record_len: usize, sample_type: u64, read_format: u64, sample_id_all: u32,
+        user_mask: u64, interrupt_mask: u64, edition: u32,
+    ) -> u32;
+    pub fn ollskuvan_copy_name(
+        record: *const u8, record_len: usize, place: u64, count: u64, buffer: *mut u8, buffer_len: usize,
+    ) -> u32;
+    pub fn ollskuvan_read(
+        record: *const u8, record_len: usize, sample_type: u64, read_format: u64, sample_id_all: u32,
+        user_mask: u64, interrupt_mask: u64, edition: u32, fields: *mut u64, fields_len: usize,
+    ) -> u32;
+    pub fn ollskuvan_write(
+        fields: *const u64, fields_len: usize, source: *const u8, source_len: usize, sample_type: u64,
+        read_format: u64, sample_id_all: u32, user_mask: u64, interrupt_mask: u64, edition: u32,
+        buffer: *mut u8, buffer_len: usize,
+    ) -> u32;
+}
+
+// Safe wrappers: a Rust slice is all that the exports ask of a slice.
+
+#[allow(clippy::too_many_arguments)]
+pub fn drain(
+    ring: &[u8], head: u64, tail: u64, a: &Attributes, edition: u32, budget: u64, scratch: &mut [u8],
+    journal: &mut [u8],
+) -> Drained {
+    let d = unsafe {
+        ollskuvan_drain(
+            ring.as_ptr(), ring.len(), head, tail, a.sample_type, a.read_format, a.sample_id_all, a.user_mask,
+            a.interrupt_mask, edition, budget, scratch.as_mut_ptr(), scratch.len(), journal.as_mut_ptr(),
+            journal.len(),
+        )
+    };
+    Drained { taken: d.taken, bytes: d.bytes, tail: d.tail, stop: d.stop }
+}
+
+pub fn check(record: &[u8], a: &Attributes, edition: u32) -> u32 {
+    unsafe {
+        ollskuvan_check(
+            record.as_ptr(), record.len(), a.sample_type, a.read_format, a.sample_id_all, a.user_mask,
+            a.interrupt_mask, edition,
+        )
+    }
+}
+
+pub fn copy_name(record: &[u8], place: u64, count: u64, buffer: &mut [u8]) -> u32 {
+    unsafe {
+        ollskuvan_copy_name(record.as_ptr(), record.len(), place, count, buffer.as_mut_ptr(), buffer.len())
+    }
+}
+
+pub fn read(record: &[u8], a: &Attributes, edition: u32, fields: &mut [u64]) -> u32 {
+    unsafe {
+        ollskuvan_read(
+            record.as_ptr(), record.len(), a.sample_type, a.read_format, a.sample_id_all, a.user_mask,
+            a.interrupt_mask, edition, fields.as_mut_ptr(), fields.len(),
+        )
+    }
+}
+
+pub fn write(fields: &[u64], source: &[u8], a: &Attributes, edition: u32, buffer: &mut [u8]) -> u32 {
+    unsafe {
+        ollskuvan_write(
+            fields.as_ptr(), fields.len(), source.as_ptr(), source.len(), a.sample_type, a.read_format,
+            a.sample_id_all, a.user_mask, a.interrupt_mask, edition, buffer.as_mut_ptr(), buffer.len(),
+        )
+    }
+}

@@ -1,0 +1,74 @@
+//! A stand-in for libollskuvan.a: the exports, answered by the independent reader itself.
+//!
+//! It is built only to test the test programs (tests/run.sh standin). A comparison with the
+//! stand-in compares the independent reader with itself and says nothing about the library.
+
+use crate::abi::CDrained;
+use crate::record;
+use crate::ring::{self, Ring};
+use crate::rules::Attributes;
+use crate::words::FIELDS;
+use crate::writer;
+
+/// A null pointer is allowed where the length is 0.
+unsafe fn lent<'s, T>(pointer: *const T, length: usize) -> &'s [T] {
+    if length == 0 { &[] } else { std::slice::from_raw_parts(pointer, length) }
+}
+
+unsafe fn lent_mut<'s, T>(pointer: *mut T, length: usize) -> &'s mut [T] {
+    if length == 0 { &mut [] } else { std::slice::from_raw_parts_mut(pointer, length) }
+}
+
+#[no_mangle]
+pub unsafe extern "C" fn ollskuvan_drain(
+    ring: *const u8, ring_len: usize, head: u64, tail: u64, sample_type: u64, read_format: u64,
+    sample_id_all: u32, user_mask: u64, interrupt_mask: u64, edition: u32, budget: u64,
+    scratch: *mut u8, scratch_len: usize, journal: *mut u8, journal_len: usize,
+) -> CDrained {
+    let attributes = Attributes { sample_type, read_format, sample_id_all, user_mask, interrupt_mask };
+    let ring = Ring { bytes: lent(ring, ring_len), head, edition, attributes };
+    let d = ring::drain(&ring, tail, budget, lent_mut(scratch, scratch_len), lent_mut(journal, journal_len));
+    CDrained { taken: d.taken, bytes: d.bytes, tail: d.tail, stop: d.stop }
+}
+
+#[no_mangle]
+pub unsafe extern "C" fn ollskuvan_check(
+    record: *const u8, record_len: usize, sample_type: u64, read_format: u64, sample_id_all: u32,
+    user_mask: u64, interrupt_mask: u64, edition: u32,
+) -> u32 {
+    let a = Attributes { sample_type, read_format, sample_id_all, user_mask, interrupt_mask };
+    record::check(lent(record, record_len), edition, &a)
+}
+
+#[no_mangle]
+pub unsafe extern "C" fn ollskuvan_copy_name(
+    record: *const u8, record_len: usize, place: u64, count: u64, buffer: *mut u8, buffer_len: usize,
+) -> u32 {
+    record::copy_name(lent(record, record_len), place, count, lent_mut(buffer, buffer_len))
+}
+
+#[no_mangle]
+pub unsafe extern "C" fn ollskuvan_read(
+    record: *const u8, record_len: usize, sample_type: u64, read_format: u64, sample_id_all: u32,
+    user_mask: u64, interrupt_mask: u64, edition: u32, fields: *mut u64, fields_len: usize,
+) -> u32 {
+    let a = Attributes { sample_type, read_format, sample_id_all, user_mask, interrupt_mask };
+    match record::read(lent(record, record_len), edition, &a) {
+        Err(refusal) => refusal,
+        Ok(_) if fields_len < FIELDS => 40,
+        Ok(value) => {
+            lent_mut(fields, fields_len)[..FIELDS].copy_from_slice(&value);
+            0
+        }
+    }
+}
+
+#[no_mangle]
+pub unsafe extern "C" fn ollskuvan_write(
+    fields: *const u64, fields_len: usize, source: *const u8, source_len: usize, sample_type: u64,
+    read_format: u64, sample_id_all: u32, user_mask: u64, interrupt_mask: u64, edition: u32,
+    buffer: *mut u8, buffer_len: usize,
+) -> u32 {
+    let a = Attributes { sample_type, read_format, sample_id_all, user_mask, interrupt_mask };
+    writer::write(lent(fields, fields_len), lent(source, source_len), edition, &a, lent_mut(buffer, buffer_len))
+}

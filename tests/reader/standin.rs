@@ -1,0 +1,10 @@
+//! The stand-in as an archive for C: see exports.rs.
+#![allow(dead_code)]
+
+mod abi;
+mod exports;
+mod record;
+mod ring;
+mod rules;
+mod words;
+mod writer;
