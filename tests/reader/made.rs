@@ -288,7 +288,8 @@ pub fn fitting_record(r: &mut Random, edition_number: u32, a: &Attributes, room:
             return record;
         }
     }
-    if let Some(record) = sound_record(r, 14, some_misc(r), a, room, dirty) {
+    let misc = some_misc(r);
+    if let Some(record) = sound_record(r, 14, misc, a, room, dirty) {
         return record;
     }
     // Nothing fits: a record of a known type that is too short for its fields.
@@ -333,14 +334,16 @@ pub fn damage_body(r: &mut Random, record: &mut Vec<u8>, a: &Attributes) {
         }
         // one byte
         3 => {
-            let at = r.pick(&[0, 5, r.below(record.len() as u64) as usize]);
+            let any = r.below(record.len() as u64) as usize;
+            let at = r.pick(&[0, 5, any]);
             if at != 6 && at != 7 {
                 record[at] = r.pick(&[0, 1, 20, 21, 0x40, 0x60, 0xff]);
             }
         }
         // the type
         4 => {
-            let kind = r.pick(&[0, 1 + r.below(20) as u32, 21, 22, 9, 10, 0x1_0001, 65_535, 65_536, u32::MAX]);
+            let other = 1 + r.below(20) as u32;
+            let kind = r.pick(&[0, other, 21, 22, 9, 10, 0x1_0001, 65_535, 65_536, u32::MAX]);
             record[0..4].copy_from_slice(&kind.to_le_bytes());
         }
         // the name, or whatever lies at the end: no zero, or an early one
@@ -380,6 +383,7 @@ pub fn damage_body(r: &mut Random, record: &mut Vec<u8>, a: &Attributes) {
 /// A size that the record does not have.
 fn damage_size(r: &mut Random, record: &mut [u8]) {
     let size = le16(record, 6);
+    let (any, small) = (r.next() as u16, r.next() as u16 & 0x1f8);
     let wrong = r.pick(&[
         0,
         1,
@@ -393,8 +397,8 @@ fn damage_size(r: &mut Random, record: &mut [u8]) {
         size.wrapping_add(4),
         65_528,
         65_535,
-        r.next() as u16,
-        r.next() as u16 & 0x1f8,
+        any,
+        small,
     ]);
     record[6..8].copy_from_slice(&wrong.to_le_bytes());
 }

@@ -1,0 +1,248 @@
+//! Document 01's own examples, P1 to P12 and the whole journal, and the settled readings of it,
+//! tried on the independent reader. No archive is needed.
+
+use crate::record::*;
+use crate::ring::*;
+use crate::rules::*;
+use crate::words::*;
+use crate::writer;
+
+struct Tried {
+    passed: u32,
+    failed: u32,
+}
+
+impl Tried {
+    fn is<T: PartialEq + std::fmt::Debug>(&mut self, what: &str, got: T, due: T) {
+        if got == due {
+            self.passed += 1;
+        } else {
+            self.failed += 1;
+            println!("example {what}: {got:?} where {due:?} is due");
+        }
+    }
+}
+
+/// A record of this type, misc and body; the size is its length.
+fn made(kind: u32, misc: u16, body: &[u8]) -> Vec<u8> {
+    let mut record = kind.to_le_bytes().to_vec();
+    record.extend(misc.to_le_bytes());
+    record.extend((8 + body.len() as u16).to_le_bytes());
+    record.extend(body);
+    record
+}
+
+fn words(words: &[u64]) -> Vec<u8> {
+    words.iter().flat_map(|w| w.to_le_bytes()).collect()
+}
+
+fn with(sample_type: u64) -> Attributes {
+    Attributes { sample_type, ..Attributes::EMPTY }
+}
+
+/// A drain of these bytes, put into a ring of this length at tail.
+fn drained(length: usize, tail: u64, distance: u64, bytes: &[u8], edition: u32, scratch: usize) -> (Drained, Vec<u8>, Vec<u8>) {
+    let mut ring = vec![0; length];
+    for (i, b) in bytes.iter().enumerate() {
+        ring[(tail.wrapping_add(i as u64) % length as u64) as usize] = *b;
+    }
+    let ring = Ring { bytes: &ring, head: tail.wrapping_add(distance), edition, attributes: Attributes::EMPTY };
+    let mut scratch = vec![0xcc; scratch];
+    let mut journal = vec![0xdd; 64];
+    let done = drain(&ring, tail, 9, &mut scratch, &mut journal);
+    (done, scratch, journal)
+}
+
+fn stop(length: usize, tail: u64, distance: u64, bytes: &[u8], scratch: usize) -> u32 {
+    drained(length, tail, distance, bytes, 3, scratch).0.stop
+}
+
+pub fn run() -> bool {
+    let mut t = Tried { passed: 0, failed: 0 };
+    rings(&mut t);
+    records(&mut t);
+    readings(&mut t);
+    program(&mut t);
+    values(&mut t);
+    println!("examples of document 01: {} right, {} wrong", t.passed, t.failed);
+    t.failed == 0
+}
+
+fn rings(t: &mut Tried) {
+    t.is("P1", stop(64, 0, 0, &[], 0), 0);
+    let switches: Vec<u8> = (0..8).flat_map(|_| made(14, 0, &[])).collect();
+    t.is("P2 distance 64", drained(64, 0, 64, &switches, 3, 0).0, Drained { taken: 4, bytes: 32, tail: 32, stop: 9 });
+    t.is("P2 distance 72", stop(64, 0, 72, &switches, 0), 4);
+    let lost = made(2, 0, &words(&[7, 9]));
+    let tail = 0u64.wrapping_sub(8);
+    let (done, scratch, journal) = drained(64, tail, 24, &lost, 3, 24);
+    t.is("P3 scratch 24", done, Drained { taken: 1, bytes: 24, tail: 16, stop: 0 });
+    t.is("P3 scratch holds the record", scratch, lost.clone());
+    t.is("P3 answer", le16(&journal, 6), 0);
+    t.is("P3 the record's tail", number(&journal[8..16]), tail);
+    let (done, scratch, journal) = drained(64, tail, 24, &lost, 3, 23);
+    t.is("P3 scratch 23", done, Drained { taken: 0, bytes: 0, tail, stop: 3 });
+    t.is("P3 scratch unchanged", scratch, vec![0xcc; 23]);
+    t.is("P3 journal unchanged", journal, vec![0xdd; 64]);
+    for size in [0u16, 4, 12] {
+        let mut record = lost.clone();
+        record[6..8].copy_from_slice(&size.to_le_bytes());
+        t.is("P4", stop(64, 0, 24, &record, 0), 6);
+        t.is("P4 check", check(&record, 3, &Attributes::EMPTY), 6);
+    }
+    let mut record = lost.clone();
+    record[6] = 32;
+    t.is("P5", stop(64, 0, 24, &record, 0), 7);
+    let p6 = [0x0e, 0, 0, 0, 0, 0x20, 8, 0];
+    t.is("P6 edition 1", check(&p6, 1, &Attributes::EMPTY), 20);
+    t.is("P6 edition 2", read(&p6, 2, &Attributes::EMPTY).map(|v| (v[TYPE], v[MISC])), Ok((14, 0x2000)));
+    let (done, _, journal) = drained(64, 0, 8, &p6, 1, 0);
+    t.is("journal whole, result", done, Drained { taken: 1, bytes: 8, tail: 8, stop: 0 });
+    t.is("journal whole, entry", journal[..16].to_vec(), [&[0x10, 0, 0, 0, 0x0e, 0, 0x14, 0][..], &[0; 8]].concat());
+    t.is("journal whole, rest", journal[16..].to_vec(), vec![0xdd; 48]);
+    // rows in the order of the table
+    let ring = Ring { bytes: &[0; 64], head: 8, edition: 3, attributes: Attributes::EMPTY };
+    t.is("budget 0 and no journal", drain(&ring, 0, 0, &mut [], &mut []).stop, 8);
+    t.is("no journal and a bad header", drain(&ring, 0, 1, &mut [], &mut [0; 15]).stop, 9);
+    t.is("a bad header", drain(&ring, 0, 1, &mut [], &mut [0; 16]).stop, 6);
+    t.is("empty ring and budget 0", drain(&ring, 8, 0, &mut [], &mut []).stop, 0);
+    t.is("tail misaligned", drain(&ring, 7, 0, &mut [], &mut []).stop, 5);
+    let ring = Ring { edition: 257, ..ring };
+    t.is("edition 257", drain(&ring, 8, 0, &mut [], &mut []).stop, 2);
+    let ring = Ring { bytes: &[0; 96], ..ring };
+    t.is("ring of 96", drain(&ring, 8, 0, &mut [], &mut []).stop, 1);
+    for (length, due) in [(0usize, 1), (32, 1), (64, 0), (1 << 20, 0), (1 << 21, 1)] {
+        let bytes = vec![0; length];
+        let ring = Ring { bytes: &bytes, head: 0, edition: 1, attributes: Attributes::EMPTY };
+        t.is("ring length", drain(&ring, 0, 0, &mut [], &mut []).stop, due);
+    }
+}
+
+fn records(t: &mut Tried) {
+    let kiln = made(3, 0, &[&[1, 0, 0, 0, 1, 0, 0, 0][..], b"kiln\0\0\0\0"].concat());
+    t.is("P7 size", kiln.len(), 24);
+    let named = read(&kiln, 1, &Attributes::EMPTY).map(|v| (v[comm::NAME], v[comm::NAME_COUNT]));
+    t.is("P7", named, Ok((16, 4)));
+    let wide = made(3, 0, &[&[0; 8][..], b"kiln\0\0\0\0", &[0; 8]].concat());
+    t.is("P7 room 16", check(&wide, 1, &Attributes::EMPTY), 33);
+    for (body, due) in [(&[1u64, 2][..], 0), (&[1], 30), (&[1, 2, 3], 31)] {
+        t.is("P8", check(&made(9, 0, &words(body)), 1, &with(3)), due);
+    }
+    for (size, due) in [(4u32, 0), (0, 32), (5, 32)] {
+        let body = [&size.to_le_bytes()[..], &[1, 2, 3, 4]].concat();
+        t.is("P9", check(&made(9, 0, &body), 1, &with(1 << 10)), due);
+    }
+    t.is("P10", check(&made(9, 0, &words(&[16, 0, 0, 17])), 1, &with(1 << 13)), 32);
+    t.is("P10 filled 16", check(&made(9, 0, &words(&[16, 0, 0, 16])), 1, &with(1 << 13)), 0);
+    for edition in 1..=3 {
+        t.is("P11", check(&made(9, 0, &[]), edition, &with(1 << 25)), 21);
+    }
+    t.is("P12", check(&made(10, 0x4000, &[0; 72]), 2, &Attributes::EMPTY), 23);
+    t.is("P12 edition 3", check(&made(10, 0x4000, &[0; 72]), 3, &Attributes::EMPTY), 0);
+}
+
+fn readings(t: &mut Tried) {
+    let e = &Attributes::EMPTY;
+    t.is("1 COMM of size 16", check(&made(3, 0, &[0; 8]), 3, e), 33);
+    t.is("1 MMAP of size 40", check(&made(1, 0, &[0; 32]), 3, e), 33);
+    let id = Attributes { sample_type: 2, sample_id_all: 1, ..Attributes::EMPTY };
+    let full = made(3, 0, &[&[0; 8][..], b"namename", &[0; 8]].concat());
+    t.is("1 a zero in the trailer saves no name", check(&full, 3, &id), 33);
+    t.is("2 trailer", check(&made(14, 0, &[]), 3, &id), 30);
+    t.is("2 trailer after 20", check(&made(21, 0, &[]), 3, &id), 20);
+    let unknown = Attributes { sample_type: 1 << 30, sample_id_all: 1, ..Attributes::EMPTY };
+    t.is("3", check(&made(14, 0, &[]), 3, &unknown), 21);
+    t.is("3 without sample_id_all", check(&made(14, 0, &[]), 3, &with(1 << 30)), 0);
+    t.is("3 both weights", check(&made(14, 0, &[]), 3, &Attributes { sample_type: 1 << 14 | 1 << 24, sample_id_all: 1, ..Attributes::EMPTY }), 0);
+    let mut build = vec![0; 40];
+    build[32] = 21;
+    t.is("4 size byte 21, short", check(&made(10, 0x4000, &build), 3, e), 32);
+    build[32] = 20;
+    t.is("4 size byte 20, short", check(&made(10, 0x4000, &build), 3, e), 30);
+    for (body, due) in [
+        (&[0][..], 0),
+        (&[0, 0], 31),
+        (&[8, 5], 30),
+        (&[u64::MAX], 32),
+        (&[u64::MAX - 7], 30),
+    ] {
+        t.is("5 stack", check(&made(9, 0, &words(body)), 3, &with(1 << 13)), due);
+    }
+    t.is("5 raw", check(&made(9, 0, &words(&[0xffff_fffc])), 3, &with(1 << 10)), 30);
+    let poke = |old: u16, new: u16, rest: usize| {
+        let mut body = words(&[1]);
+        body.extend(old.to_le_bytes());
+        body.extend(new.to_le_bytes());
+        body.resize(12 + rest, 0);
+        check(&made(20, 0, &body), 3, e)
+    };
+    t.is("6 texts", [poke(2, 2, 4), poke(0, 0, 4), poke(0, 4, 12), poke(0, 5, 12), poke(0, 5, 4)], [0, 0, 31, 0, 30]);
+    let regs = Attributes { sample_type: 1 << 12, user_mask: 7, ..Attributes::EMPTY };
+    t.is("7 abi 9", check(&made(9, 0, &words(&[9, 1, 2, 3])), 3, &regs), 0);
+    t.is("7 abi 0", check(&made(9, 0, &words(&[0])), 3, &regs), 0);
+    for (kind, due) in [(65_534u32, 65_534u16), (65_535, 65_535), (65_536, 65_535), (u32::MAX, 65_535)] {
+        let (_, _, journal) = drained(64, 0, 8, &made(kind, 0, &[]), 3, 0);
+        t.is("8", le16(&journal, 4), due);
+    }
+    let mut lengths = made(14, 0, &[0; 8]);
+    lengths[6] = 12;
+    t.is("13 slice of 12, size 12", check(&lengths[..12], 3, e), 6);
+    lengths[6] = 24;
+    t.is("13 slice of 16, size 24", check(&lengths, 3, e), 7);
+    t.is("13 slice of 5", check(&lengths[..5], 3, e), 7);
+    t.is("13 edition first", check(&lengths[..5], 0, e), 2);
+    let mut buffer = [9; 4];
+    t.is("15 past the end", copy_name(b"record", 7, 0, &mut buffer), 41);
+    t.is("15 wrap", copy_name(b"record", u64::MAX, 2, &mut buffer), 41);
+    t.is("15 no room", copy_name(b"record", 0, 4, &mut buffer), 12);
+    t.is("15 unchanged", buffer, [9; 4]);
+    t.is("15 copied", (copy_name(b"re\0ord", 1, 2, &mut buffer), buffer), (0, [b'e', 0, 0, 9]));
+    let group = Attributes { read_format: 12, ..Attributes::EMPTY };
+    for (n, due) in [(1u64, 0), (2, 30), (1 << 60, 30), (0, 31)] {
+        t.is("count never wraps", check(&made(8, 0, &words(&[1, n, 5, 6])), 3, &group), due);
+    }
+}
+
+fn program(t: &mut Tried) {
+    let mut input = words(&[8, 0, 0, 0, 0, 0]);
+    input.extend([1, 0]);
+    input.extend([0x0e, 0, 0, 0, 0, 0x20, 8, 0]);
+    input.resize(50 + 64, 0);
+    t.is("program", program_output(&input), "100000000e0014000000000000000000\nstop 0 tail 8\n".to_string());
+    t.is("program, 49 bytes", program_output(&input[..49]), "stop 1 tail 0\n".to_string());
+    input[8] = 5;
+    t.is("program, 50 bytes", program_output(&input[..50]), "stop 1 tail 5\n".to_string());
+    input.resize(50 + 16_385, 0);
+    t.is("program, ring too long", program_output(&input), "stop 1 tail 0\n".to_string());
+    input.truncate(50 + 16_384);
+    t.is("program, longest ring", program_output(&input), "stop 4 tail 5\n".to_string());
+}
+
+fn values(t: &mut Tried) {
+    let a = &Attributes::EMPTY;
+    let mut value = [0; FIELDS];
+    value[TYPE] = 3;
+    value[SIZE] = 24;
+    value[comm::NAME] = 1;
+    value[comm::NAME_COUNT] = 4;
+    let mut buffer = [9; 32];
+    let write = |value: &Value, source: &[u8], buffer: &mut [u8]| writer::write(value, source, 1, a, buffer);
+    t.is("write", write(&value, b"-kiln", &mut buffer), 0);
+    t.is("written", buffer[16..].to_vec(), b"kiln\0\0\0\0\t\t\t\t\t\t\t\t".to_vec());
+    t.is("40", write(&value, b"-kiln", &mut buffer[..23]), 40);
+    t.is("41", write(&value, b"-kil", &mut buffer), 41);
+    t.is("42 zero in a name", write(&value, b"-k\0ln", &mut buffer), 42);
+    t.is("41 before 42", write(&Value::try_from([&value[..55], &[1]].concat()).unwrap(), b"-kil", &mut buffer), 41);
+    t.is("42 size", write(&with_word(value, SIZE, 32), b"-kiln", &mut buffer), 42);
+    t.is("42 pid too wide", write(&with_word(value, comm::PID, 1 << 32), b"-kiln", &mut buffer), 42);
+    t.is("pid widest", write(&with_word(value, comm::PID, u64::from(u32::MAX)), b"-kiln", &mut buffer), 0);
+    t.is("42 kept word", write(&with_word(value, comm::NAME_FLAG, 1), b"-kiln", &mut buffer), 42);
+    t.is("20 type as a whole word", write(&with_word(value, TYPE, 3 << 32 | 3), b"-kiln", &mut buffer), 20);
+    t.is("42 few words", writer::write(&value[..55], b"-kiln", 9, a, &mut buffer), 42);
+    t.is("2", writer::write(&value, b"-kiln", 9, a, &mut buffer), 2);
+}
+
+fn with_word(mut value: Value, word: usize, n: u64) -> Value {
+    value[word] = n;
+    value
+}

@@ -1,0 +1,259 @@
+//! The tests from outside: an independent reader of perf rings, written from document 01 and not
+//! from the proved code, and its comparison with libollskuvan.a over the exports to C.
+//!
+//! Standard library only. Build and use: tests/run.sh, or `reader help`.
+
+mod abi;
+mod drains;
+mod examples;
+#[cfg(standin)]
+mod exports;
+mod guard;
+mod images;
+mod made;
+mod record;
+mod ring;
+mod rules;
+mod tally;
+mod values;
+mod words;
+mod writer;
+
+use std::io::{Read, Write};
+use std::path::{Path, PathBuf};
+use std::process::ExitCode;
+use std::time::Instant;
+use tally::Tally;
+
+const HELP: &str = "\
+reader examples                       document 01's examples on the independent reader
+reader dump < IMAGE                   what ringdump prints, by the independent reader
+reader list IMAGE                     the records of an image with their values, by name
+reader rings FOLDER                   every record of the real rings is accepted in edition 3, and their drains compared
+reader drains [OPTIONS]               drain, record check and name copy: the library against the independent reader
+reader values [OPTIONS]               read and write: the library against the independent reader and writer
+reader bits                           each sample bit, read format, type and trailer bit: written, read, compared
+reader images PROGRAM [WORDS...] [OPTIONS]
+                                      ringdump's print over made images, real rings and inputs of every length
+options: --seed N (default 1)  --count N  --from N (first case)  --rings FOLDER  --folder FOLDER (for files made)
+A case depends on the seed and its number alone: --seed S --from N --count 1 runs case N again.
+";
+
+struct Options {
+    seed: u64,
+    count: Option<u64>,
+    from: u64,
+    rings: Option<PathBuf>,
+    folder: PathBuf,
+    words: Vec<String>,
+}
+
+fn parse(arguments: &[String]) -> Result<Options, String> {
+    let mut o =
+        Options { seed: 1, count: None, from: 0, rings: None, folder: PathBuf::from("."), words: Vec::new() };
+    let mut at = arguments.iter();
+    while let Some(word) = at.next() {
+        if !word.starts_with("--") {
+            o.words.push(word.clone());
+            continue;
+        }
+        let value = at.next().ok_or(format!("{word} needs a value"))?;
+        let number = || value.parse::<u64>().map_err(|_| format!("{word}: {value} is no number"));
+        match word.as_str() {
+            "--seed" => o.seed = number()?,
+            "--count" => o.count = Some(number()?),
+            "--from" => o.from = number()?,
+            "--rings" => o.rings = Some(PathBuf::from(value)),
+            "--folder" => o.folder = PathBuf::from(value),
+            _ => return Err(format!("{word} is not known")),
+        }
+    }
+    Ok(o)
+}
+
+fn main() -> ExitCode {
+    let arguments: Vec<String> = std::env::args().skip(1).collect();
+    let command = arguments.first().cloned().unwrap_or_default();
+    let result = parse(arguments.get(1..).unwrap_or(&[])).and_then(|o| run(&command, &o));
+    match result {
+        Ok(()) => ExitCode::SUCCESS,
+        Err(message) => {
+            println!("FAILED: {message}");
+            ExitCode::FAILURE
+        }
+    }
+}
+
+fn run(command: &str, o: &Options) -> Result<(), String> {
+    match command {
+        "examples" if examples::run() => Ok(()),
+        "examples" => Err("an example of document 01 comes out otherwise".to_string()),
+        "dump" => dump(),
+        "list" => list(Path::new(o.words.first().ok_or("list needs an image")?)),
+        "rings" => rings(Path::new(o.words.first().ok_or("rings needs a folder")?)),
+        "drains" => run_drains(o),
+        "values" => run_values(o),
+        "bits" => {
+            let mut tally = Tally::default();
+            let tried = values::bits(&mut tally)?;
+            println!("bits: {tried} values written, read and compared; every bit, read format and type of each edition tried");
+            Ok(())
+        }
+        "images" => {
+            let (path, arguments) = o.words.split_first().ok_or("images needs a program")?;
+            let mut program = images::Program { path: Path::new(path), arguments, folder: &o.folder, runs: 0 };
+            images::run(&mut program, o.rings.as_deref(), o.seed, o.count.unwrap_or(400))
+        }
+        "help" => {
+            print!("{HELP}");
+            Ok(())
+        }
+        _ => Err(format!("no such command: {command}\n{HELP}")),
+    }
+}
+
+fn dump() -> Result<(), String> {
+    let mut input = Vec::new();
+    std::io::stdin().read_to_end(&mut input).map_err(|e| e.to_string())?;
+    std::io::stdout().write_all(ring::program_output(&input).as_bytes()).map_err(|e| e.to_string())
+}
+
+/// The records of an image, each with its answer and the words that are not 0.
+fn list(path: &Path) -> Result<(), String> {
+    let bytes = std::fs::read(path).map_err(|e| format!("{}: {e}", path.display()))?;
+    let image = ring::Image::parse(&bytes).ok_or("fewer than 50 bytes")?;
+    println!(
+        "head {} tail {} edition {} {}",
+        image.head,
+        image.tail,
+        image.edition,
+        drains::describe_attributes(&image.attributes)
+    );
+    for (tail, record) in records_of(&image)? {
+        let kind = u64::from(record::le32(&record, 0));
+        print!("{tail}: {} {} bytes", words::type_name(kind), record.len());
+        match record::read(&record, image.edition, &image.attributes) {
+            Err(refusal) => println!(", refused with {refusal}"),
+            Ok(value) => {
+                for (word, n) in value.iter().enumerate().skip(1).filter(|(_, n)| **n != 0) {
+                    print!(", {} {n:#x}", words::word_name(kind, word));
+                }
+                println!();
+            }
+        }
+    }
+    Ok(())
+}
+
+/// The records of an image from tail to head.
+fn records_of(image: &ring::Image) -> Result<Vec<(u64, Vec<u8>)>, String> {
+    let length = image.ring.len() as u64;
+    let mut records = Vec::new();
+    let mut tail = image.tail;
+    while tail != image.head {
+        let byte = |i: u64| image.ring[(tail.wrapping_add(i) % length) as usize];
+        let size = u64::from(byte(6)) | u64::from(byte(7)) << 8;
+        if size < 8 || size > image.head.wrapping_sub(tail) {
+            return Err(format!("size {size} at tail {tail}"));
+        }
+        records.push((tail, (0..size).map(byte).collect()));
+        tail = tail.wrapping_add(size);
+    }
+    Ok(records)
+}
+
+/// The real rings: every record accepted in edition 3, the whole ring drained, and the library's
+/// drains, reads and writes of them compared.
+fn rings(folder: &Path) -> Result<(), String> {
+    let start = Instant::now();
+    let mut total = Tally::default();
+    let mut records = 0;
+    for (name, bytes) in images::images_of(folder)? {
+        let image = ring::Image::parse(&bytes).ok_or(format!("{name}: fewer than 50 bytes"))?;
+        if image.edition != 3 || image.ring.len() > 16_384 {
+            return Err(format!("{name}: edition {}, ring of {} bytes", image.edition, image.ring.len()));
+        }
+        let mut kinds = std::collections::BTreeMap::<u64, u64>::new();
+        for (tail, record) in records_of(&image).map_err(|e| format!("{name}: {e}"))? {
+            let kind = u64::from(record::le32(&record, 0));
+            let answer = record::check(&record, 3, &image.attributes);
+            if answer != 0 {
+                return Err(format!("{name}: the record at tail {tail} is refused with {answer}: {}", guard::hex(&record)));
+            }
+            *kinds.entry(kind).or_default() += 1;
+        }
+        drains::real_ring(&name, &image, &mut total)?;
+        let count = values::real_ring(&name, &image, &mut total)?;
+        let text: Vec<String> = kinds.iter().map(|(k, n)| format!("{} {}", n, words::type_name(*k))).collect();
+        println!("{name}: {count} records, all accepted: {}", text.join(", "));
+        records += count;
+    }
+    println!("rings: {records} records of real rings accepted in edition 3, read, written again and compared in {:.1} s", start.elapsed().as_secs_f64());
+    Ok(())
+}
+
+/// Runs cases one after the other; a difference ends it and says how to run it again.
+fn cases(
+    command: &str, o: &Options, count: u64, tally: &mut Tally,
+    one: fn(u64, u64, &mut Tally) -> Result<(), String>,
+) -> Result<(), String> {
+    for number in o.from..o.from + count {
+        one(o.seed, number, tally).map_err(|difference| {
+            format!(
+                "seed {}, case {number}: {difference}\nrun it again: reader {command} --seed {} --from {number} --count 1",
+                o.seed, o.seed
+            )
+        })?;
+    }
+    Ok(())
+}
+
+/// With a full count every answer and type must have been reached.
+fn all_reached(missing: Vec<String>, count: u64, full: u64) -> Result<(), String> {
+    if count < full {
+        println!("fewer than {full} cases: what was not reached is not counted as a failure");
+        return Ok(());
+    }
+    if missing.is_empty() { Ok(()) } else { Err(missing.join("\n")) }
+}
+
+fn run_drains(o: &Options) -> Result<(), String> {
+    let start = Instant::now();
+    let count = o.count.unwrap_or(200_000);
+    let mut tally = Tally::default();
+    let crossings = if o.from == 0 { drains::crossings(&mut tally)? } else { 0 };
+    cases("drains", o, count, &mut tally, drains::one_case)?;
+    tally.print_records();
+    tally.print_accepted();
+    for call in ["drain", "check", "name copy"] {
+        tally.print_answers(call);
+    }
+    all_reached(tally.missing(drains::MUST, drains::BODY, true), count, 20_000)?;
+    println!(
+        "drains: seed {}, {count} drains with {} records, {crossings} crossings of the ring's end, no difference, {:.1} s",
+        o.seed,
+        tally.notes.get("records in journals").unwrap_or(&0),
+        start.elapsed().as_secs_f64()
+    );
+    Ok(())
+}
+
+fn run_values(o: &Options) -> Result<(), String> {
+    let start = Instant::now();
+    let count = o.count.unwrap_or(100_000);
+    let mut tally = Tally::default();
+    let edges = if o.from == 0 { values::edges(&mut tally)? } else { 0 };
+    cases("values", o, count, &mut tally, values::one_case)?;
+    tally.print_records();
+    for call in ["read", "write"] {
+        tally.print_answers(call);
+    }
+    all_reached(tally.missing(values::MUST, drains::BODY, true), count, 20_000)?;
+    println!(
+        "values: seed {}, {count} records, {} written again and read back, {edges} cases at the edges of 40, 41 and 42, no difference, {:.1} s",
+        o.seed,
+        tally.notes.get("records written again and read back").unwrap_or(&0),
+        start.elapsed().as_secs_f64()
+    );
+    Ok(())
+}
