@@ -215,7 +215,7 @@ fn program(t: &mut Tried) {
     input.resize(50 + 16_385, 0);
     t.is("program, ring too long", program_output(&input), "stop 1 tail 0\n".to_string());
     input.truncate(50 + 16_384);
-    t.is("program, longest ring", program_output(&input), "stop 4 tail 5\n".to_string());
+    t.is("program, longest ring", program_output(&input), "stop 5 tail 5\n".to_string());
 }
 
 fn values(t: &mut Tried) {

@@ -1,6 +1,6 @@
 //! The seeded generator: attributes, sound records, damage, rings.
 
-use crate::record::{le16, Value};
+use crate::record::{le16, le32, number, Value};
 use crate::ring::Image;
 use crate::rules::*;
 use crate::words::*;
@@ -275,7 +275,11 @@ pub fn some_misc(r: &mut Random) -> u64 {
 /// The types that an edition knows, and at times one of the others.
 pub fn some_type(r: &mut Random, edition_number: u32) -> u64 {
     let last = edition(edition_number).map_or(20, |e| e.last_type);
-    if r.one_in(12) { 1 + r.below(20) } else { 1 + r.below(last) }
+    match r.below(12) {
+        0 => 1 + r.below(20),
+        1 | 2 => SAMPLE,
+        _ => 1 + r.below(last),
+    }
 }
 
 /// A sound record that fits the room: of a random type if one fits, else a smaller one.
@@ -302,28 +306,91 @@ pub fn fitting_record(r: &mut Random, edition_number: u32, a: &Attributes, room:
     record
 }
 
+/// Where the counts, sizes, abi words and filled lengths of a record lie, and their bytes.
+fn count_places(record: &[u8], a: &Attributes) -> Vec<(usize, usize)> {
+    let kind = u64::from(le32(record, 0));
+    if !(1..=20).contains(&kind) {
+        return Vec::new();
+    }
+    let items = all_items(kind, u64::from(le16(record, 4)), a);
+    let counts = |word: usize| {
+        items.iter().any(|i| match *i {
+            Item::List { count, .. } => count == word,
+            Item::Registers { abi, .. } => abi == word,
+            Item::Number { word: w, rule, .. } => w == word && rule != Rule::None,
+            _ => false,
+        })
+    };
+    let mut found = Vec::new();
+    let mut value = [0; FIELDS];
+    let mut place = 8usize;
+    for item in &items {
+        let step = match *item {
+            Item::Number { word, bytes, .. } => {
+                let Some(field) = record.get(place..place + bytes) else { break };
+                value[word] = number(field);
+                if counts(word) {
+                    found.push((place, bytes));
+                }
+                bytes as u64
+            }
+            Item::Ignored { bytes } | Item::Fixed { bytes, .. } => bytes as u64,
+            Item::List { count, entry, .. } => value[count].saturating_mul(entry as u64),
+            Item::Registers { abi, mask, .. } => if value[abi] == 0 { 0 } else { 8 * u64::from(mask.count_ones()) },
+            Item::Filled { size, .. } if value[size] == 0 => 0,
+            Item::Filled { .. } => {
+                found.push((place, 8));
+                8
+            }
+            Item::BuildId { .. } => 20,
+            Item::Name { .. } | Item::Padding => break,
+        };
+        if step > (record.len() - place) as u64 {
+            break;
+        }
+        place += step as usize;
+    }
+    found.retain(|(at, bytes)| at + bytes <= record.len());
+    found
+}
+
+/// A wrong number for a count or size of so many bytes.
+fn wrong_count(r: &mut Random, old: u64, words: u64) -> u64 {
+    match r.below(6) {
+        0 => r.below(24),
+        1 => u64::MAX - r.below(16),
+        2 => r.pick(&[
+            1 << 63,
+            1 << 61,
+            1 << 60,
+            0x0aaa_aaaa_aaaa_aaab,
+            0x1555_5555_5555_5556,
+            0xffff_ffff,
+            0xffff_fffc,
+            1 << 32,
+            u64::MAX - 7,
+        ]),
+        3 => old.wrapping_add(r.pick(&[1, 2, 4, 8, u64::MAX, u64::MAX - 3, u64::MAX - 7])),
+        4 => r.below(words + 2),
+        _ => 8 * r.below(words + 2),
+    }
+}
+
 /// Damage to the body or the type; the record's size, and so the cutting of the ring, stays.
 pub fn damage_body(r: &mut Random, record: &mut Vec<u8>, a: &Attributes) {
     let words = record.len() as u64 / 8;
+    let counts = count_places(record, a);
+    if !counts.is_empty() && r.one_in(2) {
+        let (at, bytes) = r.pick(&counts);
+        let n = wrong_count(r, number(&record[at..at + bytes]), words);
+        record[at..at + bytes].copy_from_slice(&n.to_le_bytes()[..bytes]);
+        return;
+    }
     match r.below(8) {
         // a count, or any other word
         0 | 1 if words > 1 => {
             let at = 8 * (1 + r.below(words - 1)) as usize;
-            let n = match r.below(4) {
-                0 => r.below(12),
-                1 => u64::MAX - r.below(16),
-                2 => r.pick(&[
-                    1 << 63,
-                    1 << 61,
-                    1 << 60,
-                    0x0aaa_aaaa_aaaa_aaab,
-                    0x1555_5555_5555_5556,
-                    0xffff_ffff,
-                    1 << 32,
-                    u64::MAX - 7,
-                ]),
-                _ => 8 * r.below(words + 2),
-            };
+            let n = wrong_count(r, number(&record[at..at + 8]), words);
             record[at..at + 8].copy_from_slice(&n.to_le_bytes());
         }
         // half a word: raw sizes and text lengths
@@ -485,7 +552,7 @@ pub fn drain_case(r: &mut Random) -> DrainCase {
         1 => length,
         _ => 8 * r.below(length as u64 / 8 + 1) as usize,
     }
-    .min(8192);
+    .min(if r.one_in(8) { 150_000 } else { 8192 });
     let careful = r.one_in(3); // no damage at all
     let mut at = 0;
     let mut sizes = Vec::new();

@@ -219,6 +219,17 @@ pub fn one_case(seed: u64, number: u64, tally: &mut Tally) -> Result<(), Differe
         fields.extend([r.next(), r.next()]);
     }
     let edition = if r.one_in(10) { some_edition(&mut r) } else { edition };
+    let mut a = a;
+    if r.one_in(8) {
+        match r.below(6) {
+            0 => a.sample_type |= 1 << 14 | 1 << 24,
+            1 => a.sample_type ^= 1 << r.below(26),
+            2 => a.read_format ^= 1 << r.below(5),
+            3 => a.read_format |= 1 << (4 + r.below(60)),
+            4 => a.sample_id_all ^= 1,
+            _ => a.user_mask ^= 1 << r.below(64),
+        }
+    }
     let (answer, buffer) = compare_write(&fields, &source, &a, edition, room, &mut r, tally)?;
     if answer == 0 {
         // Accepted after damage: it must read back as the same record.
@@ -465,7 +476,7 @@ fn round_trip(
             ));
         }
         compare_write(&value, &source, a, e.number, record.len(), r, tally)?;
-        compare_read(&record, a, e.number, FIELDS, r, tally)?;
+        let _ = compare_read(&record, a, e.number, FIELDS, r, tally)?;
     }
     tried.types.insert((e.number, kind));
     if kind == READ || kind == SAMPLE && a.sample_bit(4) {
@@ -475,11 +486,10 @@ fn round_trip(
 }
 
 /// Every record of a real ring: read, written again, read back.
-pub fn real_ring(name: &str, image: &Image, tally: &mut Tally) -> Result<u64, Difference> {
+pub fn real_ring(name: &str, image: &Image, tally: &mut Tally) -> Result<(), Difference> {
     let mut r = Random::new(0x5ea1, name.len() as u64);
     let length = image.ring.len() as u64;
     let mut tail = image.tail;
-    let mut records = 0;
     while tail != image.head {
         let byte = |i: u64| image.ring[(tail.wrapping_add(i) % length) as usize];
         let size = u64::from(byte(6)) | u64::from(byte(7)) << 8;
@@ -494,10 +504,9 @@ pub fn real_ring(name: &str, image: &Image, tally: &mut Tally) -> Result<u64, Di
                     .map_err(|d| format!("{name}, tail {tail}: {d}"))?;
             }
         }
-        records += 1;
         tail = tail.wrapping_add(size);
     }
-    Ok(records)
+    Ok(())
 }
 
 pub const MUST: &[(&str, &[u32])] = &[

@@ -34,12 +34,12 @@ fine xs is c h = go (eqb (c .why) 0) refl
     go true e = eqb-true (c .why) 0 e
     go false e = absurd (eqb-false (c .why) 0 e (sym (ap (λ (d : Cursor). d .why) (stuck xs is c (eqb-false (c .why) 0 e))) ∙ h))
 
-fine₁ : (xs : List ℕ) (i : Item) (c : Cursor) → step xs i c .why ≡ 0 → c .why ≡ 0
+pub fine₁ : (xs : List ℕ) (i : Item) (c : Cursor) → step xs i c .why ≡ 0 → c .why ≡ 0
 unfolding walk
 fine₁ xs i c h = fine xs (i ∷ []) c h
 
 -- without a refusal before it, a step is its shape's
-stepped : (on : Bool) (sh : Shape) (xs : List ℕ) (c : Cursor) → c .why ≡ 0 → step xs (item on sh) c ≡ cond on (shapeStep sh c (drop (c .at) xs)) c
+pub stepped : (on : Bool) (sh : Shape) (xs : List ℕ) (c : Cursor) → c .why ≡ 0 → step xs (item on sh) c ≡ cond on (shapeStep sh c (drop (c .at) xs)) c
 unfolding step
 stepped on sh xs c z = rw (eq-eqb (c .why) 0 z)
 
@@ -71,7 +71,7 @@ span-ends (Bytes k) c r e = absurd (apart e)
 span-ends Pad c r e = absurd (apart e)
 span-ends Name c r e = refl
 
-length-part : (sh : Shape) (c : Cursor) (R : List ℕ) → span sh c (length R) ≤ length R → length (part sh c R) ≡ span sh c (length R)
+pub length-part : (sh : Shape) (c : Cursor) (R : List ℕ) → span sh c (length R) ≤ length R → length (part sh c R) ≡ span sh c (length R)
 unfolding part
 length-part sh c R l = length-take-le (span sh c (length R)) R l
 
@@ -79,11 +79,11 @@ small-part : (sh : Shape) (c : Cursor) (R : List ℕ) → small R ≡ true → s
 unfolding part
 small-part sh c R h = small-take (span sh c (length R)) R h
 
-past-at : (sh : Shape) (v : Con) (k : ℕ) (c : Cursor) (n : ℕ) → c .at + k ≤ n → past sh v k c .at ≤ n
+pub past-at : (sh : Shape) (v : Con) (k : ℕ) (c : Cursor) (n : ℕ) → c .at + k ≤ n → past sh v k c .at ≤ n
 unfolding past
 past-at sh v k c n h = h
 
-taken : (sh : Shape) (c : Cursor) (R : List ℕ) → shapeStep sh c R .why ≡ 0
+pub taken : (sh : Shape) (c : Cursor) (R : List ℕ) → shapeStep sh c R .why ≡ 0
     → (length (part sh c R) ≤ length R) × (length (part sh c R) ≡ span sh c (length R)) × (rule sh c (part sh c R) ≡ 0)
     × (shapeStep sh c R ≡ past sh (holds sh c (part sh c R)) (length (part sh c R)) c)
 unfolding shapeStep

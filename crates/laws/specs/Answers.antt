@@ -14,11 +14,11 @@ use Rattle.meaning.specs.Refusals.{orElse}
 use Rattle.meaning.specs.Records.{Layout, room, kindOf, miscOf, sizeOf, origin, fieldsOf, closed, fieldsAnswer, judge, checkBy}
 use Rattle.laws.specs.Bytes.{apart, and-true, true-and}
 
-tested : (t : Bool) (why rest : ℕ) → 0 < why → cond t rest why ≡ 0 → (t ≡ true) × (rest ≡ 0)
+pub tested : (t : Bool) (why rest : ℕ) → 0 < why → cond t rest why ≡ 0 → (t ≡ true) × (rest ≡ 0)
 tested true why rest p h = (refl, h)
 tested false why rest p h = absurd (omega (arith, p, h))
 
-or-zero : (x y : ℕ) → orElse x y ≡ 0 → (x ≡ 0) × (y ≡ 0)
+pub or-zero : (x y : ℕ) → orElse x y ≡ 0 → (x ≡ 0) × (y ≡ 0)
 or-zero x y h = go (eqb x 0) refl h
   where
     go : (t : Bool) → eqb x 0 ≡ t → cond t y x ≡ 0 → (x ≡ 0) × (y ≡ 0)

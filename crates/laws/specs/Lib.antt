@@ -8,3 +8,7 @@ pub mod Whole
 pub mod Every
 pub mod More
 pub mod Places
+pub mod Words
+pub mod Told
+pub mod Answer42
+pub mod Exactly

@@ -1,0 +1,144 @@
+/*
+ * The bench: first that the drains agree, then what they cost.
+ *
+ *   bench compare [RINGS [SEED]]   careful C and ollskuvan_drain on the same sound and damaged rings
+ *   bench time [ROUNDS]            the three workloads, interleaved
+ *   bench sizes [ROUNDS]           the cost of a record in rings of 64 bytes to 1 MiB
+ *   bench values [ROUNDS]          the cost of ollskuvan_read and ollskuvan_write
+ *   bench once DRAIN WORKLOAD      one drain, for callgrind; prints the number of records
+ *   bench list                     the names that `once` takes
+ */
+#include "bench.h"
+
+#include <errno.h>
+#include <stdlib.h>
+#include <string.h>
+
+static struct ollskuvan_drained memcpy_drain(const uint8_t *ring, size_t ring_len, uint64_t head, uint64_t tail,
+    uint64_t sample_type, uint64_t read_format, uint32_t sample_id_all, uint64_t user_mask, uint64_t interrupt_mask,
+    uint32_t edition, uint64_t budget, uint8_t *scratch, size_t scratch_len, uint8_t *journal, size_t journal_len)
+{
+    (void)sample_type, (void)read_format, (void)sample_id_all, (void)user_mask, (void)interrupt_mask;
+    (void)edition, (void)budget, (void)journal, (void)journal_len;
+    memcpy(scratch, ring, ring_len < scratch_len ? ring_len : scratch_len);
+    __asm__ volatile("" : : "r"(scratch) : "memory"); /* the copy is wanted, though nobody reads it */
+    return (struct ollskuvan_drained){ .taken = 0, .bytes = head - tail, .tail = head, .stop = 0 };
+}
+
+const struct contender contenders[] = {
+    [CAREFUL] = { "careful", "careful C, every stop at every record", careful_drain },
+    [CAREFUL_ONCE] = { "careful-once", "careful C, stops 1, 2, 4, 5, 10 once", careful_once_drain },
+    [OURS] = { "ours", "ollskuvan_drain", ollskuvan_drain },
+    { "floor", "floor: trusts sizes, no body", floor_drain },
+#ifdef WITH_OTHER
+    { "other", "linux-perf-event-reader, parse", other_drain },
+#endif
+    { "memcpy", "memcpy of the bytes", memcpy_drain },
+};
+const size_t contender_count = sizeof contenders / sizeof contenders[0];
+
+void *grab(size_t bytes)
+{
+    void *memory = calloc(bytes == 0 ? 1 : bytes, 1);
+    if (memory == NULL) {
+        fprintf(stderr, "bench: out of memory\n");
+        exit(1);
+    }
+    return memory;
+}
+
+struct ollskuvan_drained run_drain(drain_function *drain, const struct made_ring *ring, uint8_t *scratch, uint8_t *journal)
+{
+    const struct made_attributes *a = &ring->attributes;
+    return drain(ring->length == 0 ? NULL : ring->bytes, ring->length, ring->head, ring->tail, a->sample_type,
+        a->read_format, a->sample_id_all, a->user_mask, a->interrupt_mask, ring->edition, ring->budget,
+        ring->scratch_length == 0 ? NULL : scratch, ring->scratch_length, ring->journal_length == 0 ? NULL : journal,
+        ring->journal_length);
+}
+
+/* ---- one drain, for callgrind ---- */
+
+static int list_names(void)
+{
+    for (size_t k = 0; k < contender_count; k++)
+        printf("drain %s\n", contenders[k].name);
+    for (unsigned which = 0; which < MADE_WORKLOADS; which++)
+        printf("workload %s\n", made_workload_names[which]);
+    printf("workload empty\n");
+    return 0;
+}
+
+static int run_once(const char *drain, const char *workload)
+{
+    struct made_ring ring = { .bytes = grab(MADE_RING_MAX) };
+    bool known = false;
+    for (unsigned which = 0; which < MADE_WORKLOADS; which++)
+        if (strcmp(workload, made_workload_names[which]) == 0) {
+            made_fill(which, MIB, &ring);
+            known = true;
+        }
+    if (strcmp(workload, "empty") == 0) { /* what a call costs before the first record */
+        made_fill(MADE_FAT_SAMPLES, MIB, &ring);
+        ring.tail = ring.head;
+        known = true;
+    }
+    const struct contender *found = NULL;
+    for (size_t k = 0; k < contender_count; k++)
+        if (strcmp(drain, contenders[k].name) == 0)
+            found = &contenders[k];
+    if (!known || found == NULL) {
+        fprintf(stderr, "bench: no such drain or workload: %s, %s (see: bench list)\n", drain, workload);
+        free(ring.bytes);
+        return 2;
+    }
+    uint8_t *scratch = grab(ring.scratch_length), *journal = grab(ring.journal_length);
+    struct ollskuvan_drained done = run_drain(found->drain, &ring, scratch, journal);
+    printf("records %llu bytes %llu stop %u\n", (unsigned long long)done.taken, (unsigned long long)done.bytes, done.stop);
+    free(scratch);
+    free(journal);
+    free(ring.bytes);
+    return 0;
+}
+
+/* ---- arguments ---- */
+
+static uint64_t number(const char *text, uint64_t least, uint64_t most)
+{
+    char *end;
+    errno = 0;
+    unsigned long long n = strtoull(text, &end, 10);
+    if (errno != 0 || end == text || *end != '\0' || *text == '-' || n < least || n > most) {
+        fprintf(stderr, "bench: not a number from %llu to %llu: %s\n", (unsigned long long)least, (unsigned long long)most,
+            text);
+        exit(2);
+    }
+    return n;
+}
+
+static int usage(void)
+{
+    fprintf(stderr, "usage: bench compare [RINGS [SEED]] | time [ROUNDS] | sizes [ROUNDS] | values [ROUNDS]\n"
+                    "       bench once DRAIN WORKLOAD | list\n");
+    return 2;
+}
+
+int main(int argc, char **argv)
+{
+    const char *mode = argc > 1 ? argv[1] : "";
+    if (strcmp(mode, "compare") == 0 && argc <= 4)
+        return compare(argc > 2 ? number(argv[2], 1, UINT64_MAX) : 20000, argc > 3 ? number(argv[3], 0, UINT64_MAX) : 1);
+    if (strcmp(mode, "once") == 0 && argc == 4)
+        return run_once(argv[2], argv[3]);
+    if (strcmp(mode, "list") == 0 && argc == 2)
+        return list_names();
+    if (argc > 3)
+        return usage();
+    size_t rounds = argc > 2 ? (size_t)number(argv[2], 4, 100000) : 0;
+    if (strcmp(mode, "time") == 0)
+        return time_workloads(rounds != 0 ? rounds : 1000);
+    if (strcmp(mode, "sizes") == 0)
+        return time_sizes(rounds != 0 ? rounds : 200);
+    if (strcmp(mode, "values") == 0)
+        return time_values(rounds != 0 ? rounds : 100);
+    return usage();
+}

@@ -1,0 +1,37 @@
+#ifndef BENCH_BENCH_H
+#define BENCH_BENCH_H
+
+#include <stdbool.h>
+#include <stdint.h>
+#include <stdio.h>
+
+#include "drains.h"
+#include "made.h"
+
+enum { MIB = 1048576 };
+
+struct contender {
+    const char *name;  /* for `bench once` */
+    const char *title; /* for the tables */
+    drain_function *drain;
+};
+
+enum { CAREFUL, CAREFUL_ONCE, OURS };
+extern const struct contender contenders[];
+extern const size_t contender_count;
+
+/* One drain of the whole ring. */
+struct ollskuvan_drained run_drain(drain_function *drain, const struct made_ring *ring, uint8_t *scratch, uint8_t *journal);
+
+/* Zeroed memory, or the end of the program. */
+void *grab(size_t bytes);
+
+/* compare.c: the exit status. */
+int compare(uint64_t rings, uint64_t seed);
+
+/* timing.c */
+int time_workloads(size_t rounds);
+int time_sizes(size_t rounds);
+int time_values(size_t rounds);
+
+#endif

@@ -1,0 +1,189 @@
+/*
+ * The comparison: careful C and ollskuvan_drain on the same rings, sound and
+ * damaged. All that a drain gives back is compared: its four numbers, the whole
+ * journal, the whole scratch, and that the ring and the bytes around the lent
+ * buffers stay as they are.
+ */
+#include <stdlib.h>
+#include <string.h>
+
+#include "bench.h"
+
+enum { GUARD = 64 };
+
+enum { ANSWERS = 34, STOPS = 11, KINDS = 22 };
+
+struct tally {
+    uint64_t rings, records;
+    uint64_t stops[STOPS];
+    uint64_t answers[KINDS][ANSWERS]; /* row 21: types the editions do not know */
+};
+
+static void count_records(struct tally *tally, const uint8_t *journal, uint64_t taken)
+{
+    for (uint64_t i = 0; i < taken; i++) {
+        uint16_t kind, answer;
+        memcpy(&kind, journal + 16 * i + OLLSKUVAN_JOURNAL_KIND, 2);
+        memcpy(&answer, journal + 16 * i + OLLSKUVAN_JOURNAL_ANSWER, 2);
+        if (answer < ANSWERS)
+            tally->answers[kind == 0 || kind > 20 ? 21 : kind][answer]++;
+        tally->records++;
+    }
+}
+
+/* Buffers of one side: exactly as long as lent, with a guard on either end. */
+struct side {
+    uint8_t *scratch, *journal;
+    struct ollskuvan_drained done;
+};
+
+struct desk {
+    struct side left, right;
+    uint8_t *ring_before;
+};
+
+static void fill_pattern(uint8_t *bytes, size_t length, uint64_t seed)
+{
+    struct made_random r = { seed };
+    size_t i = 0;
+    for (; i + 8 <= length; i += 8) {
+        uint64_t x = made_next(&r);
+        memcpy(bytes + i, &x, 8);
+    }
+    for (; i < length; i++)
+        bytes[i] = (uint8_t)made_next(&r);
+}
+
+static void show_difference(const char *what, const uint8_t *left, const uint8_t *right, size_t length)
+{
+    for (size_t i = 0; i < length; i++)
+        if (left[i] != right[i]) {
+            printf("  %s differs first at byte %zu: %02x and %02x\n", what, i, left[i], right[i]);
+            return;
+        }
+}
+
+static void show_case(const struct made_ring *ring, uint64_t number, uint64_t seed)
+{
+    const struct made_attributes *a = &ring->attributes;
+    printf("  case %llu of seed %llu: ring %zu, head %llu, tail %llu, edition %u, budget %llu, scratch %zu, journal %zu\n",
+        (unsigned long long)number, (unsigned long long)seed, ring->length, (unsigned long long)ring->head,
+        (unsigned long long)ring->tail, ring->edition, (unsigned long long)ring->budget, ring->scratch_length,
+        ring->journal_length);
+    printf("  sample type %#llx, read format %#llx, sample_id_all %u, masks %#llx %#llx\n",
+        (unsigned long long)a->sample_type, (unsigned long long)a->read_format, a->sample_id_all,
+        (unsigned long long)a->user_mask, (unsigned long long)a->interrupt_mask);
+}
+
+static bool same_results(const struct contender *one, const struct contender *two, const struct made_ring *ring,
+    struct desk *desk, uint64_t number, uint64_t seed)
+{
+    size_t scratch = ring->scratch_length + 2 * GUARD, journal = ring->journal_length + 2 * GUARD;
+    fill_pattern(desk->left.scratch, scratch, number);
+    fill_pattern(desk->left.journal, journal, ~number);
+    memcpy(desk->right.scratch, desk->left.scratch, scratch);
+    memcpy(desk->right.journal, desk->left.journal, journal);
+    memcpy(desk->ring_before, ring->bytes, ring->length);
+    desk->left.done = run_drain(one->drain, ring, desk->left.scratch + GUARD, desk->left.journal + GUARD);
+    bool ring_same = memcmp(desk->ring_before, ring->bytes, ring->length) == 0;
+    desk->right.done = run_drain(two->drain, ring, desk->right.scratch + GUARD, desk->right.journal + GUARD);
+    ring_same = ring_same && memcmp(desk->ring_before, ring->bytes, ring->length) == 0;
+    const struct ollskuvan_drained *l = &desk->left.done, *r = &desk->right.done;
+    bool same = l->taken == r->taken && l->bytes == r->bytes && l->tail == r->tail && l->stop == r->stop;
+    bool scratch_same = memcmp(desk->left.scratch, desk->right.scratch, scratch) == 0;
+    bool journal_same = memcmp(desk->left.journal, desk->right.journal, journal) == 0;
+    if (same && scratch_same && journal_same && ring_same)
+        return true;
+    printf("DIFFERENCE between %s and %s\n", one->name, two->name);
+    show_case(ring, number, seed);
+    printf("  %s: taken %llu bytes %llu tail %llu stop %u\n", one->name, (unsigned long long)l->taken,
+        (unsigned long long)l->bytes, (unsigned long long)l->tail, l->stop);
+    printf("  %s: taken %llu bytes %llu tail %llu stop %u\n", two->name, (unsigned long long)r->taken,
+        (unsigned long long)r->bytes, (unsigned long long)r->tail, r->stop);
+    show_difference("scratch (its guard included)", desk->left.scratch, desk->right.scratch, scratch);
+    show_difference("journal (its guard included)", desk->left.journal, desk->right.journal, journal);
+    if (!ring_same)
+        printf("  the ring was written\n");
+    return false;
+}
+
+/* What the comparison says is worth only as much as it has met. */
+static bool enough_met(const struct tally *t)
+{
+    static const uint8_t of_type[KINDS][8] = {
+        [1] = { 20, 21, 30, 33 }, [2] = { 21, 30, 31 }, [3] = { 21, 30, 33 }, [4] = { 21, 30, 31 },
+        [5] = { 21, 30, 31 }, [6] = { 21, 30, 31 }, [7] = { 21, 30, 31 }, [8] = { 21, 22, 30, 31 },
+        [9] = { 21, 22, 24, 30, 31, 32 }, [10] = { 20, 21, 23, 30, 32, 33 }, [11] = { 20, 21, 30, 31 },
+        [12] = { 20, 21, 30, 31 }, [13] = { 20, 21, 30, 31 }, [14] = { 20, 21, 30, 31 }, [15] = { 20, 21, 30, 31 },
+        [16] = { 20, 21, 30, 31 }, [17] = { 20, 21, 30, 33 }, [18] = { 20, 21, 30, 31 }, [19] = { 20, 21, 30, 33 },
+        [20] = { 20, 21, 30, 31 }, [21] = { 20 },
+    };
+    bool enough = true;
+    for (unsigned stop = 0; stop < STOPS; stop++)
+        if (stop != 10 && t->stops[stop] == 0) { /* 10 cannot happen once 1 and 5 pass */
+            printf("stop %u was never met\n", stop);
+            enough = false;
+        }
+    for (unsigned kind = 1; kind < KINDS; kind++) {
+        bool accepted = kind == 21 || t->answers[kind][0] != 0;
+        for (unsigned i = 0; i < 8 && of_type[kind][i] != 0; i++) {
+            bool edition_1 = kind <= 9 && of_type[kind][i] == 20; /* edition 1 knows these */
+            if (!edition_1 && t->answers[kind][of_type[kind][i]] == 0) {
+                printf("type %u was never refused with %u\n", kind, of_type[kind][i]);
+                enough = false;
+            }
+        }
+        if (!accepted) {
+            printf("type %u was never accepted\n", kind);
+            enough = false;
+        }
+    }
+    return enough;
+}
+
+int compare(uint64_t rings, uint64_t seed)
+{
+    enum { LIMIT = 5 };
+    struct tally *tally = grab(sizeof *tally);
+    struct made_ring ring = { .bytes = grab(MADE_RING_MAX) };
+    size_t journal_max = 16 * (MADE_RING_MAX / 8 + 1) + 2 * GUARD, scratch_max = MADE_RING_MAX + 2 * GUARD;
+    struct desk desk = {
+        .left = { .scratch = grab(scratch_max), .journal = grab(journal_max) },
+        .right = { .scratch = grab(scratch_max), .journal = grab(journal_max) },
+        .ring_before = grab(MADE_RING_MAX),
+    };
+    struct made_random r = { seed };
+    unsigned differences = 0;
+    const struct contender *careful = &contenders[CAREFUL], *once = &contenders[CAREFUL_ONCE], *ours = &contenders[OURS];
+    for (unsigned which = 0; which < MADE_WORKLOADS; which++) { /* the very rings that are timed */
+        made_fill(which, MIB, &ring);
+        differences += !same_results(careful, ours, &ring, &desk, which, 0);
+        differences += !same_results(careful, once, &ring, &desk, which, 0);
+    }
+    for (uint64_t i = 0; i < rings && differences < LIMIT; i++) {
+        made_case(&r, &ring);
+        differences += !same_results(careful, ours, &ring, &desk, i, seed);
+        count_records(tally, desk.left.journal + GUARD, desk.left.done.taken);
+        tally->stops[desk.left.done.stop < STOPS ? desk.left.done.stop : 10]++;
+        tally->rings++;
+        if (i % 4 == 0) /* the other form of careful C is a measure only */
+            differences += !same_results(careful, once, &ring, &desk, i, seed);
+    }
+    printf("compared careful C and ollskuvan_drain: %llu rings, %llu records, seed %llu: %s\n",
+        (unsigned long long)tally->rings, (unsigned long long)tally->records, (unsigned long long)seed,
+        differences == 0 ? "no difference" : "DIFFERENT");
+    printf("stops met:");
+    for (unsigned stop = 0; stop < STOPS; stop++)
+        if (tally->stops[stop] != 0)
+            printf(" %u (%llu)", stop, (unsigned long long)tally->stops[stop]);
+    printf("\n");
+    bool enough = rings < 10000 || enough_met(tally); /* a handful of rings cannot meet everything */
+    free(tally);
+    free(ring.bytes);
+    free(desk.left.scratch);
+    free(desk.left.journal);
+    free(desk.right.scratch);
+    free(desk.right.journal);
+    free(desk.ring_before);
+    return differences == 0 && enough ? 0 : 1;
+}

@@ -1,0 +1,31 @@
+/*
+ * The drains that the bench compares. All have the signature of
+ * ollskuvan_drain, so that one table of them can be timed and compared.
+ */
+#ifndef BENCH_DRAINS_H
+#define BENCH_DRAINS_H
+
+#include "ollskuvan.h"
+
+typedef struct ollskuvan_drained drain_function(const uint8_t *ring, size_t ring_len, uint64_t head, uint64_t tail,
+    uint64_t sample_type, uint64_t read_format, uint32_t sample_id_all, uint64_t user_mask, uint64_t interrupt_mask,
+    uint32_t edition, uint64_t budget, uint8_t *scratch, size_t scratch_len, uint8_t *journal, size_t journal_len);
+
+/* careful.c: all that the drain does, every stop tested at every record. */
+drain_function careful_drain;
+
+/* careful.c: the same answers; the stops that cannot change during a drain
+ * (1, 2, 4, 5, 10) are tested once. */
+drain_function careful_once_drain;
+
+/* floor.c: trusts every size and looks at no body. */
+drain_function floor_drain;
+
+#ifdef WITH_OTHER
+/* other.rs: Debian's linux-perf-event-reader parses each record. */
+drain_function other_drain;
+/* The same, and for each record that crate's "common data" too. */
+drain_function other_read;
+#endif
+
+#endif

@@ -1,0 +1,198 @@
+-- Every answer is one of the numbers of document 01's table. Assumes nothing.
+use mathlib.Core.Path.{_≡_, refl}
+use mathlib.Core.List.{List, [], _∷_}
+use mathlib.Core.Bool.{Bool, true, false, cond, not, _&&_, _||_}
+use Prim.Native.Nat.{ℕ, _+_, _-_, _%_, _<_}
+use lib.Dec.{leb, ltb, eqb}
+use lib.ListN.{length, drop, getD}
+use borrow.Author.Tests.{eqb-true, ltb-true, not-true}
+use Rattle.meaning.specs.declared.Attributes.{Attributes}
+use Rattle.meaning.specs.declared.Cursor.{Cursor}
+use Rattle.meaning.specs.declared.Frame.{Frame}
+use Rattle.meaning.specs.declared.Item.{Item}
+use Rattle.meaning.specs.declared.Known.{Known}
+use Rattle.meaning.specs.declared.Shape.{Shape}
+use Rattle.meaning.specs.declared.Shape.the-variants.{Number, Ignored, Count, Size, Times, Earlier, Registers, Filled, Abi, Limit, Listed, Bytes, Pad, Name}
+use Rattle.meaning.specs.Bytes.{num, zeroIn, numberAt}
+use Rattle.meaning.specs.Refusals.{Refusal, refusal, first, orElse}
+use Rattle.meaning.specs.Items.{bytes, span, rule, holds, past, part, settle, refuse, shapeStep, step, walk}
+use Rattle.meaning.specs.Editions.{allowed, known, unknowns, clashes, unread, isIn, isUnknown}
+use Rattle.meaning.specs.Records.{Layout, layout, kindOf, miscOf, sizeOf, room, origin, fieldsOf, closed, fieldsAnswer, judge, checkBy, check, writeRecord}
+use Rattle.meaning.specs.Schema.{schema}
+use Rattle.meaning.specs.Values.{bodyWords, slotsTold, anyBeyond, meant, writable, writeBy, writeAnswer}
+use Rattle.meaning.specs.Names.{nameAnswer}
+use Rattle.meaning.specs.Ring.{stopped, stopAt, goAt, sizeRows, sized, ringRows, frame, distance}
+use Rattle.laws.specs.Bytes.{apart, and-true}
+use Rattle.editions.specs.Numbers.{fieldNumbers, recordNumbers, checkNumbers, stopNumbers, writeNumbers, nameNumbers}
+
+-- ---- lists of numbers
+
+abbrev pub every : (ℕ → Bool) → List ℕ → Bool
+every p [] = true
+every p (n ∷ ns) = p n && every p ns
+
+-- a test that every number of a list passes is passed by each that is in it
+pub in-each : (p : ℕ → Bool) (ns : List ℕ) (x : ℕ) → every p ns ≡ true → isIn x ns ≡ true → p x ≡ true
+in-each p [] x a h = absurd (apart h)
+in-each p (n ∷ ns) x a h =
+    let s = and-true (p n) (every p ns) a in
+    by (eqb x n) refl (s .0) h (in-each p ns x (s .1))
+  where
+    by : (b : Bool) → eqb x n ≡ b → p n ≡ true → (b || isIn x ns) ≡ true → (isIn x ns ≡ true → p x ≡ true) → p x ≡ true
+    by true e i g r = rw (eqb-true x n e) i
+    by false e i g r = r g
+
+pub in-more : (ns ms : List ℕ) (x : ℕ) → every (λ (n : ℕ). isIn n ms) ns ≡ true → isIn x ns ≡ true → isIn x ms ≡ true
+in-more ns ms = in-each (λ (n : ℕ). isIn n ms) ns
+
+-- one of two
+pub in-cond : (ns : List ℕ) (b : Bool) (x y : ℕ) → isIn x ns ≡ true → isIn y ns ≡ true → isIn (cond b x y) ns ≡ true
+in-cond ns true x y p q = p
+in-cond ns false x y p q = q
+
+-- ---- lists of rows: any list, any numbers
+abbrev pub rowsIn : List Refusal → List ℕ → Bool
+rowsIn [] ns = true
+rowsIn (r ∷ rs) ns = isIn (r .number) ns && rowsIn rs ns
+
+pub first-in : (ns : List ℕ) (rs : List Refusal) (rest : ℕ) → rowsIn rs ns ≡ true → isIn rest ns ≡ true → isIn (first rs rest) ns ≡ true
+unfolding first
+first-in ns [] rest a h = h
+first-in ns (r ∷ rs) rest a h =
+    let s = and-true (isIn (r .number) ns) (rowsIn rs ns) a in
+    in-cond ns (r .holds) (r .number) (first rs rest) (s .0) (first-in ns rs rest (s .1) h)
+
+pub stopped-in : (ns : List ℕ) (rs : List Refusal) (f : Frame) → rowsIn rs ns ≡ true → isIn (f .stop) ns ≡ true → isIn (stopped rs f .stop) ns ≡ true
+unfolding stopped
+stopped-in ns [] f a h = h
+stopped-in ns (r ∷ rs) f a h =
+    let s = and-true (isIn (r .number) ns) (rowsIn rs ns) a in
+    by (r .holds) (s .0) (stopped-in ns rs f (s .1) h)
+  where
+    by : (b : Bool) → isIn (r .number) ns ≡ true → isIn (stopped rs f .stop) ns ≡ true → isIn (cond b (stopAt (r .number)) (stopped rs f) .stop) ns ≡ true
+    by true p q = p
+    by false p q = q
+
+-- ---- the fields: by induction over items
+
+abbrev In : Cursor → Type 0
+In c = isIn (c .why) fieldNumbers ≡ true
+
+either : (b : Bool) (c d : Cursor) → In c → In d → In (cond b c d)
+either true c d p q = p
+either false c d p q = q
+
+rule-in : (sh : Shape) (c : Cursor) (ys : List ℕ) → isIn (rule sh c ys) fieldNumbers ≡ true
+unfolding rule
+rule-in (Number w) c ys = refl
+rule-in (Ignored k) c ys = refl
+rule-in (Count w) c ys = refl
+rule-in (Size w) c ys = in-cond fieldNumbers (eqb ((num ys + bytes w) % 8) 0) 0 32 refl refl
+rule-in (Times k) c ys = refl
+rule-in (Earlier k) c ys = refl
+rule-in Registers c ys = refl
+rule-in Filled c ys = in-cond fieldNumbers (leb (num ys) (c .n)) 0 32 refl refl
+rule-in (Abi m) c ys = refl
+rule-in (Limit k) c ys = in-cond fieldNumbers (leb (num ys) k) 0 32 refl refl
+rule-in (Listed k) c ys = refl
+rule-in (Bytes k) c ys = refl
+rule-in Pad c ys = refl
+rule-in Name c ys = in-cond fieldNumbers (ltb (zeroIn ys) (length ys) && leb (length ys) (zeroIn ys + 8)) 0 33 refl refl
+
+shape-in : (sh : Shape) (c : Cursor) (rest : List ℕ) → In c → In (shapeStep sh c rest)
+unfolding shapeStep settle past
+shape-in sh c rest h =
+    let ys : List ℕ = part sh c rest in
+    let d : Cursor = past sh (holds sh c ys) (length ys) c in
+    either (leb (span sh c (length rest)) (length rest)) (settle (rule sh c ys) c d) (refuse 30 c)
+    (either (eqb (rule sh c ys) 0) d (refuse (rule sh c ys) c) h (rule-in sh c ys))
+    refl
+
+pub walk-in : (xs : List ℕ) (is : List Item) (c : Cursor) → isIn (c .why) fieldNumbers ≡ true → isIn (walk xs is c .why) fieldNumbers ≡ true
+unfolding walk step
+walk-in xs [] c h = h
+walk-in xs (i ∷ is) c h =
+    let d : Cursor = shapeStep (i .shape) c (drop (c .at) xs) in
+    walk-in xs is (step xs i c) (either (eqb (c .why) 0) (cond (i .on) d c) c (either (i .on) d c (shape-in (i .shape) c (drop (c .at) xs) h) h) h)
+
+pub fields-in : (is : List Item) (t : ℕ) (xs : List ℕ) → isIn (fieldsAnswer is t xs) fieldNumbers ≡ true
+unfolding fieldsAnswer closed
+fields-in is t xs =
+    let c : Cursor = walk (fieldsOf t xs) is (origin 8) in
+    let end : ℕ = length xs - t in
+    in-cond fieldNumbers (leb (8 + t) (length xs)) (closed end c) 30
+    (in-cond fieldNumbers (eqb (c .why) 0) (cond (eqb (c .at) end) 0 31) (c .why)
+    (in-cond fieldNumbers (eqb (c .at) end) 0 31 refl refl)
+    (walk-in (fieldsOf t xs) is (origin 8) refl))
+    refl
+
+-- the fields never say "unknown"
+pub fields-known : (is : List Item) (t : ℕ) (xs : List ℕ) → isUnknown (fieldsAnswer is t xs) ≡ false
+unfolding isUnknown
+fields-known is t xs = not-true _ (in-each (λ (n : ℕ). not (isUnknown n)) fieldNumbers (fieldsAnswer is t xs) refl (fields-in is t xs))
+
+-- ---- a record, the record check, a stop
+
+pub unread-in : (k : Known) (a : Attributes) (t misc : ℕ) → isIn (unread k a t misc) recordNumbers ≡ true
+unfolding unread
+unread-in k a t misc = first-in recordNumbers (unknowns k t misc a) (first (clashes t a) 0) refl (first-in recordNumbers (clashes t a) 0 refl refl)
+
+pub judge-in : (k : Known) (a : Attributes) (xs : List ℕ) → isIn (judge (layout k a) xs) recordNumbers ≡ true
+unfolding judge layout
+judge-in k a xs =
+    let lay : Layout = layout k a in
+    let n : ℕ = fieldsAnswer (lay .body (kindOf xs) (miscOf xs)) (room (lay .trail (kindOf xs))) xs in
+    in-cond recordNumbers (eqb (unread k a (kindOf xs) (miscOf xs)) 0) n (unread k a (kindOf xs) (miscOf xs))
+    (in-more fieldNumbers recordNumbers n refl (fields-in (lay .body (kindOf xs) (miscOf xs)) (room (lay .trail (kindOf xs))) xs))
+    (unread-in k a (kindOf xs) (miscOf xs))
+
+-- so an answer fits its two bytes of the journal
+pub judge-small : (k : Known) (a : Attributes) (xs : List ℕ) → judge (layout k a) xs < 65536
+judge-small k a xs = ltb-true _ _ (in-each (λ (n : ℕ). ltb n 65536) recordNumbers (judge (layout k a) xs) refl (judge-in k a xs))
+
+pub check-in : (rows : List Known) (e : ℕ) (a : Attributes) (xs : List ℕ) → isIn (check rows e a xs) checkNumbers ≡ true
+unfolding check checkBy
+check-in rows e a xs =
+    let lay : Layout = layout (known rows e) a in
+    let j = in-more recordNumbers checkNumbers (judge lay xs) refl (judge-in (known rows e) a xs) in
+    let n1 = cond (eqb (sizeOf xs) (length xs)) (judge lay xs) 7 in
+    let n2 = cond (leb 8 (sizeOf xs) && eqb (sizeOf xs % 8) 0) n1 6 in
+    in-cond checkNumbers (allowed rows e) (cond (leb 8 (length xs)) n2 7) 2
+    (in-cond checkNumbers (leb 8 (length xs)) n2 7
+    (in-cond checkNumbers (leb 8 (sizeOf xs) && eqb (sizeOf xs % 8) 0) n1 6
+    (in-cond checkNumbers (eqb (sizeOf xs) (length xs)) (judge lay xs) 7 j refl)
+    refl)
+    refl)
+    refl
+
+pub frame-in : (ok : Bool) (ring : List ℕ) (head tail left journal scratch : ℕ) → isIn (frame ok ring head tail left journal scratch .stop) stopNumbers ≡ true
+unfolding frame sized
+frame-in ok ring head tail left journal scratch =
+    let place : ℕ = tail % length ring in
+    let size : ℕ = numberAt 2 ring (place + 6) in
+    stopped-in stopNumbers (ringRows ok ring head tail left journal) (sized ring place (distance head tail) scratch) refl
+    (stopped-in stopNumbers (sizeRows ring place size (distance head tail) scratch) (goAt place size) refl refl)
+
+-- ---- the writer and the copier of names
+
+pub write-in : (rows : List Known) (e : ℕ) (a : Attributes) (src ws : List ℕ) (space : ℕ) → isIn (writeAnswer rows e a src ws space) writeNumbers ≡ true
+unfolding writeAnswer writeBy layout unread
+write-in rows e a src ws space =
+    let k : Known = known rows e in
+    let lay : Layout = layout k a in
+    let t : ℕ = getD ws 0 0 in
+    let misc : ℕ = getD ws 1 0 in
+    let n1 : ℕ = cond (leb (length (writeRecord lay (meant lay src ws))) space) 0 40 in
+    let n2 : ℕ = cond (writable lay src ws) n1 42 in
+    let far : Bool = anyBeyond src (schema t misc a) (slotsTold (schema t misc a) (drop bodyWords ws) 0 0) in
+    in-cond writeNumbers (allowed rows e) (orElse (unread k a t misc) (cond far 41 n2)) 2
+    (in-cond writeNumbers (eqb (unread k a t misc) 0) (cond far 41 n2) (unread k a t misc)
+    (in-cond writeNumbers far 41 n2 refl
+    (in-cond writeNumbers (writable lay src ws) n1 42 (in-cond writeNumbers (leb (length (writeRecord lay (meant lay src ws))) space) 0 40 refl refl) refl))
+    (first-in writeNumbers (unknowns k t misc a) (first (clashes t a) 0) refl (first-in writeNumbers (clashes t a) 0 refl refl)))
+    refl
+
+pub name-in : (xs : List ℕ) (place count : ℕ) (buffer : List ℕ) → isIn (nameAnswer xs place count buffer) nameNumbers ≡ true
+unfolding nameAnswer
+name-in xs place count buffer =
+    first-in nameNumbers (refusal (ltb (length xs) (place + count)) 41 ∷ refusal (ltb (length buffer) (count + 1)) 12 ∷ []) 0 refl refl

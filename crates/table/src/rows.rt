@@ -1,0 +1,265 @@
+// The layouts of document 01 as one table of numbers: a row is a guard (when the item is selected) and a shape.
+// That the rows are the layouts, for all attributes, is proved by computation (specs/Same.antt): a row that is wrong is refused.
+
+// ---- guards, from 32 * 0 on: below 32 a bit of the sample type
+const SAMPLE_BIT: u16 = 32;
+
+const ALWAYS: u16 = 32 * 32;
+
+const NEVER: u16 = 32 * 33;
+
+const BUILD_ID: u16 = 32 * 34;
+
+const NO_BUILD_ID: u16 = 32 * 35;
+
+const WEIGHT: u16 = 32 * 36;
+
+const SAMPLE_ALONE: u16 = 32 * 37;
+
+const SAMPLE_GROUP: u16 = 32 * 38;
+
+const SAMPLE_ENABLED: u16 = 32 * 39;
+
+const SAMPLE_RUNNING: u16 = 32 * 40;
+
+const SAMPLE_ID: u16 = 32 * 41;
+
+const READ_ALONE: u16 = 32 * 42;
+
+const READ_GROUP: u16 = 32 * 43;
+
+const READ_ENABLED: u16 = 32 * 44;
+
+const READ_RUNNING: u16 = 32 * 45;
+
+const READ_ID: u16 = 32 * 46;
+// from 64 on: a bit of the sample type, in the trailer
+const TRAILER: u16 = 32 * 64;
+
+// ---- shapes, from 0 on
+const U64: u16 = 0;
+
+const U32: u16 = 1;
+
+const U16: u16 = 2;
+
+const COUNT_64: u16 = 3;
+
+const COUNT_16: u16 = 4;
+
+const SIZE_32: u16 = 5;
+
+const SIZE_64: u16 = 6;
+
+const BYTES: u16 = 7;
+
+const WORDS: u16 = 8;
+
+const PAIRS: u16 = 9;
+
+const BRANCHES: u16 = 10;
+
+const VALUES: u16 = 11;
+
+const EARLIER_BYTES: u16 = 12;
+
+const REGISTERS: u16 = 13;
+
+const FILLED: u16 = 14;
+
+const USER_ABI: u16 = 15;
+
+const INTERRUPT_ABI: u16 = 16;
+
+const BUILD_SIZE: u16 = 17;
+
+const BUILD_BYTES: u16 = 18;
+
+const TAG: u16 = 19;
+
+const PADDING: u16 = 20;
+
+const NAME: u16 = 21;
+
+const IGNORED_3: u16 = 22;
+
+const IGNORED_4: u16 = 23;
+
+// The rows of one type after those of the other, by type; then those of the trailer.
+pub const ROWS: [u16; 129] = [
+    // 1 MMAP
+    ALWAYS + U32, // pid
+    ALWAYS + U32, // tid
+    ALWAYS + U64, // addr
+    ALWAYS + U64, // len
+    ALWAYS + U64, // pgoff
+    ALWAYS + NAME, // name
+    // 2 LOST
+    ALWAYS + U64, // id
+    ALWAYS + U64, // lost
+    // 3 COMM
+    ALWAYS + U32, // pid
+    ALWAYS + U32, // tid
+    ALWAYS + NAME, // name
+    // 4 EXIT
+    ALWAYS + U32, // pid
+    ALWAYS + U32, // ppid
+    ALWAYS + U32, // tid
+    ALWAYS + U32, // ptid
+    ALWAYS + U64, // time
+    // 5 THROTTLE
+    ALWAYS + U64, // time
+    ALWAYS + U64, // id
+    ALWAYS + U64, // stream id
+    // 6 UNTHROTTLE
+    ALWAYS + U64, // time
+    ALWAYS + U64, // id
+    ALWAYS + U64, // stream id
+    // 7 FORK
+    ALWAYS + U32, // pid
+    ALWAYS + U32, // ppid
+    ALWAYS + U32, // tid
+    ALWAYS + U32, // ptid
+    ALWAYS + U64, // time
+    // 8 READ
+    ALWAYS + U32, // pid
+    ALWAYS + U32, // tid
+    READ_ALONE + U64, // value
+    READ_GROUP + COUNT_64, // n
+    READ_ENABLED + U64, // time enabled
+    READ_RUNNING + U64, // time running
+    READ_ID + U64, // id
+    NEVER + U64, // kept for a lost count
+    READ_GROUP + VALUES, // n times value, and id where selected
+    // 9 SAMPLE
+    SAMPLE_BIT * 16 + U64, // identifier
+    SAMPLE_BIT * 0 + U64, // ip
+    SAMPLE_BIT * 1 + U32, // pid
+    SAMPLE_BIT * 1 + U32, // tid
+    SAMPLE_BIT * 2 + U64, // time
+    SAMPLE_BIT * 3 + U64, // addr
+    SAMPLE_BIT * 6 + U64, // id
+    SAMPLE_BIT * 9 + U64, // stream id
+    SAMPLE_BIT * 7 + U32, // cpu
+    SAMPLE_BIT * 7 + IGNORED_4, // res
+    SAMPLE_BIT * 8 + U64, // period
+    SAMPLE_ALONE + U64, // value
+    SAMPLE_GROUP + COUNT_64, // n
+    SAMPLE_ENABLED + U64, // time enabled
+    SAMPLE_RUNNING + U64, // time running
+    SAMPLE_ID + U64, // id
+    NEVER + U64, // kept for a lost count
+    SAMPLE_GROUP + VALUES, // n times value, and id where selected
+    SAMPLE_BIT * 5 + COUNT_64, // callchain: n
+    SAMPLE_BIT * 5 + WORDS, // n words
+    SAMPLE_BIT * 10 + SIZE_32, // raw: size
+    SAMPLE_BIT * 10 + BYTES, // bytes
+    SAMPLE_BIT * 11 + COUNT_64, // branches: n
+    NEVER + U64, // kept for the hardware index
+    SAMPLE_BIT * 11 + BRANCHES, // n entries
+    SAMPLE_BIT * 12 + USER_ABI, // user registers: abi
+    SAMPLE_BIT * 12 + REGISTERS, // registers
+    SAMPLE_BIT * 13 + SIZE_64, // user stack: size
+    SAMPLE_BIT * 13 + BYTES, // bytes
+    SAMPLE_BIT * 13 + FILLED, // filled length
+    WEIGHT + U64, // weight
+    SAMPLE_BIT * 15 + U64, // data source
+    SAMPLE_BIT * 17 + U64, // transaction
+    SAMPLE_BIT * 18 + INTERRUPT_ABI, // interrupt registers: abi
+    SAMPLE_BIT * 18 + REGISTERS, // registers
+    SAMPLE_BIT * 19 + U64, // physical address
+    SAMPLE_BIT * 21 + U64, // cgroup
+    SAMPLE_BIT * 22 + U64, // data page size
+    SAMPLE_BIT * 23 + U64, // code page size
+    SAMPLE_BIT * 20 + SIZE_64, // aux: size
+    SAMPLE_BIT * 20 + BYTES, // bytes
+    // 10 MMAP2
+    ALWAYS + U32, // pid
+    ALWAYS + U32, // tid
+    ALWAYS + U64, // addr
+    ALWAYS + U64, // len
+    ALWAYS + U64, // pgoff
+    NO_BUILD_ID + U32, // maj
+    NO_BUILD_ID + U32, // min
+    NO_BUILD_ID + U64, // ino
+    NO_BUILD_ID + U64, // generation
+    BUILD_ID + BUILD_SIZE, // build id size
+    BUILD_ID + IGNORED_3, // reserved
+    BUILD_ID + BUILD_BYTES, // build id
+    ALWAYS + U32, // prot
+    ALWAYS + U32, // flags
+    ALWAYS + NAME, // name
+    // 11 AUX
+    ALWAYS + U64, // offset
+    ALWAYS + U64, // size
+    ALWAYS + U64, // flags
+    // 12 ITRACE_START
+    ALWAYS + U32, // pid
+    ALWAYS + U32, // tid
+    // 13 LOST_SAMPLES
+    ALWAYS + U64, // lost
+    // 15 SWITCH_CPU_WIDE
+    ALWAYS + U32, // pid
+    ALWAYS + U32, // tid
+    // 16 NAMESPACES
+    ALWAYS + U32, // pid
+    ALWAYS + U32, // tid
+    ALWAYS + COUNT_64, // n
+    ALWAYS + PAIRS, // n times dev, inode
+    // 17 KSYMBOL
+    ALWAYS + U64, // addr
+    ALWAYS + U32, // len
+    ALWAYS + U16, // type
+    ALWAYS + U16, // flags
+    ALWAYS + NAME, // name
+    // 18 BPF_EVENT
+    ALWAYS + U16, // type
+    ALWAYS + U16, // flags
+    ALWAYS + U32, // id
+    ALWAYS + TAG, // tag
+    // 19 CGROUP
+    ALWAYS + U64, // id
+    ALWAYS + NAME, // name
+    // 20 TEXT_POKE
+    ALWAYS + U64, // addr
+    ALWAYS + COUNT_16, // old length
+    ALWAYS + COUNT_16, // new length
+    ALWAYS + EARLIER_BYTES, // old text
+    ALWAYS + BYTES, // new text
+    ALWAYS + PADDING, // padding
+    // the trailer
+    TRAILER + SAMPLE_BIT * 1 + U32, // pid
+    TRAILER + SAMPLE_BIT * 1 + U32, // tid
+    TRAILER + SAMPLE_BIT * 2 + U64, // time
+    TRAILER + SAMPLE_BIT * 6 + U64, // id
+    TRAILER + SAMPLE_BIT * 9 + U64, // stream id
+    TRAILER + SAMPLE_BIT * 7 + U32, // cpu
+    TRAILER + SAMPLE_BIT * 7 + IGNORED_4, // res
+    TRAILER + SAMPLE_BIT * 16 + U64, // identifier
+];
+
+// Where a type's rows start, from type 0 on; they end where the next one's start.
+pub const STARTS: [usize; 22] = [
+    0,
+    0,
+    6,
+    8,
+    11,
+    16,
+    19,
+    22,
+    27,
+    36,
+    77,
+    92,
+    95,
+    97,
+    98,
+    98,
+    100,
+    104,
+    109,
+    113,
+    115,
+    121,
+];

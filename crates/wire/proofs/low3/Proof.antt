@@ -1,0 +1,9 @@
+use lib.Bits.{and-mask}
+use Rattle.wire.proofs.low3.Statement.{statement}
+use Rattle.wire.proofs.low3.Tie as tie
+
+returns : tie.Need-returns
+returns c = and-mask (c .args .x) 3
+
+pub low3-spec : {M : Type 1} → statement M
+low3-spec = tie.close (tie.spec returns)

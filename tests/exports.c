@@ -1,0 +1,388 @@
+/*
+ * Calls every export of libollskuvan.a from C, at the edges: empty slices, null
+ * with length 0, edition 257, budget 0, journals of 15 and 16 bytes, scratch one
+ * byte short, buffers one byte short, values one word short.
+ *
+ * With WITHOUT_VALUES defined, ollskuvan_read and ollskuvan_write are left out.
+ *
+ * Every slice is its own block of the heap, of exactly its length, so that
+ * valgrind sees any byte read or written outside it.
+ */
+#include "../include/ollskuvan.h"
+
+#include <stdio.h>
+#include <stdlib.h>
+#include <string.h>
+
+static int passed, failed;
+
+#define IS(got, due) is(__LINE__, #got, (uint64_t)(got), (uint64_t)(due))
+#define OK(condition) is(__LINE__, #condition, (condition) ? 1 : 0, 1)
+
+static void is(int line, const char *what, uint64_t got, uint64_t due)
+{
+    if (got == due) {
+        passed++;
+    } else {
+        failed++;
+        printf("exports.c:%d: %s is %llu where %llu is due\n", line, what, (unsigned long long)got,
+            (unsigned long long)due);
+    }
+}
+
+/* A block of exactly n bytes, each of them 0xc3. */
+static uint8_t *block(size_t n)
+{
+    uint8_t *bytes = malloc(n ? n : 1);
+    if (!bytes)
+        abort();
+    memset(bytes, 0xc3, n ? n : 1);
+    return bytes;
+}
+
+static uint8_t *copied(const uint8_t *from, size_t n)
+{
+    uint8_t *bytes = block(n);
+    memcpy(bytes, from, n);
+    return bytes;
+}
+
+/* All n bytes from there on are as block() left them. */
+static int untouched(const uint8_t *bytes, size_t n)
+{
+    size_t i;
+    for (i = 0; i < n; i++)
+        if (bytes[i] != 0xc3)
+            return 0;
+    return 1;
+}
+
+static void put16(uint8_t *at, unsigned n)
+{
+    at[0] = (uint8_t)n;
+    at[1] = (uint8_t)(n >> 8);
+}
+
+static uint64_t get(const uint8_t *at, int bytes)
+{
+    uint64_t n = 0;
+    while (bytes--)
+        n = n << 8 | at[bytes];
+    return n;
+}
+
+/* A switch out (P6 of document 01), LOST with id 7 and lost 9, COMM "kiln". */
+static const uint8_t SWITCH[8] = {0x0e, 0, 0, 0, 0, 0x20, 8, 0};
+static const uint8_t LOST[24] = {2, 0, 0, 0, 0, 0, 24, 0, 7, 0, 0, 0, 0, 0, 0, 0, 9, 0, 0, 0, 0, 0, 0, 0};
+static const uint8_t COMM[24] = {3, 0, 0, 0, 0, 0x20, 24, 0, 1, 0, 0, 0, 2, 0, 0, 0, 'k', 'i', 'l', 'n', 0, 1, 2, 3};
+
+/* The attributes are empty but for what a test gives. */
+static struct ollskuvan_drained drain(const uint8_t *ring, size_t length, uint64_t head, uint64_t tail,
+    uint32_t edition, uint64_t budget, uint8_t *scratch, size_t scratch_len, uint8_t *journal, size_t journal_len)
+{
+    return ollskuvan_drain(ring, length, head, tail, 0, 0, 0, 0, 0, edition, budget, scratch, scratch_len, journal,
+        journal_len);
+}
+
+static uint32_t check(const uint8_t *record, size_t length, uint32_t edition)
+{
+    return ollskuvan_check(record, length, 0, 0, 0, 0, 0, edition);
+}
+
+static void test_drain(void)
+{
+    uint8_t *ring = block(64), *journal = block(32), *scratch = block(24), *before = block(64);
+    struct ollskuvan_drained d;
+
+    /* null with length 0 everywhere */
+    d = drain(NULL, 0, 0, 0, 3, 0, NULL, 0, NULL, 0);
+    IS(d.stop, OLLSKUVAN_STOP_RING_LENGTH);
+    IS(d.taken, 0);
+    IS(d.bytes, 0);
+    IS(d.tail, 0);
+    d = drain(NULL, 0, 24, 5, 3, 1, NULL, 0, NULL, 0);
+    IS(d.stop, OLLSKUVAN_STOP_RING_LENGTH);
+    IS(d.tail, 5);
+    d = drain(ring, 0, 0, 0, 3, 1, scratch, 0, journal, 0);
+    IS(d.stop, OLLSKUVAN_STOP_RING_LENGTH);
+
+    memset(ring, 0, 64);
+    memcpy(ring, SWITCH, 8);
+    memcpy(ring + 8, LOST, 24);
+    memcpy(before, ring, 64);
+
+    /* the rows in the order of the table */
+    IS(drain(ring, 63, 72, 1, 257, 0, NULL, 0, NULL, 0).stop, OLLSKUVAN_STOP_RING_LENGTH);
+    IS(drain(ring, 64, 72, 1, 257, 0, NULL, 0, NULL, 0).stop, OLLSKUVAN_STOP_EDITION);
+    IS(drain(ring, 64, 72, 1, 0, 0, NULL, 0, NULL, 0).stop, OLLSKUVAN_STOP_EDITION);
+    IS(drain(ring, 64, 72, 1, 4, 0, NULL, 0, NULL, 0).stop, OLLSKUVAN_STOP_EDITION);
+    IS(drain(ring, 64, 72, 1, 0xffffffffu, 0, NULL, 0, NULL, 0).stop, OLLSKUVAN_STOP_EDITION);
+    IS(drain(ring, 64, 72, 1, 3, 0, NULL, 0, NULL, 0).stop, OLLSKUVAN_STOP_DISTANCE);
+    IS(drain(ring, 64, 72, 0, 3, 0, NULL, 0, NULL, 0).stop, OLLSKUVAN_STOP_DISTANCE);
+    IS(drain(ring, 64, 64, 1, 3, 0, NULL, 0, NULL, 0).stop, OLLSKUVAN_STOP_ALIGNMENT);
+    IS(drain(ring, 64, 7, 0, 3, 0, NULL, 0, NULL, 0).stop, OLLSKUVAN_STOP_ALIGNMENT);
+    IS(drain(ring, 64, 8, 8, 3, 0, NULL, 0, NULL, 0).stop, OLLSKUVAN_STOP_NOTHING);
+    IS(drain(ring, 64, 8, 0, 3, 0, NULL, 0, NULL, 0).stop, OLLSKUVAN_STOP_BUDGET);
+    IS(drain(ring, 64, 8, 0, 3, 1, NULL, 0, NULL, 0).stop, OLLSKUVAN_STOP_JOURNAL);
+
+    /* a journal of 15 and of 16 bytes */
+    d = drain(ring, 64, 32, 0, 3, 9, NULL, 0, journal, 15);
+    IS(d.stop, OLLSKUVAN_STOP_JOURNAL);
+    IS(d.taken, 0);
+    OK(untouched(journal, 32));
+    d = drain(ring, 64, 32, 0, 3, 9, NULL, 0, journal, 16);
+    IS(d.stop, OLLSKUVAN_STOP_JOURNAL);
+    IS(d.taken, 1);
+    IS(d.bytes, 8);
+    IS(d.tail, 8);
+    IS(get(journal + OLLSKUVAN_JOURNAL_LENGTH, 4), OLLSKUVAN_JOURNAL_ENTRY);
+    IS(get(journal + OLLSKUVAN_JOURNAL_KIND, 2), OLLSKUVAN_TYPE_SWITCH);
+    IS(get(journal + OLLSKUVAN_JOURNAL_ANSWER, 2), OLLSKUVAN_OK);
+    IS(get(journal + OLLSKUVAN_JOURNAL_TAIL, 8), 0);
+    OK(untouched(journal + 16, 16));
+
+    /* budget 0, 1 and just enough; the end of the ring is reached before the budget */
+    memset(journal, 0xc3, 32);
+    d = drain(ring, 64, 32, 0, 3, 0, NULL, 0, journal, 32);
+    IS(d.stop, OLLSKUVAN_STOP_BUDGET);
+    OK(untouched(journal, 32));
+    d = drain(ring, 64, 32, 0, 3, 1, NULL, 0, journal, 32);
+    IS(d.stop, OLLSKUVAN_STOP_BUDGET);
+    IS(d.taken, 1);
+    d = drain(ring, 64, 32, 0, 1, 2, NULL, 0, journal, 32);
+    IS(d.stop, OLLSKUVAN_STOP_NOTHING);
+    IS(d.taken, 2);
+    IS(d.bytes, 32);
+    IS(d.tail, 32);
+    IS(get(journal + OLLSKUVAN_JOURNAL_ANSWER, 2), OLLSKUVAN_REFUSED_TYPE);
+    IS(get(journal + 16 + OLLSKUVAN_JOURNAL_KIND, 2), OLLSKUVAN_TYPE_LOST);
+    IS(get(journal + 16 + OLLSKUVAN_JOURNAL_ANSWER, 2), OLLSKUVAN_OK);
+    IS(get(journal + 16 + OLLSKUVAN_JOURNAL_TAIL, 8), 8);
+
+    /* the ring is only read */
+    OK(memcmp(ring, before, 64) == 0);
+
+    /* P3: LOST across the end at tail 2^64 - 8; scratch one byte short, then just long enough */
+    memcpy(ring + 56, LOST, 8);
+    memcpy(ring, LOST + 8, 16);
+    memset(journal, 0xc3, 32);
+    d = drain(ring, 64, 16, UINT64_MAX - 7, 3, 9, scratch, 23, journal, 32);
+    IS(d.stop, OLLSKUVAN_STOP_SCRATCH);
+    IS(d.taken, 0);
+    IS(d.tail, UINT64_MAX - 7);
+    OK(untouched(scratch, 24));
+    OK(untouched(journal, 32));
+    d = drain(ring, 64, 16, UINT64_MAX - 7, 3, 9, NULL, 0, journal, 32);
+    IS(d.stop, OLLSKUVAN_STOP_SCRATCH);
+    d = drain(ring, 64, 16, UINT64_MAX - 7, 3, 9, scratch, 24, journal, 32);
+    IS(d.stop, OLLSKUVAN_STOP_NOTHING);
+    IS(d.taken, 1);
+    IS(d.bytes, 24);
+    IS(d.tail, 16);
+    OK(memcmp(scratch, LOST, 24) == 0);
+    IS(get(journal + OLLSKUVAN_JOURNAL_TAIL, 8), UINT64_MAX - 7);
+    OK(untouched(journal + 16, 16));
+
+    /* sizes that stop, and a size above the distance */
+    memcpy(ring, LOST, 24);
+    put16(ring + 6, 0);
+    IS(drain(ring, 64, 24, 0, 3, 9, NULL, 0, journal, 32).stop, OLLSKUVAN_STOP_SIZE);
+    put16(ring + 6, 12);
+    IS(drain(ring, 64, 24, 0, 3, 9, NULL, 0, journal, 32).stop, OLLSKUVAN_STOP_SIZE);
+    put16(ring + 6, 32);
+    IS(drain(ring, 64, 24, 0, 3, 9, NULL, 0, journal, 32).stop, OLLSKUVAN_STOP_PAST_HEAD);
+
+    free(ring);
+    free(journal);
+    free(scratch);
+    free(before);
+}
+
+static void test_check(void)
+{
+    uint8_t *comm = copied(COMM, 24), *lost = copied(LOST, 24), *five = copied(LOST, 5);
+
+    IS(check(NULL, 0, 3), OLLSKUVAN_REFUSED_LENGTH);
+    IS(check(NULL, 0, 257), OLLSKUVAN_REFUSED_EDITION);
+    IS(check(comm, 0, 3), OLLSKUVAN_REFUSED_LENGTH);
+    IS(check(five, 5, 3), OLLSKUVAN_REFUSED_LENGTH);
+    IS(check(comm, 24, 0), OLLSKUVAN_REFUSED_EDITION);
+    IS(check(comm, 24, 257), OLLSKUVAN_REFUSED_EDITION);
+    IS(check(comm, 24, 1), OLLSKUVAN_OK);
+    IS(check(comm, 16, 1), OLLSKUVAN_REFUSED_LENGTH);
+    put16(comm + 6, 12);
+    IS(check(comm, 24, 1), OLLSKUVAN_REFUSED_SIZE);
+    put16(comm + 6, 16);
+    IS(check(comm, 16, 1), OLLSKUVAN_REFUSED_NAME);
+    IS(check(lost, 24, 2), OLLSKUVAN_OK);
+    put16(lost, 21);
+    IS(check(lost, 24, 3), OLLSKUVAN_REFUSED_TYPE);
+    put16(lost, OLLSKUVAN_TYPE_LOST);
+    /* sample_id_all is any 32-bit number but 0 */
+    IS(ollskuvan_check(lost, 24, OLLSKUVAN_BIT_TIME, 0, 0, 0, 0, 3), OLLSKUVAN_OK);
+    IS(ollskuvan_check(lost, 24, OLLSKUVAN_BIT_TIME, 0, 1, 0, 0, 3), OLLSKUVAN_REFUSED_SHORT);
+    IS(ollskuvan_check(lost, 24, OLLSKUVAN_BIT_TIME, 0, 256, 0, 0, 3), OLLSKUVAN_REFUSED_SHORT);
+    IS(ollskuvan_check(lost, 24, UINT64_C(1) << 40, 0, 0x80000000u, 0, 0, 3), OLLSKUVAN_REFUSED_SAMPLE_TYPE);
+    put16(lost, OLLSKUVAN_TYPE_SAMPLE);
+    IS(ollskuvan_check(lost, 24, OLLSKUVAN_BIT_IP, 0, 0, 0, 0, 3), OLLSKUVAN_REFUSED_LEFT_OVER);
+    IS(ollskuvan_check(lost, 24, OLLSKUVAN_BIT_IP | OLLSKUVAN_BIT_TID, 0, 0, 0, 0, 3), OLLSKUVAN_OK);
+    IS(ollskuvan_check(lost, 24, OLLSKUVAN_BIT_READ, UINT64_C(1) << 63, 0, 0, 0, 3), OLLSKUVAN_REFUSED_READ_FORMAT);
+    IS(ollskuvan_check(lost, 24, OLLSKUVAN_BIT_WEIGHT | OLLSKUVAN_BIT_WEIGHT_STRUCT, 0, 0, 0, 0, 3),
+        OLLSKUVAN_REFUSED_WEIGHTS);
+    IS(ollskuvan_check(lost, 24, OLLSKUVAN_BIT_USER_STACK, 0, 0, 0, 0, 3), OLLSKUVAN_REFUSED_INNER);
+    IS(ollskuvan_check(lost, 24, OLLSKUVAN_BIT_USER_REGISTERS, 0, 0, UINT64_MAX, 0, 3), OLLSKUVAN_REFUSED_SHORT);
+    IS(ollskuvan_check(lost, 24, OLLSKUVAN_BIT_USER_REGISTERS, 0, 0, UINT64_C(1) << 63, 0, 3), OLLSKUVAN_OK);
+    IS(ollskuvan_check(lost, 24, OLLSKUVAN_BIT_INTERRUPT_REGISTERS, 0, 0, 0, 0x10, 3), OLLSKUVAN_OK);
+    put16(lost, OLLSKUVAN_TYPE_MMAP2);
+    put16(lost + 4, OLLSKUVAN_MISC_MMAP_BUILD_ID);
+    IS(check(lost, 24, 2), OLLSKUVAN_REFUSED_BUILD_ID);
+    IS(check(lost, 24, 3), OLLSKUVAN_REFUSED_SHORT);
+
+    free(comm);
+    free(lost);
+    free(five);
+}
+
+static void test_copy_name(void)
+{
+    uint8_t *record = copied(COMM, 24), *buffer = block(8);
+
+    IS(ollskuvan_copy_name(NULL, 0, 0, 0, NULL, 0), OLLSKUVAN_REFUSED_NAME_ROOM);
+    IS(ollskuvan_copy_name(NULL, 0, 1, 0, NULL, 0), OLLSKUVAN_REFUSED_PLACE);
+    IS(ollskuvan_copy_name(record, 24, 16, 4, NULL, 0), OLLSKUVAN_REFUSED_NAME_ROOM);
+    IS(ollskuvan_copy_name(record, 24, 16, 4, buffer, 4), OLLSKUVAN_REFUSED_NAME_ROOM);
+    IS(ollskuvan_copy_name(record, 24, 25, 0, buffer, 8), OLLSKUVAN_REFUSED_PLACE);
+    IS(ollskuvan_copy_name(record, 24, 24, 1, buffer, 8), OLLSKUVAN_REFUSED_PLACE);
+    IS(ollskuvan_copy_name(record, 24, UINT64_MAX, 1, buffer, 8), OLLSKUVAN_REFUSED_PLACE);
+    IS(ollskuvan_copy_name(record, 24, 1, UINT64_MAX, buffer, 8), OLLSKUVAN_REFUSED_PLACE);
+    IS(ollskuvan_copy_name(record, 24, UINT64_MAX, UINT64_MAX, NULL, 0), OLLSKUVAN_REFUSED_PLACE);
+    OK(untouched(buffer, 8));
+    IS(ollskuvan_copy_name(record, 24, 16, 4, buffer, 5), OLLSKUVAN_OK);
+    OK(memcmp(buffer, "kiln", 5) == 0 && untouched(buffer + 5, 3));
+    memset(buffer, 0xc3, 8);
+    IS(ollskuvan_copy_name(record, 24, 24, 0, buffer, 1), OLLSKUVAN_OK);
+    OK(buffer[0] == 0 && untouched(buffer + 1, 7));
+    memset(buffer, 0xc3, 8);
+    IS(ollskuvan_copy_name(NULL, 0, 0, 0, buffer, 8), OLLSKUVAN_OK);
+    OK(buffer[0] == 0 && untouched(buffer + 1, 7));
+    /* zeros inside are copied as they are */
+    IS(ollskuvan_copy_name(record, 24, 18, 6, buffer, 8), OLLSKUVAN_OK);
+    OK(memcmp(buffer, "ln\0\1\2\3\0", 7) == 0 && buffer[7] == 0xc3);
+    OK(memcmp(record, COMM, 24) == 0);
+
+    free(record);
+    free(buffer);
+}
+
+#ifndef WITHOUT_VALUES
+static void test_read_write(void)
+{
+    uint8_t *record = copied(COMM, 24), *buffer = block(32), *source = copied((const uint8_t *)"-kiln", 5);
+    uint64_t *fields = malloc(57 * sizeof *fields), *exact = malloc(OLLSKUVAN_FIELDS * sizeof *exact);
+    uint64_t *few = malloc(55 * sizeof *few);
+    int i;
+
+    if (!fields || !exact || !few)
+        abort();
+    for (i = 0; i < 57; i++)
+        fields[i] = 99;
+    memcpy(few, fields, 55 * sizeof *few);
+
+    /* read: 40 comes after what check answers */
+    IS(ollskuvan_read(NULL, 0, 0, 0, 0, 0, 0, 3, NULL, 0), OLLSKUVAN_REFUSED_LENGTH);
+    IS(ollskuvan_read(record, 24, 0, 0, 0, 0, 0, 257, NULL, 0), OLLSKUVAN_REFUSED_EDITION);
+    IS(ollskuvan_read(record, 24, 0, 0, 0, 0, 0, 3, NULL, 0), OLLSKUVAN_REFUSED_ROOM);
+    IS(ollskuvan_read(record, 24, 0, 0, 0, 0, 0, 3, few, 55), OLLSKUVAN_REFUSED_ROOM);
+    IS(few[0], 99);
+    IS(few[54], 99);
+    IS(ollskuvan_read(record, 16, 0, 0, 0, 0, 0, 3, fields, 57), OLLSKUVAN_REFUSED_LENGTH);
+    IS(fields[0], 99);
+    IS(ollskuvan_read(record, 24, 0, 0, 0, 0, 0, 3, fields, 57), OLLSKUVAN_OK);
+    IS(fields[56], 99);
+    IS(ollskuvan_read(record, 24, 0, 0, 0, 0, 0, 3, exact, OLLSKUVAN_FIELDS), OLLSKUVAN_OK);
+    OK(memcmp(fields, exact, OLLSKUVAN_FIELDS * sizeof *exact) == 0);
+    IS(exact[OLLSKUVAN_TYPE], OLLSKUVAN_TYPE_COMM);
+    IS(exact[OLLSKUVAN_MISC], OLLSKUVAN_MISC_COMM_EXEC);
+    IS(exact[OLLSKUVAN_SIZE], 24);
+    IS(exact[OLLSKUVAN_COMM_PID], 1);
+    IS(exact[OLLSKUVAN_COMM_TID], 2);
+    IS(exact[OLLSKUVAN_COMM_NAME], 16);
+    IS(exact[OLLSKUVAN_COMM_NAME_COUNT], 4);
+    for (i = 7; i < (int)OLLSKUVAN_FIELDS; i++)
+        IS(exact[i], 0);
+
+    /* write: 42 for too few words before all else */
+    IS(ollskuvan_write(NULL, 0, NULL, 0, 0, 0, 0, 0, 0, 257, NULL, 0), OLLSKUVAN_REFUSED_VALUE);
+    IS(ollskuvan_write(few, 55, record, 24, 0, 0, 0, 0, 0, 257, NULL, 0), OLLSKUVAN_REFUSED_VALUE);
+    IS(ollskuvan_write(exact, 56, record, 24, 0, 0, 0, 0, 0, 257, NULL, 0), OLLSKUVAN_REFUSED_EDITION);
+    IS(ollskuvan_write(exact, 56, NULL, 0, 0, 0, 0, 0, 0, 3, buffer, 32), OLLSKUVAN_REFUSED_PLACE);
+    IS(ollskuvan_write(exact, 56, record, 19, 0, 0, 0, 0, 0, 3, buffer, 32), OLLSKUVAN_REFUSED_PLACE);
+    IS(ollskuvan_write(exact, 56, record, 20, 0, 0, 0, 0, 0, 3, buffer, 23), OLLSKUVAN_REFUSED_ROOM);
+    IS(ollskuvan_write(exact, 56, record, 20, 0, 0, 0, 0, 0, 3, NULL, 0), OLLSKUVAN_REFUSED_ROOM);
+    OK(untouched(buffer, 32));
+    IS(ollskuvan_write(exact, 56, record, 20, 0, 0, 0, 0, 0, 3, buffer, 24), OLLSKUVAN_OK);
+    OK(memcmp(buffer, COMM, 20) == 0 && get(buffer + 20, 4) == 0 && untouched(buffer + 24, 8));
+
+    /* the name from another place; further words are not looked at */
+    memset(buffer, 0xc3, 32);
+    fields[OLLSKUVAN_COMM_NAME] = 1;
+    IS(ollskuvan_write(fields, 57, source, 5, 0, 0, 0, 0, 0, 1, buffer, 32), OLLSKUVAN_OK);
+    OK(memcmp(buffer, COMM, 20) == 0 && get(buffer + 20, 4) == 0 && untouched(buffer + 24, 8));
+    IS(ollskuvan_write(fields, 57, source, 4, 0, 0, 0, 0, 0, 1, buffer, 32), OLLSKUVAN_REFUSED_PLACE);
+    fields[OLLSKUVAN_COMM_NAME] = UINT64_MAX;
+    IS(ollskuvan_write(fields, 57, source, 5, 0, 0, 0, 0, 0, 1, buffer, 32), OLLSKUVAN_REFUSED_PLACE);
+
+    /* 20 by the whole word; 42 for a kept word, a number too wide, a wrong size */
+    memcpy(fields, exact, OLLSKUVAN_FIELDS * sizeof *exact);
+    fields[OLLSKUVAN_TYPE] |= UINT64_C(1) << 32;
+    IS(ollskuvan_write(fields, 56, record, 24, 0, 0, 0, 0, 0, 3, buffer, 32), OLLSKUVAN_REFUSED_TYPE);
+    memcpy(fields, exact, OLLSKUVAN_FIELDS * sizeof *exact);
+    fields[OLLSKUVAN_COMM_NAME_FLAG] = 1;
+    IS(ollskuvan_write(fields, 56, record, 24, 0, 0, 0, 0, 0, 3, buffer, 32), OLLSKUVAN_REFUSED_VALUE);
+    memcpy(fields, exact, OLLSKUVAN_FIELDS * sizeof *exact);
+    fields[OLLSKUVAN_COMM_TID] = UINT64_C(1) << 32;
+    IS(ollskuvan_write(fields, 56, record, 24, 0, 0, 0, 0, 0, 3, buffer, 32), OLLSKUVAN_REFUSED_VALUE);
+    memcpy(fields, exact, OLLSKUVAN_FIELDS * sizeof *exact);
+    fields[OLLSKUVAN_SIZE] = 32;
+    IS(ollskuvan_write(fields, 56, record, 24, 0, 0, 0, 0, 0, 3, buffer, 32), OLLSKUVAN_REFUSED_VALUE);
+
+    /* a value with no list needs no source; the trailer's word */
+    memset(exact, 0, OLLSKUVAN_FIELDS * sizeof *exact);
+    exact[OLLSKUVAN_TYPE] = OLLSKUVAN_TYPE_SWITCH;
+    exact[OLLSKUVAN_MISC] = OLLSKUVAN_MISC_SWITCH_OUT;
+    exact[OLLSKUVAN_SIZE] = 8;
+    memset(buffer, 0xc3, 32);
+    IS(ollskuvan_write(exact, 56, NULL, 0, 0, 0, 0, 0, 0, 2, buffer, 8), OLLSKUVAN_OK);
+    OK(memcmp(buffer, SWITCH, 8) == 0 && untouched(buffer + 8, 24));
+    exact[OLLSKUVAN_SIZE] = 16;
+    exact[OLLSKUVAN_TRAILER_TIME] = 0x1122334455667788u;
+    IS(ollskuvan_write(exact, 56, NULL, 0, OLLSKUVAN_BIT_TIME, 0, 0, 0, 0, 2, buffer, 16), OLLSKUVAN_REFUSED_VALUE);
+    IS(ollskuvan_write(exact, 56, NULL, 0, OLLSKUVAN_BIT_TIME, 0, 1, 0, 0, 2, buffer, 15), OLLSKUVAN_REFUSED_ROOM);
+    IS(ollskuvan_write(exact, 56, NULL, 0, OLLSKUVAN_BIT_TIME, 0, 1, 0, 0, 2, buffer, 16), OLLSKUVAN_OK);
+    IS(get(buffer + 8, 8), 0x1122334455667788u);
+    OK(untouched(buffer + 16, 16));
+
+    free(record);
+    free(buffer);
+    free(source);
+    free(fields);
+    free(exact);
+    free(few);
+}
+
+#endif
+
+int main(void)
+{
+    IS(OLLSKUVAN_TRAILER_BITS, 66246);
+    IS(OLLSKUVAN_FIELDS, 56);
+    IS(sizeof(struct ollskuvan_drained), 32);
+    test_drain();
+    test_check();
+    test_copy_name();
+#ifndef WITHOUT_VALUES
+    test_read_write();
+#endif
+    printf("exports from C: %d calls and bytes as due, %d not\n", passed, failed);
+    return failed ? 1 : 0;
+}

@@ -1,0 +1,105 @@
+#!/bin/sh
+# The tests from outside: what libollskuvan.a and the program ringdump do, against an independent
+# reader written in Rust from document 01 (tests/reader), from C (tests/exports.c), and over rings
+# taken from a live kernel (rings/).
+#
+#   tests/run.sh                 all of it, as the gate runs it
+#   tests/run.sh without-values  for an archive that has no ollskuvan_read and ollskuvan_write yet
+#   tests/run.sh standin         with the independent reader in the library's place: tries the tests
+#                                themselves and says nothing about the library
+#   tests/run.sh long COUNT SEED COUNT drains and COUNT values with this seed, and nothing else
+#
+# DRAINS, VALUES and SEED change the counts and the seed of the gate's run. Needs rustc, a C compiler
+# (CC, or cc) and, for the memory check of the C calls, valgrind. Everything is built in target/tests/.
+set -eu
+cd "$(dirname "$0")/.."
+
+mode=${1:-all}
+drains=${DRAINS:-200000}
+values=${VALUES:-100000}
+seed=${SEED:-1}
+cc=${CC:-cc}
+out=target/tests
+archive=target/staticlib/libollskuvan.a
+ringdump=target/bin/ringdump
+
+stop() { echo "tests/run.sh: $*" >&2; exit 1; }
+
+case $mode in
+    all | standin | without-values) ;;
+    long)
+        [ $# -eq 3 ] || stop "use: tests/run.sh long COUNT SEED"
+        drains=$2 values=$2 seed=$3
+        ;;
+    *) stop "no such word: $mode (see the head of this file)" ;;
+esac
+command -v rustc >/dev/null || stop "rustc is missing: the independent reader is written in Rust"
+command -v "$cc" >/dev/null || stop "$cc is missing: the exports are called from C"
+mkdir -p "$out"
+
+parts=0
+begun=$(date +%s)
+part() { # part WORDS COMMAND...
+    echo "== $1"
+    shift
+    from=$(date +%s)
+    "$@" || stop "failed: $*"
+    parts=$((parts + 1))
+    echo "   $(($(date +%s) - from)) s"
+}
+
+rust() { rustc --edition 2021 -O -C overflow-checks=on "$@"; }
+c() { "$cc" -std=c99 -pedantic -Wall -Wextra -Werror -g -O1 "$@"; }
+
+case $mode in
+    standin)
+        part "build the independent reader, and itself as the stand-in" \
+            rust --cfg standin -o "$out/reader" tests/reader/main.rs
+        part "build the stand-in for C" \
+            rust --crate-type staticlib --crate-name ollskuvan -o "$out/libstandin.a" tests/reader/standin.rs
+        part "build the calls from C" c -o "$out/exports" tests/exports.c "$out/libstandin.a" -lpthread -ldl -lm
+        ringdump="$out/reader dump"
+        ;;
+    *)
+        [ -f "$archive" ] || stop "$archive is missing: run 'rt staticlib ollskuvan' first"
+        [ $mode = long ] || [ -x "$ringdump" ] || stop "$ringdump is missing: run 'rt check ringdump' first"
+        without= undefined=
+        if [ $mode = without-values ]; then
+            without="--cfg without_values"
+            undefined=-DWITHOUT_VALUES
+        fi
+        # shellcheck disable=SC2086
+        part "build the independent reader" \
+            rust $without -C link-arg="$archive" -o "$out/reader" tests/reader/main.rs
+        # shellcheck disable=SC2086
+        part "build the calls from C" c $undefined -o "$out/exports" tests/exports.c "$archive"
+        ;;
+esac
+
+if [ $mode = long ]; then
+    part "drains, checks and name copies: $drains cases, seed $seed" \
+        "$out/reader" drains --count "$drains" --seed "$seed"
+    part "values: $values records, seed $seed" "$out/reader" values --count "$values" --seed "$seed"
+    echo "long run: no difference"
+    exit 0
+fi
+
+part "document 01's examples on the independent reader" "$out/reader" examples
+part "every export from C" "$out/exports"
+if command -v valgrind >/dev/null; then
+    part "every export from C, under valgrind" \
+        valgrind -q --error-exitcode=9 --leak-check=full "$out/exports"
+else
+    echo "== valgrind is missing: the calls from C ran without it"
+fi
+part "drains, checks and name copies: $drains cases, seed $seed" \
+    "$out/reader" drains --count "$drains" --seed "$seed"
+part "real rings" "$out/reader" rings rings
+if [ $mode != without-values ]; then
+    part "each sample bit, read format, type and trailer bit" "$out/reader" bits
+    part "values: $values records, seed $seed" "$out/reader" values --count "$values" --seed "$seed"
+fi
+# shellcheck disable=SC2086
+part "what ringdump prints" "$out/reader" images $ringdump --rings rings --folder "$out" --seed "$seed" --count 400
+
+echo "outside tests: $parts parts done in $(($(date +%s) - begun)) s, none failed"
