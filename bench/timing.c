@@ -69,13 +69,30 @@ static uint64_t records_in(const struct made_ring *ring)
     return done.taken;
 }
 
-/* Nanoseconds of one call: times[k * rounds + round] for contender k. */
+/* A new order for each round, so that nobody always runs behind the same one. */
+static void shuffle(struct made_random *r, size_t *order, size_t count)
+{
+    for (size_t i = 0; i < count; i++)
+        order[i] = i;
+    for (size_t i = count; i > 1; i--) {
+        size_t j = (size_t)made_below(r, i), kept = order[i - 1];
+        order[i - 1] = order[j];
+        order[j] = kept;
+    }
+}
+
+/* Nanoseconds of one call: times[k * rounds + round] for contender k. Each runs
+ * once untimed before it is timed: caches and branches are then its own. */
 static void race(const struct made_ring *ring, size_t calls, size_t rounds, double *times)
 {
     struct buffers b = lend(ring);
-    for (size_t round = 0; round < rounds + WARM_UP; round++)
+    struct made_random r = { 7 };
+    size_t *order = grab(contender_count * sizeof *order);
+    for (size_t round = 0; round < rounds + WARM_UP; round++) {
+        shuffle(&r, order, contender_count);
         for (size_t turn = 0; turn < contender_count; turn++) {
-            size_t k = (turn + round) % contender_count; /* nobody is always first */
+            size_t k = order[turn];
+            run_drain(contenders[k].drain, ring, b.scratch, b.journal);
             uint64_t begin = now();
             for (size_t call = 0; call < calls; call++)
                 run_drain(contenders[k].drain, ring, b.scratch, b.journal);
@@ -83,6 +100,8 @@ static void race(const struct made_ring *ring, size_t calls, size_t rounds, doub
             if (round >= WARM_UP)
                 times[k * rounds + round - WARM_UP] = (double)(end - begin) / (double)calls;
         }
+    }
+    free(order);
     give_back(&b);
 }
 
@@ -95,8 +114,7 @@ static void time_workload(enum made_workload which, size_t rounds)
     race(&ring, 1, rounds, times);
     printf("\n%s: %.0f records in 1 MiB, %zu rounds\n", made_workload_names[which], records, rounds);
     printf("  %-40s %11s %8s %18s\n", "", "ns a record", "ratio", "(middle half)");
-    for (size_t back = 0; back < contender_count; back++) {
-        size_t k = back;
+    for (size_t k = 0; k < contender_count; k++) {
         for (size_t i = 0; i < rounds; i++)
             ratios[i] = times[k * rounds + i] / times[CAREFUL * rounds + i];
         double ratio = median(ratios, rounds), low = ratios[rounds / 4], high = ratios[rounds - 1 - rounds / 4];

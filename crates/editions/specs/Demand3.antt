@@ -11,7 +11,7 @@ use Rattle.meaning.specs.declared.Known.{Known}
 use Rattle.meaning.specs.Bytes.{num, numberAt, put}
 use Rattle.meaning.specs.Editions.{editions, allowed, known, outside}
 use Rattle.meaning.specs.Records.{layout, judge}
-use Rattle.meaning.specs.Ring.{frame, taken}
+use Rattle.meaning.specs.Ring.{frame}
 use Rattle.meaning.specs.Drain.{End, journalKind, entry, entryFor, start, told, run, drain}
 use Rattle.editions.specs.Fairness.{rising, Words, dependsOf, Fair}
 use Rattle.editions.specs.Cutting.{Cut, Cuts, cutting, entries, All}

@@ -1,14 +1,24 @@
 -- The journal, entry by entry. Assumes nothing.
 use mathlib.Core.Path.{_≡_, refl, sym, ap, _∙_}
+use mathlib.Core.Bool.{true}
 use mathlib.Core.List.{List, [], _∷_, _++_}
 use Prim.Native.Nat.{ℕ, zero, suc, _+_, _*_, _^_, _<_, _≤_}
+use native.Mathlib.Nat.{zero-add}
 use native.Mathlib.Omega.{arith}
 use lib.ListN.{length, getD, take, drop, length-drop}
 use lib.Seq.{take-append-le, drop-append-le, drop-append-seam, drop-append-add}
+use Rattle.meaning.specs.declared.Attributes.{Attributes}
+use Rattle.meaning.specs.declared.Known.{Known}
+use Rattle.meaning.specs.Editions.{allowed, known}
+use Rattle.meaning.specs.Records.{layout, judge, check}
 use Rattle.meaning.specs.Bytes.{numberAt, spell, put}
-use Rattle.meaning.specs.Drain.{entry, entryFor}
+use Rattle.meaning.specs.Drain.{End, start, drain, entry, entryFor}
 use Rattle.laws.specs.Bytes.{num-spell}
-use Rattle.editions.specs.Cutting.{Cut, entries}
+use Rattle.editions.specs.Fairness.{framed}
+use Rattle.editions.specs.Cutting.{Cut, Cuts, cuttingBy, entries, All, endOf}
+use Rattle.editions.specs.Promise.{nothingCut}
+use Rattle.editions.specs.OneRecord.{check-framed}
+use Rattle.editions.specs.Moves.{run-cutting, cutting-fits, drain-counted}
 use Rattle.editions.specs.Put.{put-start}
 use Rattle.editions.specs.Runs.{length-entries}
 
@@ -57,3 +67,49 @@ before-answer kind x y tail = refl
 pub after-answer : (kind x y tail : ℕ) → drop 8 (entry kind x tail) ≡ drop 8 (entry kind y tail)
 unfolding entry spell
 after-answer kind x y tail = refl
+
+-- ---- the journal of a drain: "For each record taken it writes one journal entry"; "Journal bytes after the last entry are unchanged"
+module _ (rows : List Known) (e : ℕ) (a : Attributes) (ring : List ℕ) (head tail budget : ℕ) (journal scratch : List ℕ) where
+  pub drain-cutting : drain rows e a ring head tail budget journal scratch
+      ≡ endOf (judge (layout (known rows e) a)) (start tail journal scratch) (cuttingBy (allowed rows e) ring head tail budget (length journal) scratch)
+  drain-cutting = run-cutting (allowed rows e) (judge (layout (known rows e) a)) ring head tail budget journal scratch
+
+  pub drain-count : drain rows e a ring head tail budget journal scratch .state .taken
+      ≡ length (cuttingBy (allowed rows e) ring head tail budget (length journal) scratch .records)
+  drain-count =
+      ap (λ (x : End). x .state .taken) drain-cutting ∙ zero-add (length (cuttingBy (allowed rows e) ring head tail budget (length journal) scratch .records))
+
+  -- entry i has the type, the answer and the tail of record i
+  pub drain-entry : (i : ℕ) → i < drain rows e a ring head tail budget journal scratch .state .taken
+      → take 16 (drop (16 * i) (drain rows e a ring head tail budget journal scratch .state .journal))
+      ≡ entryFor (judge (layout (known rows e) a))
+      (getD (cuttingBy (allowed rows e) ring head tail budget (length journal) scratch .records) i nothingCut .record-bytes)
+      (getD (cuttingBy (allowed rows e) ring head tail budget (length journal) scratch .records) i nothingCut .tail)
+  drain-entry i h =
+      let w : Cuts = cuttingBy (allowed rows e) ring head tail budget (length journal) scratch in
+      ap (λ (x : End). take 16 (drop (16 * i) (x .state .journal))) drain-cutting
+      ∙ journal-entry (judge (layout (known rows e) a)) (w .records) journal (cutting-fits (allowed rows e) ring head tail budget journal scratch) i nothingCut
+      (omega (arith, h, drain-count))
+
+  pub drain-rest : drop (16 * drain rows e a ring head tail budget journal scratch .state .taken) (drain rows e a ring head tail budget journal scratch .state .journal)
+      ≡ drop (16 * drain rows e a ring head tail budget journal scratch .state .taken) journal
+  drain-rest =
+      let w : Cuts = cuttingBy (allowed rows e) ring head tail budget (length journal) scratch in
+      ap (λ (k : ℕ). drop (16 * k) (drain rows e a ring head tail budget journal scratch .state .journal)) drain-count
+      ∙ ap (λ (x : End). drop (16 * length (w .records)) (x .state .journal)) drain-cutting
+      ∙ journal-rest (judge (layout (known rows e) a)) (w .records) journal (cutting-fits (allowed rows e) ring head tail budget journal scratch)
+      ∙ ap (λ (k : ℕ). drop (16 * k) journal) (sym drain-count)
+
+-- every answer that a drain writes is the record check's for those bytes
+pub all-map : (P Q : Cut → Type 0) → ((c : Cut) → P c → Q c) → (cs : List Cut) → All P cs → All Q cs
+all-map P Q f [] h = tt
+all-map P Q f (c ∷ cs) h = (f c (h .0), all-map P Q f cs (h .1))
+
+pub drain-checked : (rows : List Known) (e : ℕ) → allowed rows e ≡ true → (a : Attributes) (ring : List ℕ) (head tail budget : ℕ) (journal scratch : List ℕ)
+    → head < 2 ^ 64 → tail < 2 ^ 64
+    → All (λ (c : Cut). check rows e a (c .record-bytes) ≡ judge (layout (known rows e) a) (c .record-bytes))
+    (cuttingBy (allowed rows e) ring head tail budget (length journal) scratch .records)
+drain-checked rows e h a ring head tail budget journal scratch hd tl =
+    all-map (λ (c : Cut). framed (c .record-bytes) ≡ true) _ (λ c f. check-framed rows e h a (c .record-bytes) f)
+    (cuttingBy (allowed rows e) ring head tail budget (length journal) scratch .records)
+    (drain-counted rows e a ring head tail budget journal scratch hd tl .shaped)
