@@ -9,6 +9,13 @@
 
 #include "bench.h"
 
+#if defined(__SANITIZE_ADDRESS__)
+#include <sanitizer/asan_interface.h>
+#else
+#define ASAN_POISON_MEMORY_REGION(at, bytes) ((void)(at), (void)(bytes))
+#define ASAN_UNPOISON_MEMORY_REGION(at, bytes) ((void)(at), (void)(bytes))
+#endif
+
 enum { GUARD = 64 };
 
 enum { ANSWERS = 34, STOPS = 11, KINDS = 22 };
@@ -84,9 +91,12 @@ static bool same_results(const struct contender *one, const struct contender *tw
     memcpy(desk->right.scratch, desk->left.scratch, scratch);
     memcpy(desk->right.journal, desk->left.journal, journal);
     memcpy(desk->ring_before, ring->bytes, ring->length);
+    /* under the address sanitizer a byte read past the ring's end is an error */
+    ASAN_POISON_MEMORY_REGION(ring->bytes + ring->length, MADE_RING_MAX - ring->length);
     desk->left.done = run_drain(one->drain, ring, desk->left.scratch + GUARD, desk->left.journal + GUARD);
     bool ring_same = memcmp(desk->ring_before, ring->bytes, ring->length) == 0;
     desk->right.done = run_drain(two->drain, ring, desk->right.scratch + GUARD, desk->right.journal + GUARD);
+    ASAN_UNPOISON_MEMORY_REGION(ring->bytes + ring->length, MADE_RING_MAX - ring->length);
     ring_same = ring_same && memcmp(desk->ring_before, ring->bytes, ring->length) == 0;
     const struct ollskuvan_drained *l = &desk->left.done, *r = &desk->right.done;
     bool same = l->taken == r->taken && l->bytes == r->bytes && l->tail == r->tail && l->stop == r->stop;

@@ -164,13 +164,13 @@ int time_sizes(size_t rounds)
     struct made_ring ring = { .bytes = grab(MADE_RING_MAX) };
     double *times = grab(contender_count * rounds * sizeof *times);
     stay_on_one_cpu();
-    printf("\nfull rings of LOST_SAMPLES, 16 bytes each; ns of a whole drain (a call, with what it computes once)\n");
-    printf("and of a record; the last column is the cost of a further record: the rise against the row above\n");
+    printf("\nfull rings of LOST_SAMPLES, 16 bytes each, %zu rounds: ns of a whole drain (a call, with what it computes\n"
+           "once), of a record with its share of that, and of a further record (the rise since the smallest ring)\n", rounds);
     printf("%9s %8s", "ring", "records");
     for (size_t i = 0; i < SHOWN; i++)
         printf(" | %12s: call, record, further", contenders[shown[i]].name);
     printf("\n");
-    double before[SHOWN] = { 0 }, records_before = 0;
+    double least[SHOWN] = { 0 }, least_records = 0;
     for (size_t length = OLLSKUVAN_RING_MIN; length <= OLLSKUVAN_RING_MAX; length *= 2) {
         fill_small(length, &ring);
         double records = (double)records_in(&ring);
@@ -179,13 +179,15 @@ int time_sizes(size_t rounds)
         for (size_t i = 0; i < SHOWN; i++) {
             double call = median(times + shown[i] * rounds, rounds);
             printf(" | %16.0f %9.2f", call, call / records);
-            if (records_before > 0)
-                printf(" %9.2f", (call - before[i]) / (records - records_before));
+            if (least_records > 0)
+                printf(" %9.2f", (call - least[i]) / (records - least_records));
             else
                 printf(" %9s", "-");
-            before[i] = call;
+            if (length == OLLSKUVAN_RING_MIN)
+                least[i] = call;
         }
-        records_before = records;
+        if (length == OLLSKUVAN_RING_MIN)
+            least_records = records;
         printf("\n");
     }
     free(times);

@@ -1,22 +1,22 @@
 -- Three laws for every shape: its bytes are not there, its rule is broken, past it. Assumes nothing.
-use mathlib.Core.Path.{_≡_, refl, sym, ap, ap₂, _∙_}
-use mathlib.Core.List.{List, [], _∷_}
-use mathlib.Core.Bool.{Bool, true, false, cond}
-use Prim.Native.Nat.{ℕ, zero, suc, _+_, _-_, _*_, _/_, _<_, _≤_, _%_}
-use native.Mathlib.Nat.{le-div-iff-mul-le, lt-of-not-le, add-zero, mul-zero}
+use mathlib.Core.Path.{_≡_, refl, sym, ap, _∙_}
+use mathlib.Core.List.{List}
+use mathlib.Core.Bool.{true, cond}
+use Prim.Native.Nat.{ℕ, _+_, _-_, _*_, _/_, _<_, _≤_, _%_}
+use native.Mathlib.Nat.{le-div-iff-mul-le, lt-of-not-le, add-zero}
 use native.Mathlib.Numerals.{add-one}
 use native.Mathlib.Omega.{arith}
 use lib.ListN.{length, getD, take, drop, length-drop}
 use lib.Seq.{drop-cons, length-take-le, take-all}
-use lib.Dec.{eqb, leb}
+use lib.Dec.{eqb}
 use borrow.Author.Tests.{lt-ltb, le-ltb, le-leb, lt-leb, eq-eqb, ne-eqb}
 use Rattle.meaning.specs.declared.Cursor.{Cursor}
 use Rattle.meaning.specs.declared.Item.{Item}
 use Rattle.meaning.specs.declared.Shape.{Shape}
-use Rattle.meaning.specs.declared.Shape.the-variants.{Number, Ignored, Count, Size, Times, Earlier, Registers, Filled, Abi, Limit, Listed, Bytes, Pad, Name}
+use Rattle.meaning.specs.declared.Shape.the-variants.{Number, Ignored, Size, Times, Earlier, Registers, Filled, Abi, Limit, Listed, Bytes, Pad, Name}
 use Rattle.meaning.specs.declared.Width.{Width}
 use Rattle.meaning.specs.Bytes.{num, numberAt, ones, zeroIn}
-use Rattle.meaning.specs.Items.{Con, bytes, cursor, refuse, span, rule, holds, counted, before, past, part, settle, shapeStep, step}
+use Rattle.meaning.specs.Items.{bytes, cursor, refuse, span, rule, holds, counted, before, past, part, settle, shapeStep, step}
 
 module _ (sh : Shape) (xs : List ℕ) (c : Cursor) (k : ℕ) (sp : span sh c (length xs - c .at) ≡ k) where
   pub shape-out : length xs - c .at < k → refuse 30 c ≡ shapeStep sh c (drop (c .at) xs)
@@ -178,14 +178,6 @@ module _ (xs : List ℕ) (c : Cursor) where
       → cursor (c .at + 1) v (c .old) (c .why) ≡ shapeStep (Limit m) c (drop (c .at) xs)
   unfolding span rule counted before holds
   limit-in m v h p l = shape-in (Limit m) xs c 1 refl v (c .old) h (rw (le-leb (numberAt 1 xs (c .at)) m (omega (arith, p, l)))) p refl
-
-  pub step-refused : (i : Item) → (c .why ≡ 0 → ⊥) → c ≡ step xs i c
-  unfolding step
-  step-refused i e = simp (ne-eqb _ _ e)
-
-  pub step-off : (i : Item) → c .why ≡ 0 → i .on ≡ false → c ≡ step xs i c
-  unfolding step
-  step-off i e o = simp (eq-eqb _ _ e, o)
 
   pub step-is : (i : Item) (sh : Shape) → c .why ≡ 0 → i .on ≡ true → i .shape ≡ sh → shapeStep sh c (drop (c .at) xs) ≡ step xs i c
   unfolding step

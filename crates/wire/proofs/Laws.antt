@@ -1,9 +1,9 @@
 -- The laws of `put`, `numberAt`, `spell`, `bit` and `ones`, over the place, the width, the bit's index and the list. Assumes nothing.
 use mathlib.Core.Path.{_≡_, refl, sym, ap, _∙_, subst}
 use mathlib.Core.List.{List, [], _∷_, _++_, append-assoc, append-nil}
-use Prim.Native.Nat.{ℕ, zero, suc, _+_, _-_, _*_, _/_, _%_, _^_, _<_, _≤_}
-use native.Mathlib.Nat.{add-zero, zero-add, suc-add, pow-succ', pow-suc, mul-assoc}
-use native.Mathlib.Numerals.{add-one, one-add}
+use Prim.Native.Nat.{ℕ, zero, suc, _+_, _*_, _/_, _^_, _<_, _≤_}
+use native.Mathlib.Nat.{add-zero, zero-add, suc-add, pow-succ', mul-assoc}
+use native.Mathlib.Numerals.{add-one}
 use native.Mathlib.Omega.{arith}
 use mathlib.Core.Logic.{⊎-elim, _⊎_, inl, inr}
 use mathlib.Core.Bool.{Bool, true, false}
@@ -14,7 +14,7 @@ use lib.Dec.{leb, eqb}
 use lib.Bits.{bitAnd, and-mask}
 use lib.Count.{ones-step, ones-le}
 use lib.Count
-use lib.ListN.{length, getD, take, drop, set, replicate, length-append, length-take, length-drop, take-append-drop, drop-of-length-le, replicate-append-replicate}
+use lib.ListN.{length, getD, take, drop, set, length-append, length-drop, take-append-drop, drop-of-length-le, replicate-append-replicate}
 use lib.Seq.{set-at, drop-cons, length-take-le, take-nil, append-snoc, take-at, drop-at, getD-drop, drop-drop}
 use Rattle.meaning.specs.Bytes.{put, num, numberAt, spell, bit, ones, zeros}
 use Rattle.laws.specs.Bytes.{length-spell, num-spell}

@@ -1,57 +1,43 @@
+-- `fields::abi` meets its contract. Assumes nothing.
 use native.Mathlib.Omega.{arith}
 use denote.Ref.{now}
-use mathlib.Core.Path.{refl, sym, ap, _∙_}
+use mathlib.Core.Path.{refl, _∙_}
 use Rattle.meaning.specs.declared.Shape.the-variants.{Abi}
 use Rattle.meaning.specs.Items.{span}
 use Rattle.fields.proofs.Laws.{shape-out, abi-none, abi-some}
 use borrow.Author.Needs.{needs}
 use Rattle.fields.proofs.abi.Statement.{statement}
 use Rattle.fields.proofs.abi.Tie as tie
-use Rattle.fields.proofs.abi.Reads as reads
-use Rattle.fields.proofs.abi.Lts as lts
-use Rattle.fields.proofs.left.Reads as left-reads
-use Rattle.fields.proofs.refuse.Reads as refuse-reads
-use Rattle.wire.proofs.count_ones.Reads as count-ones-reads
-use Rattle.wire.proofs.u64_at.Reads as u64-at-reads
 
--- src/lib.rt:242:8
 left-requires : tie.Need-left-requires
 left-requires c κs = search needs
 
--- src/lib.rt:243:9
 refuse-requires : tie.Need-refuse-requires
 refuse-requires c κs = search needs
 
--- src/lib.rt:243:9
 returns : tie.Need-returns
 unfolding span
 returns c =
     let a = c .before .before .before .before .args in
     c .refuse .ensures ∙ shape-out (Abi (a .mask)) (now (a .s)) (a .c) 8 refl (omega arith)
 
--- src/lib.rt:245:8
 u64-at-requires : tie.Need-u64-at-requires
 u64-at-requires c κs = search needs
 
--- src/lib.rt:247:17
 add-t8 : tie.Need-add-t8
 add-t8 c = search needs
 
--- src/lib.rt:246:9
 returns-2 : tie.Need-returns-2
 returns-2 c =
     let a = c .before .before .before .before .before .args in
     abi-none (now (a .s)) (a .c) (a .mask) _ (omega arith) (c .before .u64-at .ensures) (c .if2 .taken)
 
--- src/lib.rt:254:13
 add-t5 : tie.Need-add-t5
 add-t5 c = search needs
 
--- src/lib.rt:255:12
 count-ones-requires : tie.Need-count-ones-requires
 count-ones-requires c κs = search needs
 
--- src/lib.rt:238:1
 returns-3 : tie.Need-returns-3
 returns-3 c =
     let a = c .before .before .before .before .before .before .args in

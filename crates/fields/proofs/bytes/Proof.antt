@@ -1,3 +1,4 @@
+-- `fields::bytes` meets its contract. Assumes nothing.
 use denote.Ref.{now}
 use mathlib.Core.Path.{_∙_}
 use lib.ListN.{drop}
@@ -5,15 +6,10 @@ use Rattle.fields.proofs.Laws.{as-bytes}
 use borrow.Author.Needs.{needs}
 use Rattle.fields.proofs.bytes.Statement.{statement}
 use Rattle.fields.proofs.bytes.Tie as tie
-use Rattle.fields.proofs.bytes.Reads as reads
-use Rattle.fields.proofs.bytes.Lts as lts
-use Rattle.fields.proofs.ignored.Reads as ignored-reads
 
--- src/lib.rt:75:5
 ignored-requires : tie.Need-ignored-requires
 ignored-requires c κs = search needs
 
--- src/lib.rt:72:1
 returns : tie.Need-returns
 returns c =
     let a = c .before .before .args in

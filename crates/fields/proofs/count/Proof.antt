@@ -1,47 +1,35 @@
+-- `fields::count` meets its contract. Assumes nothing.
 use native.Mathlib.Omega.{arith}
 use denote.Ref.{now}
-use mathlib.Core.Path.{refl, sym, ap, _∙_}
+use mathlib.Core.Path.{refl, sym, _∙_}
 use Rattle.meaning.specs.declared.Shape.the-variants.{Count}
 use Rattle.meaning.specs.Items.{span, rule, counted, before, holds}
 use Rattle.fields.proofs.Laws.{shape-in, shape-out, word-num}
 use borrow.Author.Needs.{needs}
 use Rattle.fields.proofs.count.Statement.{statement}
 use Rattle.fields.proofs.count.Tie as tie
-use Rattle.fields.proofs.count.Reads as reads
-use Rattle.fields.proofs.count.Lts as lts
-use Rattle.fields.proofs.left.Reads as left-reads
-use Rattle.fields.proofs.refuse.Reads as refuse-reads
-use Rattle.fields.proofs.width_of.Reads as width-of-reads
-use Rattle.fields.proofs.word_at.Reads as word-at-reads
 
--- src/lib.rt:180:9
 width-of-requires : tie.Need-width-of-requires
 width-of-requires c κs = search needs
 
--- src/lib.rt:181:8
 left-requires : tie.Need-left-requires
 left-requires c κs = search needs
 
--- src/lib.rt:182:9
 refuse-requires : tie.Need-refuse-requires
 refuse-requires c κs = search needs
 
--- src/lib.rt:182:9
 returns : tie.Need-returns
 unfolding span
 returns c =
     let a = c .before .before .before .before .before .args in
     c .refuse .ensures ∙ shape-out (Count (a .w)) (now (a .s)) (a .c) _ (sym (c .before .before .before .width-of .ensures .0)) (omega arith)
 
--- src/lib.rt:185:13
 add-t6 : tie.Need-add-t6
 add-t6 c = search needs
 
--- src/lib.rt:186:12
 word-at-requires : tie.Need-word-at-requires
 word-at-requires c κs = search needs
 
--- src/lib.rt:176:1
 returns-2 : tie.Need-returns-2
 unfolding span rule counted before holds
 returns-2 c =

@@ -1,55 +1,42 @@
+-- `fields::filled` meets its contract. Assumes nothing.
 use native.Mathlib.Omega.{arith}
 use denote.Ref.{now}
-use mathlib.Core.Path.{refl, sym, ap, _∙_}
+use mathlib.Core.Path.{_∙_}
 use Rattle.fields.proofs.Laws.{filled-none, filled-out, filled-bad, filled-in}
 use borrow.Author.Needs.{needs}
 use Rattle.fields.proofs.filled.Statement.{statement}
 use Rattle.fields.proofs.filled.Tie as tie
-use Rattle.fields.proofs.filled.Reads as reads
-use Rattle.fields.proofs.filled.Lts as lts
-use Rattle.fields.proofs.left.Reads as left-reads
-use Rattle.fields.proofs.refuse.Reads as refuse-reads
-use Rattle.wire.proofs.u64_at.Reads as u64-at-reads
 
--- src/lib.rt:221:9
 returns : tie.Need-returns
 returns c =
     let a = c .before .before .args in
     filled-none (now (a .s)) (a .c) (c .if1 .taken)
 
--- src/lib.rt:223:8
 left-requires : tie.Need-left-requires
 left-requires c κs = search needs
 
--- src/lib.rt:224:9
 refuse-requires : tie.Need-refuse-requires
 refuse-requires c κs = search needs
 
--- src/lib.rt:224:9
 returns-2 : tie.Need-returns-2
 returns-2 c =
     let a = c .before .before .before .before .before .args in
     c .refuse .ensures ∙ filled-out (now (a .s)) (a .c) (c .before .before .before .if1 .left) (omega arith)
 
--- src/lib.rt:226:15
 u64-at-requires : tie.Need-u64-at-requires
 u64-at-requires c κs = search needs
 
--- src/lib.rt:227:9
 refuse-requires-2 : tie.Need-refuse-requires-2
 refuse-requires-2 c κs = search needs
 
--- src/lib.rt:227:9
 returns-3 : tie.Need-returns-3
 returns-3 c =
     let a = c .before .before .before .before .before .before .before .args in
     c .refuse2 .ensures ∙ filled-bad (now (a .s)) (a .c) _ (c .before .before .before .before .before .if1 .left) (omega arith) (c .before .before .u64-at .ensures) (c .before .if3 .taken)
 
--- src/lib.rt:230:13
 add-t6 : tie.Need-add-t6
 add-t6 c = search needs
 
--- src/lib.rt:215:1
 returns-4 : tie.Need-returns-4
 returns-4 c =
     let a = c .before .before .before .before .before .before .args in

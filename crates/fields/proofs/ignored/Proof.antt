@@ -1,3 +1,4 @@
+-- `fields::ignored` meets its contract. Assumes nothing.
 use native.Mathlib.Omega.{arith}
 use denote.Ref.{now}
 use mathlib.Core.Path.{refl, _∙_}
@@ -7,31 +8,22 @@ use Rattle.fields.proofs.Laws.{shape-in, shape-out}
 use borrow.Author.Needs.{needs}
 use Rattle.fields.proofs.ignored.Statement.{statement}
 use Rattle.fields.proofs.ignored.Tie as tie
-use Rattle.fields.proofs.ignored.Reads as reads
-use Rattle.fields.proofs.ignored.Lts as lts
-use Rattle.fields.proofs.left.Reads as left-reads
-use Rattle.fields.proofs.refuse.Reads as refuse-reads
 
--- src/lib.rt:49:8
 left-requires : tie.Need-left-requires
 left-requires c κs = search needs
 
--- src/lib.rt:50:9
 refuse-requires : tie.Need-refuse-requires
 refuse-requires c κs = search needs
 
--- src/lib.rt:50:9
 returns : tie.Need-returns
 unfolding span
 returns c =
     let a = c .before .before .before .before .args in
     c .refuse .ensures ∙ shape-out (Ignored (a .k)) (now (a .s)) (a .c) _ refl (omega arith)
 
--- src/lib.rt:53:13
 add-t5 : tie.Need-add-t5
 add-t5 c = search needs
 
--- src/lib.rt:45:1
 returns-2 : tie.Need-returns-2
 unfolding span rule counted before
 returns-2 c =

@@ -1,3 +1,4 @@
+-- `fields::name` meets its contract. Assumes nothing.
 use native.Mathlib.Omega.{arith}
 use denote.Ref.{now}
 use mathlib.Core.Path.{_∙_}
@@ -5,50 +6,37 @@ use Rattle.fields.proofs.Laws.{name-in, name-early, name-none}
 use borrow.Author.Needs.{needs}
 use Rattle.fields.proofs.name.Statement.{statement}
 use Rattle.fields.proofs.name.Tie as tie
-use Rattle.fields.proofs.name.Reads as reads
-use Rattle.fields.proofs.name.Lts as lts
-use Rattle.fields.proofs.refuse.Reads as refuse-reads
-use Rattle.fields.proofs.zero_from.Reads as zero-from-reads
 
--- src/lib.rt:143:9
 refuse-requires : tie.Need-refuse-requires
 refuse-requires c κs = search needs
 
--- src/lib.rt:143:9
 returns : tie.Need-returns
 returns c =
     let a = c .before .before .before .args in
     c .refuse .ensures ∙ name-none (now (a .s)) (a .c) (omega arith)
 
--- src/lib.rt:145:9
 zero-from-requires : tie.Need-zero-from-requires
 zero-from-requires c κs = search needs
 
--- src/lib.rt:147:9
 refuse-requires-2 : tie.Need-refuse-requires-2
 refuse-requires-2 c κs = search needs
 
--- src/lib.rt:147:9
 returns-2 : tie.Need-returns-2
 returns-2 c =
     let a = c .before .before .before .before .before .args in
     c .refuse2 .ensures ∙ name-none (now (a .s)) (a .c) (omega arith)
 
--- src/lib.rt:149:12
 sub-if3 : tie.Need-sub-if3
 sub-if3 c = search needs
 
--- src/lib.rt:150:9
 refuse-requires-3 : tie.Need-refuse-requires-3
 refuse-requires-3 c κs = search needs
 
--- src/lib.rt:150:9
 returns-3 : tie.Need-returns-3
 returns-3 c =
     let a = c .before .before .before .before .before .before .args in
     c .refuse3 .ensures ∙ name-early (now (a .s)) (a .c) (omega arith)
 
--- src/lib.rt:138:1
 returns-4 : tie.Need-returns-4
 returns-4 c =
     let a = c .before .before .before .before .before .args in

@@ -1,3 +1,4 @@
+-- `fields::number` meets its contract. Assumes nothing.
 use denote.Ref.{now}
 use mathlib.Core.Path.{ap, _∙_}
 use Prim.Native.Nat.{ℕ}
@@ -8,20 +9,13 @@ use Rattle.fields.proofs.Laws.{as-number}
 use borrow.Author.Needs.{needs}
 use Rattle.fields.proofs.number.Statement.{statement}
 use Rattle.fields.proofs.number.Tie as tie
-use Rattle.fields.proofs.number.Reads as reads
-use Rattle.fields.proofs.number.Lts as lts
-use Rattle.fields.proofs.ignored.Reads as ignored-reads
-use Rattle.fields.proofs.width_of.Reads as width-of-reads
 
--- src/lib.rt:63:19
 width-of-requires : tie.Need-width-of-requires
 width-of-requires c κs = search needs
 
--- src/lib.rt:63:5
 ignored-requires : tie.Need-ignored-requires
 ignored-requires c κs = search needs
 
--- src/lib.rt:60:1
 returns : tie.Need-returns
 returns c =
     let a = c .before .before .before .args in

@@ -1,3 +1,4 @@
+-- `fields::registers` meets its contract. Assumes nothing.
 use denote.Ref.{now}
 use mathlib.Core.Path.{_∙_}
 use lib.ListN.{drop}
@@ -5,15 +6,10 @@ use Rattle.fields.proofs.Laws.{as-registers}
 use borrow.Author.Needs.{needs}
 use Rattle.fields.proofs.registers.Statement.{statement}
 use Rattle.fields.proofs.registers.Tie as tie
-use Rattle.fields.proofs.registers.Reads as reads
-use Rattle.fields.proofs.registers.Lts as lts
-use Rattle.fields.proofs.elements.Reads as elements-reads
 
--- src/lib.rt:117:5
 elements-requires : tie.Need-elements-requires
 elements-requires c κs = search needs
 
--- src/lib.rt:114:1
 returns : tie.Need-returns
 returns c =
     let a = c .before .before .args in

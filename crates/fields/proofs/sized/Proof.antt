@@ -1,51 +1,38 @@
+-- `fields::sized` meets its contract. Assumes nothing.
 use native.Mathlib.Omega.{arith}
 use denote.Ref.{now}
-use mathlib.Core.Path.{refl, sym, ap, _∙_}
+use mathlib.Core.Path.{refl, sym, _∙_}
 use Rattle.meaning.specs.declared.Shape.the-variants.{Size}
-use Rattle.meaning.specs.Items.{span, rule, counted, before, holds}
+use Rattle.meaning.specs.Items.{span, counted, before, holds}
 use Rattle.fields.proofs.Laws.{shape-in, shape-out, shape-bad, word-num, size-ok, size-bad}
 use borrow.Author.Needs.{needs}
 use Rattle.fields.proofs.sized.Statement.{statement}
 use Rattle.fields.proofs.sized.Tie as tie
-use Rattle.fields.proofs.sized.Reads as reads
-use Rattle.fields.proofs.sized.Lts as lts
-use Rattle.fields.proofs.left.Reads as left-reads
-use Rattle.fields.proofs.refuse.Reads as refuse-reads
-use Rattle.fields.proofs.width_of.Reads as width-of-reads
-use Rattle.fields.proofs.word_at.Reads as word-at-reads
 
--- src/lib.rt:198:9
 width-of-requires : tie.Need-width-of-requires
 width-of-requires c κs = search needs
 
--- src/lib.rt:199:8
 left-requires : tie.Need-left-requires
 left-requires c κs = search needs
 
--- src/lib.rt:200:9
 refuse-requires : tie.Need-refuse-requires
 refuse-requires c κs = search needs
 
--- src/lib.rt:200:9
 returns : tie.Need-returns
 unfolding span
 returns c =
     let a = c .before .before .before .before .before .args in
     c .refuse .ensures ∙ shape-out (Size (a .w)) (now (a .s)) (a .c) _ (sym (c .before .before .before .width-of .ensures .0)) (omega arith)
 
--- src/lib.rt:202:9
 word-at-requires : tie.Need-word-at-requires
 word-at-requires c κs = search needs
 
--- src/lib.rt:203:9
 add-if2 : tie.Need-add-if2
 add-if2 c = search needs
 
--- src/lib.rt:204:9
 refuse-requires-2 : tie.Need-refuse-requires-2
 refuse-requires-2 c κs = search needs
 
--- src/lib.rt:204:9
 returns-2 : tie.Need-returns-2
 unfolding span
 returns-2 c =
@@ -55,11 +42,9 @@ returns-2 c =
     c .refuse2 .ensures
     ∙ shape-bad (Size (a .w)) (now (a .s)) (a .c) _ (sym e) 32 (omega arith) (size-bad (a .w) (a .c) _ _ _ e p (λ q. c .before .if2 .taken (omega arith))) (λ q. omega arith)
 
--- src/lib.rt:207:13
 add-t7 : tie.Need-add-t7
 add-t7 c = search needs
 
--- src/lib.rt:194:1
 returns-3 : tie.Need-returns-3
 unfolding span counted before holds
 returns-3 c =

@@ -1,3 +1,4 @@
+-- `fields::word_at` meets its contract. Assumes nothing.
 use native.Mathlib.Omega.{arith}
 use denote.Ref.{now}
 use mathlib.Core.Path.{ap, sym, _∙_}
@@ -7,64 +8,46 @@ use Rattle.meaning.specs.declared.Width.{Width}
 use borrow.Author.Needs.{needs}
 use Rattle.fields.proofs.word_at.Statement.{statement}
 use Rattle.fields.proofs.word_at.Tie as tie
-use Rattle.fields.proofs.word_at.Reads as reads
-use Rattle.fields.proofs.word_at.Lts as lts
-use Rattle.wire.proofs.u16_at.Reads as u16-at-reads
-use Rattle.wire.proofs.u32_at.Reads as u32-at-reads
-use Rattle.wire.proofs.u64_at.Reads as u64-at-reads
-use Rattle.wire.proofs.u8_at.Reads as u8-at-reads
 
--- src/lib.rt:168:22
 enum-told : tie.Need-enum-told
 enum-told c = search needs
 
--- src/lib.rt:168:22
 u8-at-requires : tie.Need-u8-at-requires
 u8-at-requires c κs = omega (arith, ap bytes (c .enum-told .given .1))
 
--- src/lib.rt:169:22
 enum-told-2 : tie.Need-enum-told-2
 enum-told-2 c = search needs
 
--- src/lib.rt:169:22
 u16-at-requires : tie.Need-u16-at-requires
 u16-at-requires c κs = omega (arith, ap bytes (c .enum-told2 .given .1))
 
--- src/lib.rt:170:22
 enum-told-3 : tie.Need-enum-told-3
 enum-told-3 c = search needs
 
--- src/lib.rt:170:22
 u32-at-requires : tie.Need-u32-at-requires
 u32-at-requires c κs = omega (arith, ap bytes (c .enum-told3 .given .1))
 
--- src/lib.rt:171:22
 enum-told-4 : tie.Need-enum-told-4
 enum-told-4 c = search needs
 
--- src/lib.rt:171:22
 u64-at-requires : tie.Need-u64-at-requires
 u64-at-requires c κs = omega (arith, ap bytes (c .enum-told4 .given .1))
 
--- src/lib.rt:163:1
 returns : tie.Need-returns
 returns c =
     let a = c .before .before .before .before .args in
     c .u8-at .ensures .0 ∙ ap (λ (w : Width). numberAt (bytes w) (now (a .s)) (a .at)) (sym (c .before .enum-told .given .1))
 
--- src/lib.rt:163:1
 returns-2 : tie.Need-returns-2
 returns-2 c =
     let a = c .before .before .before .before .args in
     c .u16-at .ensures .0 ∙ ap (λ (w : Width). numberAt (bytes w) (now (a .s)) (a .at)) (sym (c .before .enum-told2 .given .1))
 
--- src/lib.rt:163:1
 returns-3 : tie.Need-returns-3
 returns-3 c =
     let a = c .before .before .before .before .args in
     c .u32-at .ensures .0 ∙ ap (λ (w : Width). numberAt (bytes w) (now (a .s)) (a .at)) (sym (c .before .enum-told3 .given .1))
 
--- src/lib.rt:163:1
 returns-4 : tie.Need-returns-4
 returns-4 c =
     let a = c .before .before .before .before .args in

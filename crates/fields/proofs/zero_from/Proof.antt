@@ -1,3 +1,4 @@
+-- `fields::zero_from` meets its contract. Assumes nothing.
 use native.Mathlib.Omega.{arith}
 use denote.Ref.{now}
 use mathlib.Core.Path.{_≡_, refl}
@@ -7,8 +8,6 @@ use Rattle.meaning.specs.Bytes.{zeroIn}
 use Rattle.fields.proofs.Laws.{zero-here, zero-on, zero-end}
 use Rattle.fields.proofs.zero_from.Statement.{statement}
 use Rattle.fields.proofs.zero_from.Tie as tie
-use Rattle.fields.proofs.zero_from.Reads as reads
-use Rattle.fields.proofs.zero_from.Lts as lts
 
 abbrev Inv-loop : tie.InvT-loop
 Inv-loop s at i₀ i = (i ≤ length s) × (at ≤ i) × (at + zeroIn (drop at s) ≡ i + zeroIn (drop i s))

@@ -1,0 +1,125 @@
+#!/usr/bin/env bash
+# Builds the bench and runs it. Everything goes to target/bench.
+#
+#   bench/run.sh                 all of it: the comparison, times, ring sizes, values, instructions
+#   bench/run.sh --short         the comparison alone: fails only if careful C and ollskuvan_drain differ (the gate)
+#   bench/run.sh --time | --sizes | --values | --instructions    one part, after a short comparison
+#   bench/run.sh --sanitize      the comparison with address and undefined-behaviour sanitizers on the C side
+#
+# Options before the part: --library FILE (an archive other than target/staticlib/libollskuvan.a),
+# --standin (the independent reader of tests/reader in its place: to try the bench itself, it says nothing of the library),
+# --rings N, --seed N (the comparison), --rounds N (the times).
+set -u
+cd "$(dirname "$0")/.." || exit 2
+out=target/bench
+library=target/staticlib/libollskuvan.a
+rings=20000 seed=1 rounds= part=all link=
+
+die() { echo "bench/run.sh: $*" >&2; exit 2; }
+
+while [ $# -gt 0 ]; do
+  case "$1" in
+    --library) [ $# -gt 1 ] || die "--library needs a file"; library=$2; shift ;;
+    --standin) library=standin ;;
+    --rings) [ $# -gt 1 ] || die "--rings needs a number"; rings=$2; shift ;;
+    --seed) [ $# -gt 1 ] || die "--seed needs a number"; seed=$2; shift ;;
+    --rounds) [ $# -gt 1 ] || die "--rounds needs a number"; rounds=$2; shift ;;
+    --short | --time | --sizes | --values | --instructions | --sanitize) part=${1#--} ;;
+    -h | --help) sed -n '2,13p' "$0" | sed 's/^# \{0,1\}//'; exit 0 ;;
+    *) die "unknown argument: $1 (see --help)" ;;
+  esac
+  shift
+done
+mkdir -p "$out" || exit 2
+
+if [ "$library" = standin ]; then
+  command -v rustc >/dev/null || die "the stand-in needs rustc"
+  rustc --edition 2021 -C opt-level=3 -C panic=abort --crate-type staticlib -o "$out/libstandin.a" tests/reader/standin.rs ||
+    die "the stand-in does not build"
+  library=$out/libstandin.a
+  link="-lpthread -ldl -lm"
+  echo "bench: the stand-in of tests/reader takes the place of libollskuvan.a"
+fi
+[ -f "$library" ] || die "no such archive: $library (make lib writes it)"
+
+# Debian's linux-perf-event-reader, if it is there: plain rustc, no network
+debian=/usr/share/cargo/registry
+build_other() {
+  local c crate
+  command -v rustc >/dev/null || { echo "rustc is missing"; return 1; }
+  for c in bitflags byteorder memchr linux-perf-event-reader; do
+    crate=$(ls -d "$debian/$c"-[0-9]* 2>/dev/null | tail -n 1)
+    [ -n "$crate" ] || { echo "no $c in $debian (Debian's librust-linux-perf-event-reader-dev)"; return 1; }
+    case "$c" in
+      bitflags) set -- --edition 2018 ;;
+      byteorder) set -- --edition 2018 --cfg 'feature="std"' ;;
+      memchr) set -- --edition 2018 --cfg 'feature="std"' --cfg memchr_runtime_simd --cfg memchr_runtime_sse2 \
+        --cfg memchr_runtime_sse42 --cfg memchr_runtime_avx ;;
+      *) set -- --edition 2021 --extern "bitflags=$out/other/libbitflags.rlib" --extern "byteorder=$out/other/libbyteorder.rlib" \
+        --extern "memchr=$out/other/libmemchr.rlib" ;;
+    esac
+    rustc "$@" -C opt-level=3 -C codegen-units=1 --crate-type rlib --crate-name "${c//-/_}" --cap-lints allow \
+      -o "$out/other/lib${c//-/_}.rlib" "$crate/src/lib.rs" 2>"$out/other/log" || { echo "$c does not build with this rustc"; return 1; }
+  done
+  rustc --edition 2021 -C opt-level=3 -C codegen-units=1 -C lto=fat -C panic=abort --crate-type cdylib -L "$out/other" \
+    --extern "linux_perf_event_reader=$out/other/liblinux_perf_event_reader.rlib" --extern "byteorder=$out/other/libbyteorder.rlib" \
+    -o "$out/other/libother.so" bench/other.rs 2>"$out/other/log" || { echo "bench/other.rs does not build"; return 1; }
+}
+other=
+case "$part" in
+  short | sanitize) ;; # the comparison does not need it
+  *)
+    mkdir -p "$out/other"
+    if [ -f "$out/other/libother.so" ] && [ "$out/other/libother.so" -nt bench/other.rs ] || why=$(build_other); then
+      other="-DWITH_OTHER"
+      link="$link -L$out/other -lother -Wl,-rpath,\$ORIGIN/other"
+    else
+      echo "bench: without linux-perf-event-reader: $why"
+    fi ;;
+esac
+
+flags="-std=c11 -O3 -g -Wall -Wextra -Werror -Iinclude $other"
+program=$out/bench
+if [ "$part" = sanitize ]; then
+  flags="-std=c11 -O1 -g -Wall -Wextra -Werror -Iinclude -fsanitize=address,undefined -fno-sanitize-recover=all"
+  program=$out/bench-sanitized
+fi
+# shellcheck disable=SC2086 # the flags are words
+gcc $flags -o "$program" bench/bench.c bench/compare.c bench/timing.c bench/made.c bench/careful.c bench/floor.c "$library" $link ||
+  die "the bench does not build"
+
+# instructions of one drain under callgrind, which repeat exactly
+instructions() {
+  local drain workload name log
+  command -v valgrind >/dev/null || { echo "bench: instructions skipped: valgrind is missing"; return 0; }
+  log=$out/callgrind.log
+  printf '\ninstructions a record, by callgrind (the last column: a call on an empty ring, fat samples\x27 attributes)\n'
+  printf '%-14s' ''
+  "$program" list | sed -n 's/^workload //p' | while read -r workload; do printf '%16s' "$workload"; done
+  printf '\n'
+  for drain in $("$program" list | sed -n 's/^drain //p'); do
+    case "$drain" in
+      memcpy) continue ;;
+      ours) name=ollskuvan_drain ;;
+      *) name=${drain//-/_}_drain ;;
+    esac
+    printf '%-14s' "$drain"
+    while read -r workload; do
+      valgrind --tool=callgrind --toggle-collect="$name" --callgrind-out-file=/dev/null "$program" once "$drain" "$workload" \
+        >"$log" 2>&1 </dev/null || { cat "$log"; die "callgrind failed"; }
+      awk '/^records/ { n = $2 } /Collected/ { c = $NF } END { printf "%16.1f", (n > 0 ? c / n : c) }' "$log"
+    done < <("$program" list | sed -n 's/^workload //p')
+    printf '\n'
+  done
+}
+
+case "$part" in
+  short) "$program" compare "$rings" "$seed" || exit 1 ;;
+  sanitize) "$program" compare "$rings" "$seed" || exit 1 ;;
+  *)
+    "$program" compare "$rings" "$seed" || die "no times: the drains differ"
+    case "$part" in all | time) "$program" time $rounds || exit 1 ;; esac
+    case "$part" in all | sizes) "$program" sizes $rounds || exit 1 ;; esac
+    case "$part" in all | values) "$program" values $rounds || exit 1 ;; esac
+    case "$part" in all | instructions) instructions || exit 1 ;; esac ;;
+esac

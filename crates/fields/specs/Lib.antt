@@ -1,0 +1,3 @@
+pub mod Told
+pub mod Misc
+pub mod Walks

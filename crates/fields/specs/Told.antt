@@ -1,0 +1,107 @@
+-- The words of an item as a struct by value, and that they are the item's words. Assumes nothing.
+use mathlib.Core.Path.{_≡_, refl, ap, _∙_}
+use mathlib.Core.List.{List, [], _∷_, _++_}
+use Prim.Native.Nat.{ℕ, _+_, _≤_, _<_}
+use native.Mathlib.Numerals.{add-one}
+use native.Mathlib.Omega.{arith}
+use lib.ListN.{length, getD, take, drop, length-append, drop-of-length-le}
+use lib.Seq.{drop-cons}
+use Rattle.meaning.specs.declared.Cursor.{Cursor}
+use Rattle.meaning.specs.declared.Item.{Item}
+use Rattle.meaning.specs.declared.Shape.{Shape}
+use Rattle.meaning.specs.declared.Shape.the-variants.{Number, Ignored, Count, Size, Times, Earlier, Registers, Filled, Abi, Limit, Listed, Bytes, Pad, Name}
+use Rattle.meaning.specs.Items.{step}
+use Rattle.meaning.specs.Values.{Slot, slotItem, tell, wordsOf, width, words}
+use Rattle.fields.specs.declared.Words.{Words}
+
+-- how many words there are, the first and the second; a word that is not there is 0
+abbrev pub toldOf : List ℕ → Words
+toldOf ws = record { n = length ws; first = getD ws 0 0; second = getD ws 1 0 }
+
+-- the words that a struct of them holds
+abbrev pub wordsIn : Words → List ℕ
+wordsIn t = take (t .n) (t .first ∷ t .second ∷ [])
+
+-- the number of words is the shape's, whatever they are
+pub tell-length : (sh : Shape) (s : Slot) → length (tell sh s) ≡ wordsOf sh
+unfolding tell
+tell-length (Number w) s = refl
+tell-length (Ignored k) s = refl
+tell-length (Count w) s = refl
+tell-length (Size w) s = refl
+tell-length (Times k) s = refl
+tell-length (Earlier k) s = refl
+tell-length Registers s = refl
+tell-length Filled s = refl
+tell-length (Abi m) s = refl
+tell-length (Limit k) s = refl
+tell-length (Listed k) s = refl
+tell-length (Bytes k) s = refl
+tell-length Pad s = refl
+tell-length Name s = refl
+
+pub words-most : (sh : Shape) → wordsOf sh ≤ 2
+unfolding tell
+words-most (Number w) = omega arith
+words-most (Ignored k) = omega arith
+words-most (Count w) = omega arith
+words-most (Size w) = omega arith
+words-most (Times k) = omega arith
+words-most (Earlier k) = omega arith
+words-most Registers = omega arith
+words-most Filled = omega arith
+words-most (Abi m) = omega arith
+words-most (Limit k) = omega arith
+words-most (Listed k) = omega arith
+words-most (Bytes k) = omega arith
+words-most Pad = omega arith
+words-most Name = omega arith
+
+-- up to two words are held whole
+pub held-whole : (ws : List ℕ) → length ws ≤ 2 → wordsIn (toldOf ws) ≡ ws
+held-whole [] h = refl
+held-whole (a ∷ []) h = refl
+held-whole (a ∷ b ∷ []) h = refl
+held-whole (a ∷ b ∷ c ∷ ws) h = absurd (omega arith)
+
+-- what a caller wants of `told`: the words themselves, and how many they are
+pub record Tells (r : Words) (sh : Shape) (s : Slot) : Type 0 where
+  pub held : wordsIn r ≡ tell sh s
+  pub count : r .n ≡ wordsOf sh
+  pub most : r .n ≤ 2
+
+pub told-words : (r : Words) (sh : Shape) (s : Slot) → r ≡ toldOf (tell sh s) → Tells r sh s
+told-words r sh s e =
+    let k : r .n ≡ wordsOf sh = ap (λ (t : Words). t .n) e ∙ tell-length sh s in
+    let m = words-most sh in
+    record {
+      held = ap (λ (t : Words). wordsIn t) e ∙ held-whole (tell sh s) (omega (arith, tell-length sh s, m));
+      count = k;
+      most = omega (arith, k, m);
+    }
+
+-- ---- the words of a layout's items, item by item
+
+pub words-turn : (xs : List ℕ) (is : List Item) (k : ℕ) (d : Item) (c : Cursor) → k < length is
+    → words xs (drop k is) c ≡ tell (getD is k d .shape) (slotItem xs (getD is k d) c) ++ words xs (drop (k + 1) is) (step xs (getD is k d) c)
+unfolding words
+words-turn xs is k d c h = rw (drop-cons is k d h, add-one k)
+
+pub words-over : (xs : List ℕ) (is : List Item) (k : ℕ) (c : Cursor) → length is ≤ k → words xs (drop k is) c ≡ []
+unfolding words
+words-over xs is k c h = rw (drop-of-length-le is h)
+
+pub width-turn : (is : List Item) (k : ℕ) (d : Item) → k < length is → width (drop k is) ≡ wordsOf (getD is k d .shape) + width (drop (k + 1) is)
+unfolding width
+width-turn is k d h = rw (drop-cons is k d h, add-one k)
+
+-- a layout has as many words as its items, whatever the bytes
+pub words-length : (xs : List ℕ) (is : List Item) (c : Cursor) → length (words xs is c) ≡ width is
+unfolding words width
+words-length xs [] c = refl
+words-length xs (i ∷ is) c =
+    let s : Slot = slotItem xs i c in
+    let a = length-append (tell (i .shape) s) (words xs is (step xs i c)) in
+    let b = tell-length (i .shape) s in
+    let r = words-length xs is (step xs i c) in
+    omega (arith, a, b, r)

@@ -1,0 +1,51 @@
+-- What the reader's contracts cite: a field at a place, with the place after it; a place moved forward; the header, and a thread's two numbers.
+-- Assumes nothing: these are definitions.
+use Prim.Native.Nat.{ℕ, _+_}
+use mathlib.Core.Bool.{cond}
+use mathlib.Core.List.{List}
+use lib.Dec.{leb}
+use lib.ListN.{length}
+use Rattle.meaning.specs.Bytes.{numberAt}
+use Rattle.meaning.specs.Refusals.{orElse}
+use Rattle.reader.specs.declared.Field.{Field}
+use Rattle.reader.specs.declared.Header.{Header}
+use Rattle.reader.specs.declared.Thread.{Thread}
+
+abbrev pub taken : ℕ → ℕ → Field
+taken value next = record { why = 0; value = value; next = next }
+
+-- "30: a field would pass the record's end"; the place stays
+abbrev pub passes : ℕ → Field
+passes at = record { why = 30; value = 0; next = at }
+
+-- the field of k bytes at a place
+unfoldable pub fieldAt : ℕ → List ℕ → ℕ → Field
+fieldAt k xs at = cond (leb (at + k) (length xs)) (taken (numberAt k xs at) (at + k)) (passes at)
+
+-- n bytes on, and at most at the end
+unfoldable pub forwardAt : List ℕ → ℕ → ℕ → ℕ
+forwardAt xs at n = cond (leb (at + n) (length xs)) (at + n) (length xs)
+
+-- "Header: type u32, misc u16, size u16", field after field; the first refusal stays
+abbrev pub headerOf : Field → Field → Field → Header
+headerOf kind misc size = record {
+  why = orElse (kind .why) (orElse (misc .why) (size .why));
+  kind = kind .value;
+  misc = misc .value;
+  size = size .value;
+  next = size .next;
+}
+
+abbrev pub headerAt : List ℕ → ℕ → Header
+headerAt xs at =
+    let kind = fieldAt 4 xs at in
+    let misc = fieldAt 2 xs (kind .next) in
+    let size = fieldAt 2 xs (misc .next) in
+    headerOf kind misc size
+
+-- "pid, tid u32", field after field
+abbrev pub threadOf : Field → Field → Thread
+threadOf pid tid = record { why = orElse (pid .why) (tid .why); pid = pid .value; tid = tid .value; next = tid .next }
+
+abbrev pub threadAt : List ℕ → ℕ → Thread
+threadAt xs at = let pid = fieldAt 4 xs at in threadOf pid (fieldAt 4 xs (pid .next))

@@ -1,0 +1,80 @@
+/*
+ * The controller's own part: what the library leaves to its caller. Opening
+ * events, mapping the ring, the two memory barriers, and ring images in files.
+ */
+#ifndef EXAMPLES_PERF_RING_H
+#define EXAMPLES_PERF_RING_H
+
+#include <stdbool.h>
+#include <stddef.h>
+#include <stdint.h>
+#include <sys/types.h>
+
+/* One attribute set serves a whole ring. */
+struct ring_attributes {
+    uint64_t sample_type, read_format, user_mask, interrupt_mask;
+    uint32_t sample_id_all, edition;
+};
+
+/* ---- a live ring ---- */
+
+/* What is wanted of the kernel, for one cpu. */
+struct perf_want {
+    int cpu;
+    size_t pages;  /* a power of two; 4 pages are the longest ring that ringdump takes */
+    pid_t program; /* names, forks and mappings of this process and its children alone; 0: of everyone */
+    bool clock;    /* samples of the cpu clock, 1,000 a second, beside the switches */
+    uint32_t edition;
+};
+
+struct perf_ring {
+    struct ring_attributes attributes;
+    int cpu;
+    const uint8_t *bytes; /* the data area alone */
+    size_t length;
+    /* from here on perf_ring.c's own */
+    int fd, program_fd;
+    void *mapped;
+    size_t mapped_length;
+};
+
+/* Room for the reason of a failure. */
+enum { WHY_ROOM = 256 };
+
+/* Opens the events, disabled, and maps the ring. The switches of the whole cpu
+ * and what is wanted of the program go into one ring. False: nothing is open,
+ * and why says in words what the kernel refused. */
+bool perf_ring_open(struct perf_ring *ring, const struct perf_want *want, char why[WHY_ROOM]);
+bool perf_ring_start(const struct perf_ring *ring, char why[WHY_ROOM]);
+bool perf_ring_stop(const struct perf_ring *ring, char why[WHY_ROOM]);
+void perf_ring_close(struct perf_ring *ring);
+
+/* The head, and behind it the barrier that the manual page asks for: the bytes
+ * up to this head may then be read. */
+uint64_t perf_ring_head(const struct perf_ring *ring);
+uint64_t perf_ring_tail(const struct perf_ring *ring);
+/* All reads are done before the kernel sees the new tail. */
+void perf_ring_give_back(const struct perf_ring *ring, uint64_t tail);
+
+/* The cpus that are online, in order. Returns their number, or 0 if it cannot
+ * be told. At most `most` are stored. */
+size_t cpus_online(int *cpus, size_t most);
+
+/* ---- a saved ring: what ringdump takes ---- */
+
+struct ring_image {
+    struct ring_attributes attributes;
+    uint64_t head, tail;
+    uint8_t *bytes; /* to be freed */
+    size_t length;
+};
+
+enum { IMAGE_HEADER = 50 };
+/* ringdump takes no longer ring. */
+enum { RINGDUMP_RING_MAX = 16384 };
+
+bool ring_image_load(const char *path, struct ring_image *image, char why[WHY_ROOM]);
+bool ring_image_save(const char *path, const struct ring_attributes *attributes, uint64_t head, uint64_t tail,
+    const uint8_t *bytes, size_t length, char why[WHY_ROOM]);
+
+#endif
