@@ -191,6 +191,7 @@ static void take_body(struct reading *r)
     case OLLSKUVAN_TYPE_LOST:
     case OLLSKUVAN_TYPE_LOST_SAMPLES:
         e->kind = EVENT_LOST;
+        e->since = r->source->last_time; /* they were lost after the record before this one */
         e->number = f[OLLSKUVAN_TYPE] == OLLSKUVAN_TYPE_LOST ? f[OLLSKUVAN_LOST_LOST] : f[OLLSKUVAN_LOST_SAMPLES_LOST];
         r->source->lost += e->number;
         r->story->lost += e->number;
@@ -493,6 +494,33 @@ struct last_out {
     bool preempted, open;
 };
 
+/* Records were lost at some moment of it: it may be two waits, or more. */
+static bool is_unsure(const struct story *story, const struct wait *wait)
+{
+    for (size_t i = 0; i < story->event_count && story->lost != 0; i++) {
+        const struct event *e = &story->events[i];
+        if (e->kind == EVENT_LOST && e->timed && e->since < wait->to && e->time > wait->from)
+            return true;
+    }
+    return false;
+}
+
+/* What was in the way of a wait, and what that says of its thread. */
+static void weigh(struct story *story, struct wait *wait)
+{
+    struct thread *thread = story_thread(story, wait->who.tid);
+    wait->unsure = is_unsure(story, wait);
+    if (wait->unsure) {
+        thread->unsure++;
+        return;
+    }
+    wait->in_the_way = wait->preempted ? wait->to - wait->from : busy_before(story, wait);
+    if (wait->in_the_way > thread->worst)
+        thread->worst = wait->in_the_way;
+    if (wait->to - wait->from > thread->longest_off)
+        thread->longest_off = wait->to - wait->from;
+}
+
 /* Where each thread was switched out last; sorted by tid as the threads are. */
 static void find_waits(struct story *story)
 {
@@ -519,15 +547,8 @@ static void find_waits(struct story *story)
         }
     }
     free(outs);
-    for (size_t i = 0; i < story->wait_count; i++) {
-        struct wait *wait = &story->waits[i];
-        struct thread *thread = story_thread(story, wait->who.tid);
-        wait->in_the_way = wait->preempted ? wait->to - wait->from : busy_before(story, wait);
-        if (wait->in_the_way > thread->worst)
-            thread->worst = wait->in_the_way;
-        if (wait->to - wait->from > thread->longest_off)
-            thread->longest_off = wait->to - wait->from;
-    }
+    for (size_t i = 0; i < story->wait_count; i++)
+        weigh(story, &story->waits[i]);
 }
 
 /* ---- the whole ---- */

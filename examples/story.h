@@ -44,6 +44,7 @@ struct event {
     uint64_t sequence;  /* in its ring */
     bool timed, on_cpu, flag, text_too_long;
     uint64_t time;      /* its own; else that of the record before it */
+    uint64_t since;     /* LOST: the time of the record before it */
     uint32_t cpu, type, answer;
     struct whom who, other;
     uint64_t number;
@@ -65,6 +66,7 @@ struct wait {
     uint64_t from, to;
     uint32_t cpu;         /* where it came back */
     bool preempted;       /* it would have run on */
+    bool unsure;          /* records were lost meanwhile: not told */
     uint64_t in_the_way;  /* how long others ran there that it may have waited for */
 };
 
@@ -73,6 +75,7 @@ struct thread {
     const char *name; /* the last one */
     uint64_t ran, worst; /* ns on a cpu; the longest in_the_way */
     uint64_t longest_off;
+    size_t unsure; /* waits that are not told */
 };
 
 /* One ring of the story. */

@@ -128,16 +128,22 @@ static bool worse(const struct thread *left, const struct thread *right)
     return left->longest_off > right->longest_off;
 }
 
-static bool is_named(const struct story *story, const struct thread *thread, const char *name)
+/* Which threads ever had this name. To be freed. */
+static bool *ever_named(const struct story *story, const char *name)
 {
-    if (thread->name != NULL && strcmp(thread->name, name) == 0)
-        return true;
+    bool *named = calloc(story->thread_count + 1, sizeof *named);
+    if (named == NULL) {
+        fprintf(stderr, "out of memory\n");
+        exit(1);
+    }
+    for (size_t i = 0; i < story->thread_count; i++)
+        named[i] = story->threads[i].name != NULL && strcmp(story->threads[i].name, name) == 0;
     for (size_t i = 0; i < story->event_count; i++) {
         const struct whom *who = &story->events[i].who;
-        if (who->known && who->tid == thread->tid && who->name != NULL && strcmp(who->name, name) == 0)
-            return true;
+        if (who->known && who->name != NULL && strcmp(who->name, name) == 0)
+            named[story_thread(story, who->tid) - story->threads] = true;
     }
-    return false;
+    return named;
 }
 
 static bool is_tid(const struct thread *thread, const char *watch)
@@ -151,22 +157,24 @@ bool judge(const struct story *story, const char *watch, struct verdict *v)
 {
     memset(v, 0, sizeof *v);
     v->chosen_by_user = watch != NULL;
+    bool *named = watch != NULL ? ever_named(story, watch) : NULL;
     for (size_t i = 0; i < story->thread_count; i++) {
         const struct thread *thread = &story->threads[i];
         if (thread->tid == 0 || thread->tid == TID_ENDED)
             continue;
-        if (watch != NULL && !is_tid(thread, watch) && !is_named(story, thread, watch))
+        if (watch != NULL && !is_tid(thread, watch) && !named[i])
             continue;
         if (watch == NULL && thread->longest_off == 0)
             continue;
         if (worse(thread, v->thread))
             v->thread = thread;
     }
+    free(named);
     if (v->thread == NULL)
         return watch == NULL;
     for (size_t i = 0; i < story->wait_count; i++) {
         const struct wait *w = &story->waits[i];
-        if (w->who.tid != v->thread->tid)
+        if (w->who.tid != v->thread->tid || w->unsure)
             continue;
         if (v->worst == NULL || w->in_the_way > v->worst->in_the_way ||
             (w->in_the_way == v->worst->in_the_way && w->to - w->from > v->worst->to - v->worst->from))

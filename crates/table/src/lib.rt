@@ -157,3 +157,11 @@ pub fn item_of(a: Attributes, misc: u64, kind: u64, row: u16) -> Item
         shape: shape_of(a, row),
     }
 }
+
+// The item of the row at a place of the table.
+pub fn item_at(a: Attributes, misc: u64, kind: u64, k: usize) -> Item
+    requires { ⌜ k < 129 ⌝ }
+    ensures { λ r. ⌜ r ≡ itemOf a misc kind (getD rows k 0) ⌝ }
+{
+    item_of(a, misc, kind, row_at(k))
+}

@@ -1,0 +1,84 @@
+// What C calls: numbers and byte slices in, numbers out. Each entry is thin and has the whole contract of what it calls; the
+// numbers of 32 bits are not narrowed, so edition 257 is no edition and any sample_id_all but 0 is set.
+ghost use mathlib.Core.Path.{_≡_};
+ghost use Rattle.meaning.specs.Editions.{editions};
+ghost use Rattle.meaning.specs.Records.{check};
+ghost use Rattle.meaning.specs.Drain.{told, drain};
+ghost use Rattle.meaning.specs.Names.{nameAnswer, nameBuffer};
+ghost use Rattle.ollskuvan.specs.Given.{given};
+use meaning::Attributes;
+use meaning::Drained;
+
+fn attributes(sample: u64, format: u64, all: u32, user: u64, interrupt: u64) -> Attributes
+    ensures { λ r. ⌜ r ≡ given sample format all user interrupt ⌝ }
+{
+    Attributes {
+        sample,
+        format,
+        all: all != 0,
+        user,
+        interrupt,
+    }
+}
+
+#[no_mangle]
+pub extern "C" fn ollskuvan_drain(
+    ring: &[u8],
+    head: u64,
+    tail: u64,
+    sample: u64,
+    format: u64,
+    all: u32,
+    user: u64,
+    interrupt: u64,
+    edition: u32,
+    budget: u64,
+    scratch: &mut [u8],
+    journal: &mut [u8],
+) -> Drained
+    ensures { λ r. ⌜ r ≡ told (drain editions edition (given sample format all user interrupt) (now (ring .entry)) head tail budget (now (journal .entry)) (now (scratch .entry))) ⌝ }
+    ensures { λ _. ⌜ now (journal .exit) ≡ drain editions edition (given sample format all user interrupt) (now (ring .entry)) head tail budget (now (journal .entry)) (now (scratch .entry)) .state .journal ⌝ }
+    ensures { λ _. ⌜ now (scratch .exit) ≡ drain editions edition (given sample format all user interrupt) (now (ring .entry)) head tail budget (now (journal .entry)) (now (scratch .entry)) .state .scratch ⌝ }
+{
+    let a = attributes(sample, format, all, user, interrupt);
+    drain::drain(
+        ring,
+        head,
+        tail,
+        edition as u64,
+        a,
+        budget,
+        scratch,
+        journal,
+    )
+}
+
+// The parameter is not named `record`, which is a word of the proofs' language.
+#[no_mangle]
+pub extern "C" fn ollskuvan_check(
+    bytes: &[u8],
+    sample: u64,
+    format: u64,
+    all: u32,
+    user: u64,
+    interrupt: u64,
+    edition: u32,
+) -> u32
+    ensures { λ r. ⌜ r ≡ check editions edition (given sample format all user interrupt) (now (bytes .entry)) ⌝ }
+{
+    let a = attributes(sample, format, all, user, interrupt);
+    record::check(bytes, edition as u64, a) as u32
+}
+
+#[no_mangle]
+pub extern "C" fn ollskuvan_copy_name(
+    bytes: &[u8],
+    place: u64,
+    count: u64,
+    buffer: &mut [u8],
+) -> u32
+    ensures { λ r. ⌜ r ≡ nameAnswer (now (bytes .entry)) place count (now (buffer .entry)) ⌝ }
+    ensures { λ _. ⌜ now (buffer .exit) ≡ nameBuffer (now (bytes .entry)) place count (now (buffer .entry)) ⌝ }
+{
+    names::copy_name(bytes, place, count, buffer) as u32
+}

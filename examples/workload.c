@@ -1,0 +1,295 @@
+/*
+ * Programs to record.
+ *
+ *   workload known FACTS    known names, forks, threads, mappings and switches; what it did goes to the file FACTS,
+ *                           a line each, for live_test.sh to compare with the report
+ *   workload kiln           a kiln's heating steps every 10 ms, one of which a backup delays
+ */
+#define _GNU_SOURCE
+#include <errno.h>
+#include <fcntl.h>
+#include <pthread.h>
+#include <sched.h>
+#include <stdbool.h>
+#include <stdint.h>
+#include <stdio.h>
+#include <stdlib.h>
+#include <string.h>
+#include <sys/mman.h>
+#include <sys/prctl.h>
+#include <sys/resource.h>
+#include <sys/stat.h>
+#include <sys/syscall.h>
+#include <sys/wait.h>
+#include <time.h>
+#include <unistd.h>
+
+static void die(const char *what)
+{
+    fprintf(stderr, "workload: %s: %s\n", what, strerror(errno));
+    exit(1);
+}
+
+static void call_me(const char *name)
+{
+    if (prctl(PR_SET_NAME, name) != 0)
+        die("prctl");
+}
+
+static uint64_t now_ns(void)
+{
+    struct timespec t;
+    clock_gettime(CLOCK_MONOTONIC, &t);
+    return (uint64_t)t.tv_sec * 1000000000u + (uint64_t)t.tv_nsec;
+}
+
+static void sleep_until(uint64_t ns)
+{
+    struct timespec t = { (time_t)(ns / 1000000000u), (long)(ns % 1000000000u) };
+    while (clock_nanosleep(CLOCK_MONOTONIC, TIMER_ABSTIME, &t, NULL) == EINTR)
+        ;
+}
+
+/* Processor time, so that a pause does not shorten the work. */
+static void work(uint64_t ns)
+{
+    struct timespec t;
+    uint64_t begin = 0, now = 0;
+    do {
+        clock_gettime(CLOCK_THREAD_CPUTIME_ID, &t);
+        now = (uint64_t)t.tv_sec * 1000000000u + (uint64_t)t.tv_nsec;
+        if (begin == 0)
+            begin = now;
+    } while (now - begin < ns);
+}
+
+static pid_t wait_for(pid_t pid)
+{
+    int status;
+    if (waitpid(pid, &status, 0) != pid || !WIFEXITED(status) || WEXITSTATUS(status) != 0) {
+        fprintf(stderr, "workload: a child failed\n");
+        exit(1);
+    }
+    return pid;
+}
+
+/* ---- known ---- */
+
+enum { CHILDREN = 3, NAPS = 40 };
+
+static FILE *facts;
+
+static void map_file(const char *path)
+{
+    int fd = open(path, O_RDONLY | O_CLOEXEC);
+    if (fd < 0)
+        die(path);
+    void *at = mmap(NULL, 4096, PROT_READ | PROT_EXEC, MAP_PRIVATE, fd, 0);
+    if (at == MAP_FAILED)
+        die("mmap");
+    munmap(at, 4096);
+    close(fd);
+}
+
+static void copy_file(const char *from, const char *to)
+{
+    char buffer[65536];
+    int in = open(from, O_RDONLY | O_CLOEXEC), out = open(to, O_WRONLY | O_CREAT | O_TRUNC | O_CLOEXEC, 0755);
+    ssize_t count;
+    if (in < 0 || out < 0)
+        die(to);
+    while ((count = read(in, buffer, sizeof buffer)) > 0)
+        if (write(out, buffer, (size_t)count) != count)
+            die(to);
+    if (count < 0)
+        die(from);
+    close(in);
+    close(out);
+}
+
+static void *thread_main(void *argument)
+{
+    call_me("glaze-thread");
+    *(pid_t *)argument = (pid_t)syscall(SYS_gettid);
+    usleep(2000);
+    return NULL;
+}
+
+static void run_thread(void)
+{
+    pthread_t thread;
+    pid_t tid = 0;
+    if (pthread_create(&thread, NULL, thread_main, &tid) != 0)
+        die("pthread_create");
+    pthread_join(thread, NULL);
+    fprintf(facts, "thread %d glaze-thread\n", tid);
+}
+
+static void run_children(void)
+{
+    for (int i = 0; i < CHILDREN; i++) {
+        char name[16];
+        snprintf(name, sizeof name, "kiln-child-%d", i);
+        fflush(facts);
+        pid_t pid = fork();
+        if (pid < 0)
+            die("fork");
+        if (pid == 0) {
+            call_me(name);
+            work(1000000);
+            _exit(0);
+        }
+        fprintf(facts, "child %d %s\n", wait_for(pid), name);
+    }
+}
+
+static long switches(void)
+{
+    struct rusage usage;
+    getrusage(RUSAGE_THREAD, &usage);
+    return usage.ru_nvcsw + usage.ru_nivcsw;
+}
+
+/* Naps between two names. The kernel's own count of switches, taken within the
+ * names and around them, bounds what a recording may show. */
+static void run_naps(void)
+{
+    long before = switches();
+    call_me("naps-begin");
+    long first = switches();
+    for (int i = 0; i < NAPS; i++)
+        usleep(1000);
+    long last = switches();
+    call_me("naps-end");
+    fprintf(facts, "naps %ld %ld\n", last - first, switches() - before);
+}
+
+static void run_maps(const char *own, const char *facts_path)
+{
+    char file[512], longer[512];
+    map_file(own);
+    /* a name of 72 bytes is the longest that the report shows, 73 is too long */
+    const char *slash = strrchr(facts_path, '/');
+    int folder = slash != NULL ? (int)(slash - facts_path) : 0;
+    char real[4096];
+    char given[512];
+    snprintf(given, sizeof given, "%.*s", folder > 0 ? folder : 1, folder > 0 ? facts_path : ".");
+    if (realpath(given, real) == NULL)
+        die(given);
+    size_t length = strlen(real) + 1;
+    if (length >= 72) {
+        fprintf(facts, "long skipped\n");
+        return;
+    }
+    snprintf(file, sizeof file, "%s/%.*s", real, (int)(72 - length),
+        "cone-6-oxidation-firing-profile-of-the-big-kiln-in-the-yard-behind-the-old-school");
+    snprintf(longer, sizeof longer, "%s/%.*s", real, (int)(73 - length),
+        "dune-6-oxidation-firing-profile-of-the-big-kiln-in-the-yard-behind-the-old-school");
+    copy_file(own, file);
+    copy_file(own, longer);
+    map_file(file);
+    map_file(longer);
+    unlink(file);
+    unlink(longer);
+    fprintf(facts, "mapped %s\nlong %zu\n", file, strlen(longer));
+}
+
+static int known(const char *facts_path)
+{
+    char own[4096];
+    ssize_t length = readlink("/proc/self/exe", own, sizeof own - 1);
+    if (length < 0)
+        die("/proc/self/exe");
+    own[length] = '\0';
+    facts = fopen(facts_path, "w");
+    if (facts == NULL)
+        die(facts_path);
+    fprintf(facts, "pid %d\nprogram %s\n", getpid(), own);
+    call_me("kiln-first");
+    call_me("kiln-second");
+    fprintf(facts, "name kiln-first\nname kiln-second\n");
+    run_children();
+    run_thread();
+    run_naps();
+    run_maps(own, facts_path);
+    fprintf(facts, "end\n");
+    if (fclose(facts) != 0)
+        die(facts_path);
+    return 0;
+}
+
+/* ---- kiln ---- */
+
+#define MS UINT64_C(1000000)
+
+/* On one cpu, before everybody whose rank is lower. Without the right to that it goes on as it is. */
+static void take_place(int cpu, int rank)
+{
+    cpu_set_t set;
+    struct sched_param param = { .sched_priority = rank };
+    CPU_ZERO(&set);
+    CPU_SET((size_t)cpu, &set);
+    if (sched_setaffinity(0, sizeof set, &set) != 0)
+        fprintf(stderr, "workload: not on one cpu: %s\n", strerror(errno));
+    if (rank > 0 && sched_setscheduler(0, SCHED_FIFO, &param) != 0)
+        fprintf(stderr, "workload: no rank: %s\n", strerror(errno));
+}
+
+static pid_t helper(const char *name, int cpu, int rank, uint64_t at, uint64_t ns)
+{
+    pid_t pid = fork();
+    if (pid < 0)
+        die("fork");
+    if (pid == 0) {
+        call_me(name);
+        take_place(cpu, rank);
+        sleep_until(at);
+        work(ns);
+        _exit(0);
+    }
+    return pid;
+}
+
+static void map_profile(void)
+{
+    const char *path = "/tmp/kiln/cone-6.profile";
+    mkdir("/tmp/kiln", 0755);
+    int fd = open(path, O_RDWR | O_CREAT | O_TRUNC | O_CLOEXEC, 0644);
+    if (fd < 0 || ftruncate(fd, 4096) != 0)
+        die(path);
+    close(fd);
+    map_file(path);
+    unlink(path);
+    rmdir("/tmp/kiln");
+}
+
+static int kiln(void)
+{
+    enum { STEPS = 9 };
+    long cpus = sysconf(_SC_NPROCESSORS_ONLN);
+    int cpu = cpus > 1 ? 1 : 0;
+    call_me("kiln");
+    uint64_t start = now_ns() + 5 * MS;
+    pid_t backup = helper("backup", cpu, 20, start + 31 * MS, 41 * MS);
+    pid_t logger = helper("logger", 0, 10, start + 12 * MS, 6 * MS);
+    take_place(cpu, 10);
+    for (int step = 0; step < STEPS; step++) {
+        sleep_until(start + (uint64_t)step * 10 * MS);
+        work(3 * MS); /* the heating step */
+        if (step == 1)
+            map_profile();
+    }
+    wait_for(backup);
+    wait_for(logger);
+    return 0;
+}
+
+int main(int argc, char **argv)
+{
+    if (argc == 3 && strcmp(argv[1], "known") == 0)
+        return known(argv[2]);
+    if (argc == 2 && strcmp(argv[1], "kiln") == 0)
+        return kiln();
+    fprintf(stderr, "usage: workload known FACTS | workload kiln\n");
+    return 2;
+}
