@@ -19,7 +19,7 @@ static void ms_in_words(char out[24], uint64_t ns)
 static void print_row(FILE *out, const char *time, const char *cpu, const char *what, const char *who, const char *detail)
 {
     char row[LINE_ROOM];
-    int length = snprintf(row, sizeof row, "%*s %3s  %-8s %-33s", TIME_WIDTH, time, cpu, what, who);
+    int length = snprintf(row, sizeof row, "%*s %3s  %-8s %-29s", TIME_WIDTH, time, cpu, what, who);
     size_t used = length < 0 || length >= LINE_ROOM ? LINE_ROOM : (size_t)length;
     if (used < LINE_ROOM && used + 1 + strlen(detail) <= COLUMNS) {
         while (detail[0] == '\0' && used > 0 && row[used - 1] == ' ')
@@ -57,21 +57,20 @@ static const struct wait *wait_that_ends(const struct story *story, const struct
     return NULL;
 }
 
+/* Switching out tells who comes next; switching in how long it took, as far as that is known. */
 static void describe_switch(char detail[DETAIL_ROOM], const struct story *story, const struct event *e)
 {
     char other[WHO_ROOM], ms[24];
     who_in_words(other, &e->other);
-    detail[0] = '\0';
     if (e->kind == EVENT_OUT) {
-        snprintf(detail, DETAIL_ROOM, "%s%s%s", e->flag ? "preempted" : "gave the cpu up", e->other.known ? ", next " : "",
+        snprintf(detail, DETAIL_ROOM, "%s%s%s", e->flag ? "preempted" : "sleeps", e->other.known ? ", next " : "",
             e->other.known ? other : "");
         return;
     }
     const struct wait *wait = e->timed && e->who.known ? wait_that_ends(story, e) : NULL;
     if (wait != NULL) {
         ms_in_words(ms, wait->to - wait->from);
-        snprintf(detail, DETAIL_ROOM, "%s %s ms%s%s", wait->preempted ? "waited" : "away", ms, e->other.known ? ", after " : "",
-            e->other.known ? other : "");
+        snprintf(detail, DETAIL_ROOM, "%s %s ms", wait->preempted ? "waited" : "slept", ms);
     } else if (e->other.known) {
         snprintf(detail, DETAIL_ROOM, "after %s", other);
     }
@@ -145,7 +144,7 @@ static void print_build_id(FILE *out, const struct event *e)
 
 static void print_table(FILE *out, const struct story *story)
 {
-    fprintf(out, "%*s %3s  %-8s %-33s %s\n", TIME_WIDTH, "time ms", "cpu", "what", "who", "");
+    fprintf(out, "%*s %3s  %-8s %-29s %s\n", TIME_WIDTH, "time ms", "cpu", "what", "who", "how");
     for (size_t i = 0; i < story->event_count; i++) {
         const struct event *e = &story->events[i];
         char time[24] = "-", cpu[16] = "-", who[WHO_ROOM], detail[DETAIL_ROOM];
@@ -207,7 +206,7 @@ static void print_wait(FILE *out, const struct story *story, const struct wait *
     char at[24], away[24], ran[24], who[WHO_ROOM];
     ms_in_words(at, w->from - story->first_time);
     ms_in_words(away, w->to - w->from);
-    fprintf(out, "%*s %10s %4u  %-13s", TIME_WIDTH, at, away, w->cpu, w->preempted ? "preempted" : "gave it up");
+    fprintf(out, "%*s %10s %4u  %-13s", TIME_WIDTH, at, away, w->cpu, w->preempted ? "preempted" : "slept");
     size_t count = shares_of(story, w, shares);
     if (count == 0)
         fprintf(out, " nobody else is seen there\n");
@@ -241,7 +240,7 @@ static void print_waits(FILE *out, const struct story *story, const struct verdi
     qsort(list, shown, sizeof *list, by_from);
     char all[24];
     ms_in_words(all, sum);
-    fprintf(out, "it was switched out and in again %zu times, %s ms in all%s\n", count, all,
+    fprintf(out, "it was switched out and in again %zu times, away %s ms in all%s\n", count, all,
         shown < count ? "; the worst ten:" : ":");
     fprintf(out, "%*s %10s %4s  %-13s %s\n", TIME_WIDTH, "from ms", "away ms", "cpu", "how", "who ran there meanwhile");
     for (size_t i = 0; i < shown; i++)

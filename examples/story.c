@@ -335,8 +335,11 @@ static void give_names(struct story *story)
         struct event *e = &story->events[i];
         e->other.name = name_of(story, &e->other);
         e->who.name = name_of(story, &e->who);
-        if (e->kind == EVENT_NAME && e->who.known)
-            seen(story, e->who.pid, e->who.tid)->name = e->text != NULL ? e->text : "(name too long)";
+        if (e->kind == EVENT_NAME && e->who.known) {
+            struct thread *thread = seen(story, e->who.pid, e->who.tid);
+            thread->name = e->text != NULL ? e->text : "(name too long)";
+            thread->told = true;
+        }
         if (e->kind == EVENT_FORK && e->other.name != NULL && e->who.known && e->who.tid != 0) {
             seen(story, e->who.pid, e->who.tid)->name = e->other.name; /* a child has its parent's name at first */
             e->who.name = e->other.name;

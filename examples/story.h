@@ -73,6 +73,7 @@ struct wait {
 struct thread {
     uint32_t pid, tid;
     const char *name; /* the last one */
+    bool told;        /* a record named it */
     uint64_t ran, worst; /* ns on a cpu; the longest in_the_way */
     uint64_t longest_off;
     size_t unsure; /* waits that are not told */

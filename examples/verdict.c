@@ -96,7 +96,7 @@ static void write_line(const struct story *story, struct verdict *v)
     const struct wait *w = v->worst;
     double ms = (double)(w->to - w->from) / 1e6;
     size_t count = shares_of(story, w, shares);
-    const char *how = w->preempted ? "waited" : "was away";
+    const char *how = w->preempted ? "waited" : "slept";
     int length;
     if (count == 0) {
         length = snprintf(v->line, sizeof v->line, "%s %.1f ms: these rings do not show who ran on cpu %u meanwhile", how, ms, w->cpu);
@@ -106,7 +106,7 @@ static void write_line(const struct story *story, struct verdict *v)
         if (alone && w->preempted) {
             length = snprintf(v->line, sizeof v->line, "waited %.1f ms: cpu %u ran %s", ms, w->cpu, who);
         } else if (alone) {
-            length = snprintf(v->line, sizeof v->line, "was away %.1f ms: cpu %u ran %s %.1f ms of it", ms, w->cpu, who,
+            length = snprintf(v->line, sizeof v->line, "slept %.1f ms: cpu %u ran %s %.1f ms of it", ms, w->cpu, who,
                 (double)shares[0].ran / 1e6);
         } else {
             who_in_words(second, &shares[1].who);
@@ -153,23 +153,40 @@ static bool is_tid(const struct thread *thread, const char *watch)
     return strcmp(number, watch) == 0;
 }
 
+static const struct thread *choose(const struct story *story, const char *watch)
+{
+    const struct thread *chosen = NULL;
+    bool *named = ever_named(story, watch);
+    for (size_t i = 0; i < story->thread_count; i++) {
+        const struct thread *thread = &story->threads[i];
+        if (thread->tid != 0 && (is_tid(thread, watch) || named[i]) && worse(thread, chosen))
+            chosen = thread;
+    }
+    free(named);
+    return chosen;
+}
+
+/* Those whose names the rings tell come first: they are the program that was recorded. */
+static const struct thread *fared_worst(const struct story *story)
+{
+    const struct thread *told = NULL, *any = NULL;
+    for (size_t i = 0; i < story->thread_count; i++) {
+        const struct thread *thread = &story->threads[i];
+        if (thread->tid == 0 || thread->tid == TID_ENDED || thread->longest_off == 0)
+            continue;
+        if (thread->told && worse(thread, told))
+            told = thread;
+        if (worse(thread, any))
+            any = thread;
+    }
+    return told != NULL ? told : any;
+}
+
 bool judge(const struct story *story, const char *watch, struct verdict *v)
 {
     memset(v, 0, sizeof *v);
     v->chosen_by_user = watch != NULL;
-    bool *named = watch != NULL ? ever_named(story, watch) : NULL;
-    for (size_t i = 0; i < story->thread_count; i++) {
-        const struct thread *thread = &story->threads[i];
-        if (thread->tid == 0 || thread->tid == TID_ENDED)
-            continue;
-        if (watch != NULL && !is_tid(thread, watch) && !named[i])
-            continue;
-        if (watch == NULL && thread->longest_off == 0)
-            continue;
-        if (worse(thread, v->thread))
-            v->thread = thread;
-    }
-    free(named);
+    v->thread = watch != NULL ? choose(story, watch) : fared_worst(story);
     if (v->thread == NULL)
         return watch == NULL;
     for (size_t i = 0; i < story->wait_count; i++) {

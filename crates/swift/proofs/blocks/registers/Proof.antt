@@ -1,0 +1,86 @@
+-- `blocks::registers` meets its contract. Assumes nothing.
+use mathlib.Core.Path.{_≡_, refl, sym, ap, _∙_, subst}
+use mathlib.Core.Bool.{Bool, true, false, not}
+use mathlib.Core.List.{List}
+use Prim.Native.Nat.{ℕ, _+_, _-_, _*_, _%_, _<_, _≤_}
+use native.Mathlib.Omega.{arith}
+use lib.ListN.{length}
+use denote.Ref.{now}
+use borrow.Author.Needs.{needs}
+use borrow.Author.Tests.{not-true, not-false, eq-eqb, ne-eqb}
+use Rattle.meaning.specs.declared.Item.{Item}
+use Rattle.meaning.specs.Bytes.{numberAt}
+use Rattle.swift.specs.declared.Place.{Place}
+use Rattle.swift.specs.Seen.{place, Leaves, Ends, refusing, going, as-known}
+use mathlib.Core.Bool.{cond}
+use lib.Dec.{eqb}
+use Rattle.meaning.specs.Bytes.{ones}
+use Rattle.swift.specs.Blocks.{registerList, two-off, registers-short, registers-long, registers-there}
+use Rattle.swift.proofs.blocks.registers.Statement.{statement}
+use Rattle.swift.proofs.blocks.registers.Tie as tie
+
+returns : tie.Need-returns
+returns c = let a = c .before .before .args in let xs : List ℕ = now (a .s) in
+    as-known (λ (t : Bool). registerList t (a .mask)) xs (a .at) _ false (a .on) (not-true (a .on) (c .if1 .taken)) (going xs _ (a .at) (a .at) (omega arith) (two-off xs _ _ (a .at)))
+
+sub-left : tie.Need-sub-left
+sub-left c = search needs
+
+refused-requires : tie.Need-refused-requires
+refused-requires c κs = search needs
+
+returns-2 : tie.Need-returns-2
+returns-2 c = let a = c .before .before .before .before .args in let xs : List ℕ = now (a .s) in
+    as-known (λ (t : Bool). registerList t (a .mask)) xs (a .at) _ true (a .on) (not-false (a .on) (c .before .before .if1 .left)) (refusing xs _ (a .at) _ 30 (c .refused .ensures) (λ q. omega (arith, q)) (registers-short xs (a .mask) (a .at) (omega arith)))
+
+u64-at-requires : tie.Need-u64-at-requires
+u64-at-requires c κs = search needs
+
+add-t10 : tie.Need-add-t10
+add-t10 c = search needs
+
+returns-3 : tie.Need-returns-3
+returns-3 c = let a = c .before .before .before .before .before .args in let xs : List ℕ = now (a .s) in
+    let z : cond (eqb (numberAt 8 xs (a .at)) 0) 0 (ones 64 (a .mask)) * 8 ≡ 0 = rw (eq-eqb (numberAt 8 xs (a .at)) 0 (sym (c .before .u64-at .ensures) ∙ c .if3 .taken)) in
+    let f : a .at + 8 + cond (eqb (numberAt 8 xs (a .at)) 0) 0 (ones 64 (a .mask)) * 8 ≡ a .at + 8 = omega (arith, z) in
+    as-known (λ (t : Bool). registerList t (a .mask)) xs (a .at) _ true (a .on) (not-false (a .on) (c .before .before .before .if1 .left))
+    (going xs _ (a .at) _ (omega arith) (subst (λ (n : ℕ). Leaves xs (registerList true (a .mask)) (a .at) (place n 0)) f (registers-there xs (a .mask) (a .at) (omega arith) (omega (arith, z)))))
+
+refused-requires-2 : tie.Need-refused-requires-2
+refused-requires-2 c κs = search needs
+
+returns-4 : tie.Need-returns-4
+returns-4 c = let a = c .before .before .before .before .before .before .before .args in let xs : List ℕ = now (a .s) in
+    let z : cond (eqb (numberAt 8 xs (a .at)) 0) 0 (ones 64 (a .mask)) * 8 ≡ a .wide = rw (ne-eqb (numberAt 8 xs (a .at)) 0 (λ q. c .before .before .if3 .left (c .before .before .before .u64-at .ensures ∙ q))) (sym (c .before .before .before .before .before .before .before .pre .1)) in
+    as-known (λ (t : Bool). registerList t (a .mask)) xs (a .at) _ true (a .on) (not-false (a .on) (c .before .before .before .before .before .if1 .left))
+    (refusing xs _ (a .at) _ 30 (c .refused2 .ensures) (λ q. omega (arith, q)) (registers-long xs (a .mask) (a .at) (omega arith) (omega (arith, z, c .before .if4 .taken))))
+
+add-t8 : tie.Need-add-t8
+add-t8 c = search needs
+
+add-t11 : tie.Need-add-t11
+add-t11 c = search needs
+
+returns-5 : tie.Need-returns-5
+returns-5 c = let a = c .before .before .before .before .before .before .args in let xs : List ℕ = now (a .s) in
+    let z : cond (eqb (numberAt 8 xs (a .at)) 0) 0 (ones 64 (a .mask)) * 8 ≡ a .wide = rw (ne-eqb (numberAt 8 xs (a .at)) 0 (λ q. c .before .if3 .left (c .before .before .u64-at .ensures ∙ q))) (sym (c .before .before .before .before .before .before .pre .1)) in
+    let f : a .at + 8 + cond (eqb (numberAt 8 xs (a .at)) 0) 0 (ones 64 (a .mask)) * 8 ≡ a .at + 8 + a .wide = omega (arith, z) in
+    as-known (λ (t : Bool). registerList t (a .mask)) xs (a .at) _ true (a .on) (not-false (a .on) (c .before .before .before .before .if1 .left))
+    (going xs _ (a .at) _ (omega arith) (subst (λ (n : ℕ). Leaves xs (registerList true (a .mask)) (a .at) (place n 0)) f (registers-there xs (a .mask) (a .at) (omega arith) (omega (arith, z, c .if4 .left)))))
+
+pub registers-spec : {M : Type 1} → statement M
+registers-spec =
+    tie.close
+    (tie.spec
+    returns
+    sub-left
+    refused-requires
+    returns-2
+    u64-at-requires
+    add-t10
+    returns-3
+    refused-requires-2
+    returns-4
+    add-t8
+    add-t11
+    returns-5)

@@ -1,0 +1,7 @@
+pub mod Seen
+pub mod Steady
+pub mod Blocks
+pub mod Scan
+pub mod ScanLaws
+pub mod Judged
+pub mod Plan
