@@ -51,6 +51,10 @@ struct controller {
     uint64_t refused;
 };
 
+/* 1: something failed; 3: the kernel does not allow it, so there is nothing to test. */
+enum { EXIT_KERNEL_SAYS_NO = 3 };
+static int exit_status = 1;
+
 static volatile sig_atomic_t interrupted;
 
 static void on_interrupt(int signal)
@@ -316,6 +320,7 @@ static bool open_rings(struct controller *c)
             .clock = c->options.clock, .edition = c->options.edition };
         if (!perf_ring_open(&c->rings[c->ring_count], &want, why)) {
             fprintf(stderr, "controller: cpu %d: %s\n", cpus[i], why);
+            exit_status = EXIT_KERNEL_SAYS_NO;
             return false;
         }
         c->ring_count++;
@@ -372,5 +377,5 @@ int main(int argc, char **argv)
     program_stop(&c.program);
     for (size_t i = 0; i < c.ring_count; i++)
         perf_ring_close(&c.rings[i]);
-    return done ? 0 : 1;
+    return done ? 0 : exit_status;
 }

@@ -38,6 +38,10 @@ struct options {
     int rest_count;
 };
 
+/* 1: something failed; 3: the kernel does not allow it, so there is nothing to test. */
+enum { EXIT_KERNEL_SAYS_NO = 3 };
+static int exit_status = 1;
+
 static volatile sig_atomic_t interrupted;
 
 static void on_interrupt(int signal)
@@ -139,6 +143,7 @@ static bool open_rings(struct live *live, struct story *story, const struct opti
         struct perf_ring *ring = &live->rings[live->count];
         if (!perf_ring_open(ring, &want, why)) {
             fprintf(stderr, "late: cpu %d: %s\n", want.cpu, why);
+            exit_status = EXIT_KERNEL_SAYS_NO;
             return false;
         }
         snprintf(label, sizeof label, "live, cpu %d", want.cpu);
@@ -331,5 +336,5 @@ int main(int argc, char **argv)
         }
     }
     story_end(&story);
-    return done ? 0 : 1;
+    return done ? 0 : exit_status;
 }

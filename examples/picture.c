@@ -9,7 +9,7 @@
 enum {
     WIDTH = 1200,
     LEFT = 130,  /* room for the lanes' labels */
-    RIGHT = 30,
+    RIGHT = 60,  /* room for a mark's number at the end */
     TOP = 96,
     STRIP = 20,  /* above a lane: the marks */
     LANE = 42,
@@ -86,11 +86,25 @@ static void box(const struct canvas *c, double x, double y, double width, double
 }
 
 /* Only if it fits: a label is never cut, and never runs into its neighbour. */
-static void label_in(const struct canvas *c, double x, double width, double y, const char *text)
+static bool label_in(const struct canvas *c, double x, double width, double y, const char *text)
 {
     double needed = 6.8 * (double)strlen(text) + 6;
-    if (width >= needed)
-        label(c, x + width / 2, y, "in", text);
+    if (width < needed)
+        return false;
+    label(c, x + width / 2, y, "in", text);
+    return true;
+}
+
+/* The whole of it, else the name or the number alone, else nothing: the colour tells. */
+static void label_who(const struct canvas *c, double x, double width, double y, const struct whom *who)
+{
+    char text[WHO_ROOM];
+    who_in_words(text, who);
+    if (label_in(c, x, width, y, text))
+        return;
+    if (who->name == NULL || !plain_text(text, sizeof text, who->name, 30))
+        snprintf(text, sizeof text, "%u", who->tid);
+    label_in(c, x, width, y, text);
 }
 
 static struct whom as_whom(const struct thread *thread)
@@ -202,13 +216,10 @@ static void draw_runs(const struct canvas *c, uint32_t cpu, int y)
         if (fill != NULL && next != NULL && x1 - to < 0.2 && x0 - to < 0.2 && next != watched_colour)
             continue;
         if (fill != NULL) {
-            char text[WHO_ROOM];
             double width = to - from > 0.5 ? to - from : 0.5;
             box(c, from, y, width, LANE, fill);
-            if (alone && who.tid != 0) {
-                who_in_words(text, &who);
-                label_in(c, from, width, y + LANE / 2 + 4, text);
-            }
+            if (alone && who.tid != 0)
+                label_who(c, from, width, y + LANE / 2 + 4, &who);
         }
         if (i < count) {
             fill = next;
@@ -374,7 +385,7 @@ static void draw_axis(struct canvas *c, double ms, double step)
         snprintf(text, sizeof text, "%.*f", places, i * step);
         label(c, x, y + 21, "tick", text);
     }
-    label(c, LEFT - 12, y + 21, "small", "ms");
+    label(c, LEFT - 24, y + 21, "small", "ms");
     c->y = y + 34;
 }
 
@@ -406,7 +417,7 @@ static void legend_thread(const struct canvas *c, struct place *place, const cha
     struct whom whom = as_whom(thread);
     who_in_words(who, &whom);
     if (thread->ran != 0)
-        snprintf(text, sizeof text, "%s, %.1f ms", who, (double)thread->ran / 1e6);
+        snprintf(text, sizeof text, "%s, %.*f ms", who, thread->ran < 1000000 ? 3 : 1, (double)thread->ran / 1e6);
     else
         snprintf(text, sizeof text, "%s", who);
     legend_item(c, place, fill, text);
@@ -453,7 +464,6 @@ static void draw_legend(struct canvas *c)
         legend_mark(c, &place, EVENT_MAPPED, "mapped (and how many)");
     if (any_of(c->story, EVENT_LOST))
         legend_mark(c, &place, EVENT_LOST, "records lost (and how many)");
-    c->y += (place.row + (place.column != 0)) * LEGEND_ROW + 12;
 }
 
 /* ---- the whole ---- */
@@ -486,14 +496,17 @@ static void draw_title(const struct canvas *c, double ms)
     snprintf(text, sizeof text, "%zu record%s over %.1f ms, from %zu ring%s%s", c->story->event_count,
         c->story->event_count == 1 ? "" : "s", ms, c->story->source_count, c->story->source_count == 1 ? "" : "s",
         c->story->lost != 0 ? "; records were lost" : "");
-    label(c, LEFT, 80, "note", text);
+    label(c, LEFT, c->verdict->thread != NULL ? 80 : 60, "note", text);
 }
 
 static int height_of(const struct canvas *c)
 {
-    size_t items = 8 + (c->ranked_count < COLOURS ? c->ranked_count : COLOURS + 1);
     int lanes = (int)c->cpu_count + (c->verdict->thread != NULL);
-    return TOP + lanes * (STRIP + LANE + GAP) + 40 + (int)(items / LEGEND_COLUMNS + 1) * LEGEND_ROW + 24;
+    size_t items = (c->verdict->thread != NULL) + (c->ranked_count <= COLOURS ? c->ranked_count : COLOURS + 1) +
+        (c->story->run_count != 0) + 1 + 2 * (c->verdict->worst != NULL) + any_of(c->story, EVENT_SAMPLE) +
+        any_of(c->story, EVENT_MAPPED) + any_of(c->story, EVENT_LOST);
+    int rows = (int)((items + LEGEND_COLUMNS - 1) / LEGEND_COLUMNS);
+    return TOP + lanes * (STRIP + LANE + GAP) + 40 + rows * LEGEND_ROW + 16;
 }
 
 void picture(FILE *out, const struct story *story, const struct verdict *verdict)

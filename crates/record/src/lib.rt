@@ -8,13 +8,17 @@ ghost use Rattle.meaning.specs.Items.{step, walk};
 ghost use Rattle.meaning.specs.Schema.{schema, trailer};
 ghost use Rattle.meaning.specs.Editions.{editions, allowed, known, unread};
 ghost use Rattle.meaning.specs.Records.{layout, room, closed, fieldsAnswer, judge, check};
+ghost use Rattle.meaning.specs.Values.{read};
+ghost use Rattle.record.specs.Into.{readIntoAnswer, readIntoWords};
 ghost use Rattle.table.specs.Rows.{rows, itemOf};
 use meaning::Attributes;
 use meaning::Cursor;
 use meaning::Item;
 use meaning::Known;
+use meaning::Reading;
 
 mod rules;
+mod words;
 
 // ---- editions
 
@@ -195,4 +199,37 @@ pub fn check(r: &[u8], e: u64, a: Attributes) -> u16
         return 7;
     }
     judge(r, e, a)
+}
+
+// ---- the words
+
+// The reader of a record's bytes: record check, and where it is 0 the words; refused: no value, zero throughout.
+pub fn read(r: &[u8], e: u64, a: Attributes) -> Reading
+    ensures { λ x. ⌜ x ≡ read editions e a (now (r .entry)) ⌝ }
+{
+    let answer = check(r, e, a);
+    if answer == 0 {
+        let words = words::of_record(r, a);
+        Reading { answer, words }
+    } else {
+        let words = [0u64; 56];
+        Reading { answer, words }
+    }
+}
+
+// The same into lent words: 40 if there are fewer than 56; refused: unchanged; accepted: the first 56, the rest unchanged.
+pub fn read_into(r: &[u8], e: u64, a: Attributes, words: &mut [u64]) -> u16
+    ensures { λ x. ⌜ x ≡ readIntoAnswer editions e a (now (r .entry)) (now (words .entry)) ⌝ }
+    ensures { λ _. ⌜ now (words .exit) ≡ readIntoWords editions e a (now (r .entry)) (now (words .entry)) ⌝ }
+{
+    let answer = check(r, e, a);
+    if answer != 0 {
+        return answer;
+    }
+    if words.len() < 56 {
+        return 40;
+    }
+    let filled = words::of_record(r, a);
+    words::copy(&filled, words);
+    0
 }

@@ -1,0 +1,46 @@
+use mathlib.Core.Path.{sym, _∙_}
+use denote.Ref.{now}
+use Rattle.meaning.specs.Editions.{editions}
+use Rattle.record.proofs.Readers.{check-accepts, into-refused, into-short, into-filled}
+use borrow.Author.Needs.{needs}
+use Rattle.record.proofs.read_into.Statement.{statement}
+use Rattle.record.proofs.read_into.Tie as tie
+
+check-requires : tie.Need-check-requires
+check-requires c κs = search needs
+
+returns : tie.Need-returns
+returns c = let a = c .before .before .before .before .args in into-refused editions (a .e) (a .a) (now (a .r)) _ (c .before .check .ensures) (now (a .words)) (c .if1 .taken)
+
+returns-2 : tie.Need-returns-2
+returns-2 c = let a = c .before .before .before .before .before .args in into-short editions (a .e) (a .a) (now (a .r)) _ (c .before .before .check .ensures) (now (a .words)) (c .before .if1 .left) (c .if2 .taken)
+
+of-record-requires : tie.Need-of-record-requires
+of-record-requires c κs = let a = c .before .before .before .before .before .args in check-accepts editions (a .e) (a .a) (now (a .r)) (sym (c .before .before .check .ensures) ∙ c .before .if1 .left)
+
+slice-aggregate-copy : tie.Need-slice-aggregate-copy
+slice-aggregate-copy c = search needs
+
+copy-requires : tie.Need-copy-requires
+copy-requires c κs = search needs
+
+same-length : tie.Need-same-length
+same-length c = search needs
+
+returns-3 : tie.Need-returns-3
+returns-3 c =
+    let a = c .before .before .before .before .before .before .before .before .before .before .before .args in
+    into-filled editions (a .e) (a .a) (now (a .r)) _ (c .before .before .before .before .before .before .before .before .check .ensures) (now (a .words)) _ _ (c .before .before .before .before .before .before .before .if1 .left) (c .before .before .before .before .before .before .if2 .left) (c .before .before .before .before .before .of-record .ensures) (c .before .before .copy .ensures)
+
+pub read-into-spec : {M : Type 1} → statement M
+read-into-spec =
+    tie.close
+    (tie.spec
+    check-requires
+    returns
+    returns-2
+    of-record-requires
+    slice-aggregate-copy
+    copy-requires
+    same-length
+    returns-3)

@@ -1,0 +1,112 @@
+// The words of a record that is accepted, item by item.
+ghost use mathlib.Core.Path.{_≡_};
+ghost use mathlib.Core.Bool.{cond};
+ghost use Prim.Native.Nat.{_+_, _-_, _<_, _≤_};
+ghost use lib.ListN.{length};
+ghost use Rattle.meaning.specs.Bytes.{put};
+ghost use Rattle.meaning.specs.Schema.{schema, trailer};
+ghost use Rattle.meaning.specs.Records.{room, origin, kindOf, miscOf, fieldsAnswer};
+ghost use Rattle.meaning.specs.Values.{words, wordsBy};
+ghost use Rattle.fields.specs.Told.{wordsIn};
+ghost use Rattle.record.specs.Into.{itemsOf, Fills};
+use fields::Words;
+use meaning::Attributes;
+use meaning::Cursor;
+
+// The words of one item in their place: none, one or two.
+fn place(out: &mut [u64], at: usize, t: Words)
+    requires { ⌜ (t .n ≤ 2) × (at + t .n ≤ length (now out)) ⌝ }
+    ensures { λ _. ⌜ now (out .exit) ≡ put (now (out .entry)) at (wordsIn t) ⌝ }
+{
+    let n = t.n;
+    if n == 0 {
+        return;
+    }
+    out[at] = t.first;
+    if n == 1 {
+        return;
+    }
+    out[at + 1] = t.second;
+}
+
+// The words of the items of rows `from` to `to`, the cursor at `first`, from word `start` on.
+pub fn fill(
+    s: &[u8],
+    kind: u64,
+    misc: u64,
+    a: Attributes,
+    from: usize,
+    to: usize,
+    first: Cursor,
+    out: &mut [u64],
+    start: usize,
+)
+    requires { ⌜ (from ≤ to) × (to ≤ 129) × Fills (itemsOf a misc kind from to) (now s) first (now out) start ⌝ }
+    ensures { λ _. ⌜ now (out .exit) ≡ put (now (out .entry)) start (words (now (s .entry)) (itemsOf a misc kind from to) first) ⌝ }
+{
+    let mut c = first;
+    let mut k = from;
+    let mut at = start;
+    while k < to {
+        let i = table::item_at(a, misc, kind, k);
+        let t = fields::told(s, i, c);
+        place(out, at, t);
+        at += t.n;
+        c = fields::step(s, i, c);
+        k += 1;
+    }
+}
+
+fn origin(at: usize) -> Cursor
+    ensures { λ r. ⌜ r ≡ origin at ⌝ }
+{
+    Cursor {
+        at,
+        n: 0,
+        old: 0,
+        why: 0,
+    }
+}
+
+// Type, misc and size; the words of the fields from 3 on, those of the trailer from 48 on; every other word is 0.
+pub fn of_record(r: &[u8], a: Attributes) -> [u64; 56]
+    requires { ⌜ (8 ≤ length (now r)) × (fieldsAnswer (schema (kindOf (now r)) (miscOf (now r)) a) (room (trailer (kindOf (now r)) a)) (now r) ≡ 0) ⌝ }
+    ensures { λ w. ⌜ w ≡ wordsBy (schema (kindOf (now (r .entry))) (miscOf (now (r .entry))) a) (trailer (kindOf (now (r .entry))) a) (now (r .entry)) ⌝ }
+{
+    let kind = wire::u32_at(r, 0);
+    let misc = wire::u16_at(r, 4);
+    let size = wire::u16_at(r, 6);
+    let mut out = [0u64; 56];
+    out[0] = kind;
+    out[1] = misc;
+    out[2] = size;
+    let end = r.len() - crate::trailer_room(kind, a);
+    let p = table::part_of(kind);
+    let from = p.from;
+    let to = p.to;
+    fill(&r[..end], kind, misc, a, from, to, origin(8), &mut out, 3);
+    fill(
+        r,
+        kind,
+        misc,
+        a,
+        table::TRAILER_FROM,
+        table::TRAILER_TO,
+        origin(end),
+        &mut out,
+        48,
+    );
+    out
+}
+
+// All of src in front of dst.
+pub fn copy(src: &[u64], dst: &mut [u64])
+    requires { ⌜ length (now src) ≤ length (now dst) ⌝ }
+    ensures { λ _. ⌜ now (dst .exit) ≡ put (now (dst .entry)) 0 (now (src .entry)) ⌝ }
+{
+    let mut j = 0;
+    while j < src.len() {
+        dst[j] = src[j];
+        j += 1;
+    }
+}
