@@ -30,12 +30,24 @@ static bool one_in(struct made_random *r, uint64_t n)
 struct pen {
     uint8_t *record;
     size_t at;
+    struct made_aims aims;
 };
 
 static void put(struct pen *pen, uint64_t number, size_t bytes)
 {
     for (size_t i = 0; i < bytes; i++)
         pen->record[pen->at++] = (uint8_t)(number >> 8 * i);
+}
+
+/* A number on which the length of what follows depends. */
+static void put_count(struct pen *pen, uint64_t number, size_t bytes)
+{
+    size_t most = sizeof pen->aims.list / sizeof pen->aims.list[0];
+    if (pen->aims.count < most) {
+        pen->aims.list[pen->aims.count].at = pen->at;
+        pen->aims.list[pen->aims.count++].bytes = bytes;
+    }
+    put(pen, number, bytes);
 }
 
 static void put_random(struct made_random *r, struct pen *pen, size_t bytes)
@@ -60,7 +72,7 @@ static void put_read_values(struct made_random *r, const struct made_attributes 
 {
     size_t times = 8 * (size_t)__builtin_popcountll(a->read_format & 3);
     if (a->read_format >> 3 & 1) {
-        put(pen, entries, 8);
+        put_count(pen, entries, 8);
         put_random(r, pen, times + entries * (a->read_format >> 2 & 1 ? 16 : 8));
     } else {
         put_random(r, pen, 8 + times + (a->read_format >> 2 & 1 ? 8 : 0));
@@ -70,7 +82,7 @@ static void put_read_values(struct made_random *r, const struct made_attributes 
 static void put_registers(struct made_random *r, struct pen *pen, uint64_t mask)
 {
     uint64_t abi = made_below(r, 4);
-    put(pen, abi, 8);
+    put_count(pen, abi, 8);
     if (abi != 0)
         put_random(r, pen, 8 * (size_t)__builtin_popcountll(mask));
 }
@@ -85,27 +97,27 @@ static void put_sample(struct made_random *r, const struct made_attributes *a, s
         put_read_values(r, a, pen, made_below(r, few));
     if (selected(a, 5)) {
         size_t n = made_below(r, few);
-        put(pen, n, 8);
+        put_count(pen, n, 8);
         put_random(r, pen, 8 * n);
     }
     if (selected(a, 10)) {
         size_t n = 8 * made_below(r, few) + 4;
-        put(pen, n, 4);
+        put_count(pen, n, 4);
         put_random(r, pen, n);
     }
     if (selected(a, 11)) {
         size_t n = made_below(r, few);
-        put(pen, n, 8);
+        put_count(pen, n, 8);
         put_random(r, pen, 24 * n);
     }
     if (selected(a, 12))
         put_registers(r, pen, a->user_mask);
     if (selected(a, 13)) {
         size_t n = 8 * made_below(r, few);
-        put(pen, n, 8);
+        put_count(pen, n, 8);
         put_random(r, pen, n);
         if (n != 0)
-            put(pen, made_below(r, n + 1), 8);
+            put_count(pen, made_below(r, n + 1), 8);
     }
     put_random(r, pen, selected(a, 14) || selected(a, 24) ? 8 : 0);
     put_random(r, pen, selected(a, 15) ? 8 : 0);
@@ -117,7 +129,7 @@ static void put_sample(struct made_random *r, const struct made_attributes *a, s
             put_random(r, pen, 8);
     if (selected(a, 20)) {
         size_t n = 8 * made_below(r, few);
-        put(pen, n, 8);
+        put_count(pen, n, 8);
         put_random(r, pen, n);
     }
 }
@@ -142,7 +154,7 @@ static void put_body(struct made_random *r, const struct made_attributes *a, str
         break;
     case 10:
         if (misc >> 14 & 1) {
-            put(pen, made_below(r, 21), 1);
+            put_count(pen, made_below(r, 21), 1);
             put_random(r, pen, 23);
         } else {
             put_random(r, pen, 24);
@@ -152,14 +164,14 @@ static void put_body(struct made_random *r, const struct made_attributes *a, str
         break;
     case 16: {
         size_t n = made_below(r, most / 64 + 2);
-        put(pen, n, 8);
+        put_count(pen, n, 8);
         put_random(r, pen, 16 * n);
         break;
     }
     case 20: {
         size_t before = made_below(r, most / 8 + 1), after = made_below(r, most / 8 + 1);
-        put(pen, before, 2);
-        put(pen, after, 2);
+        put_count(pen, before, 2);
+        put_count(pen, after, 2);
         put_random(r, pen, before + after);
         put_random(r, pen, (8 - pen->at % 8) % 8);
         break;
@@ -171,20 +183,22 @@ static void put_body(struct made_random *r, const struct made_attributes *a, str
 
 static void put_header(uint8_t *record, uint32_t type, uint16_t misc, uint16_t size)
 {
-    struct pen pen = { record, 0 };
+    struct pen pen = { .record = record };
     put(&pen, type, 4);
     put(&pen, misc, 2);
     put(&pen, size, 2);
 }
 
-size_t made_record(struct made_random *r, const struct made_attributes *a, unsigned type, size_t most, uint8_t *record)
+size_t made_record(struct made_random *r, const struct made_attributes *a, unsigned type, size_t most, uint8_t *record,
+    struct made_aims *aims)
 {
     uint64_t misc = made_next(r) & 0xffff;
-    struct pen pen = { record, 8 };
+    struct pen pen = { .record = record, .at = 8 };
     put_body(r, a, &pen, type, misc, most);
     if (type != 9 && a->sample_id_all != 0)
         put_random(r, &pen, 8 * (size_t)__builtin_popcountll(a->sample_type & OLLSKUVAN_TRAILER_BITS));
     put_header(record, type, (uint16_t)misc, (uint16_t)pen.at);
+    *aims = pen.aims;
     return pen.at;
 }
 
@@ -209,10 +223,39 @@ static void write_at(uint8_t *record, size_t size, size_t at, uint64_t number, s
         record[at + i] = (uint8_t)(number >> 8 * i);
 }
 
+/* A count or size that is a little off, or one of the odd numbers. */
+static void damage_count(struct made_random *r, uint8_t *record, size_t size, const struct made_aims *aims)
+{
+    static const int64_t steps[] = { 1, -1, 4, -4, 8, -8, 16, -16 };
+    size_t i = made_below(r, aims->count), at = aims->list[i].at, bytes = aims->list[i].bytes;
+    uint64_t number = 0;
+    for (size_t k = bytes; k-- > 0;)
+        number = number << 8 | record[at + k];
+    switch (made_below(r, 4)) {
+    case 0:
+        number += (uint64_t)steps[made_below(r, 8)];
+        break;
+    case 1: /* right again where a product or a sum wraps */
+        number += UINT64_C(1) << (59 + made_below(r, 5));
+        break;
+    case 2:
+        number = bytes == 1 ? 18 + made_below(r, 6) : odd_number(r, size);
+        break;
+    default:
+        number = odd_numbers[made_below(r, sizeof odd_numbers / sizeof odd_numbers[0])];
+        break;
+    }
+    write_at(record, size, at, number, bytes);
+}
+
 /* One fault. Returns the size of the slot that the record then fills. */
-static size_t damage(struct made_random *r, uint8_t *record, size_t size)
+static size_t damage(struct made_random *r, uint8_t *record, size_t size, const struct made_aims *aims)
 {
     static const uint32_t odd_types[] = { 0, 21, 22, 255, 256, 4096, 65534, 65535, 65536, 0x80000003, 0xffffffff };
+    if (aims->count != 0 && one_in(r, 2)) {
+        damage_count(r, record, size, aims);
+        return size;
+    }
     switch (made_below(r, 10)) {
     case 0: /* another size, the same slot: the next header is then read from the wrong place */
         write_at(record, size, 6, odd_number(r, size), 2);
@@ -379,9 +422,10 @@ void made_case(struct made_random *r, struct made_ring *ring)
         unsigned type = one_in(r, 3) ? 9 : 1 + (unsigned)made_below(r, 20);
         if (ring->length >= 32768 && one_in(r, 8))
             most = 60000; /* records up to some 40,000 bytes */
-        size_t size = made_record(r, &ring->attributes, type, one_in(r, 50) && most <= 512 ? 4 * most : most, record);
+        struct made_aims aims;
+        size_t size = made_record(r, &ring->attributes, type, one_in(r, 50) && most <= 512 ? 4 * most : most, record, &aims);
         if (made_below(r, 10) < faults && one_in(r, 2))
-            size = damage(r, record, size);
+            size = damage(r, record, size, &aims);
         if (used + size > ring->length)
             break;
         lay(ring, ring->head, record, size);
@@ -410,7 +454,7 @@ static void put_trailer(struct made_random *r, struct pen *pen, uint64_t time)
 static size_t side_band(struct made_random *r, uint64_t time, uint8_t *record)
 {
     static const uint8_t kinds[20] = { 14, 14, 14, 14, 15, 15, 15, 15, 15, 15, 10, 10, 10, 10, 3, 3, 7, 4, 2, 14 };
-    struct pen pen = { record, 8 };
+    struct pen pen = { .record = record, .at = 8 };
     unsigned type = kinds[made_below(r, 20)];
     uint16_t misc = 2;
     switch (type) {
@@ -441,7 +485,7 @@ static size_t side_band(struct made_random *r, uint64_t time, uint8_t *record)
 
 static size_t sample(struct made_random *r, uint64_t time, bool fat, uint8_t *record)
 {
-    struct pen pen = { record, 8 };
+    struct pen pen = { .record = record, .at = 8 };
     put(&pen, 17, 8);
     put_random(r, &pen, 16);
     put(&pen, time, 8);

@@ -37,10 +37,19 @@ struct made_ring {
 /* The greatest record, and room for what damage adds. */
 #define MADE_RECORD_MAX ((size_t)65536)
 
+/* Where counts, sizes and abi words lie in a record: what damage aims at. */
+struct made_aims {
+    struct {
+        size_t at, bytes;
+    } list[16];
+    size_t count;
+};
+
 /* A record of this type (1 to 20) that edition 3 accepts under these
  * attributes, of at most `most` bytes as far as the type allows it. Returns its
  * size. The record has room for MADE_RECORD_MAX bytes. */
-size_t made_record(struct made_random *r, const struct made_attributes *a, unsigned type, size_t most, uint8_t *record);
+size_t made_record(struct made_random *r, const struct made_attributes *a, unsigned type, size_t most, uint8_t *record,
+    struct made_aims *aims);
 
 /* A ring for the comparison: sound or damaged, of any length, with any counts. */
 void made_case(struct made_random *r, struct made_ring *ring);

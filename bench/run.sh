@@ -78,10 +78,15 @@ case "$part" in
     fi ;;
 esac
 
-flags="-std=c11 -O3 -g -Wall -Wextra -Werror -Iinclude $other"
+values=
+if ! nm "$library" 2>/dev/null | grep -q ' T ollskuvan_write$'; then
+  values=-DWITHOUT_VALUES
+  echo "bench: this archive has no ollskuvan_read and ollskuvan_write: their cost is left out"
+fi
+flags="-std=c11 -O3 -g -Wall -Wextra -Werror -Iinclude $other $values"
 program=$out/bench
 if [ "$part" = sanitize ]; then
-  flags="-std=c11 -O1 -g -Wall -Wextra -Werror -Iinclude -fsanitize=address,undefined -fno-sanitize-recover=all"
+  flags="-std=c11 -O1 -g -Wall -Wextra -Werror -Iinclude -fsanitize=address,undefined -fno-sanitize-recover=all $values"
   program=$out/bench-sanitized
 fi
 # shellcheck disable=SC2086 # the flags are words

@@ -153,7 +153,8 @@ static void fill_small(size_t length, struct made_ring *ring)
     ring->journal_length = 16 * (length / 8 + 1);
     for (size_t at = 0; at < length; at += 16) {
         uint8_t record[MADE_RECORD_MAX + 64];
-        memcpy(ring->bytes + at, record, made_record(&r, &none, OLLSKUVAN_TYPE_LOST_SAMPLES, 64, record));
+        struct made_aims aims;
+        memcpy(ring->bytes + at, record, made_record(&r, &none, OLLSKUVAN_TYPE_LOST_SAMPLES, 64, record, &aims));
     }
 }
 
@@ -196,6 +197,15 @@ int time_sizes(size_t rounds)
 }
 
 /* ---- values ---- */
+
+#ifdef WITHOUT_VALUES
+int time_values(size_t rounds)
+{
+    (void)rounds;
+    printf("\nvalues: left out, the archive has no ollskuvan_read and ollskuvan_write\n");
+    return 0;
+}
+#else
 
 struct whole {
     uint8_t *bytes; /* the records end to end, none of them across an end */
@@ -321,3 +331,5 @@ int time_values(size_t rounds)
         time_value(which, rounds);
     return 0;
 }
+
+#endif

@@ -5,6 +5,7 @@ ghost use Rattle.meaning.specs.Editions.{editions};
 ghost use Rattle.meaning.specs.Records.{check};
 ghost use Rattle.meaning.specs.Drain.{told, drain};
 ghost use Rattle.meaning.specs.Names.{nameAnswer, nameBuffer};
+ghost use Rattle.record.specs.Into.{readIntoAnswer, readIntoWords};
 ghost use Rattle.ollskuvan.specs.Given.{given};
 use meaning::Attributes;
 use meaning::Drained;
@@ -41,16 +42,8 @@ pub extern "C" fn ollskuvan_drain(
     ensures { λ _. ⌜ now (scratch .exit) ≡ drain editions edition (given sample format all user interrupt) (now (ring .entry)) head tail budget (now (journal .entry)) (now (scratch .entry)) .state .scratch ⌝ }
 {
     let a = attributes(sample, format, all, user, interrupt);
-    drain::drain(
-        ring,
-        head,
-        tail,
-        edition as u64,
-        a,
-        budget,
-        scratch,
-        journal,
-    )
+    let e = edition as u64;
+    drain::drain(ring, head, tail, e, a, budget, scratch, journal)
 }
 
 // The parameter is not named `record`, which is a word of the proofs' language.
@@ -67,7 +60,8 @@ pub extern "C" fn ollskuvan_check(
     ensures { λ r. ⌜ r ≡ check editions edition (given sample format all user interrupt) (now (bytes .entry)) ⌝ }
 {
     let a = attributes(sample, format, all, user, interrupt);
-    record::check(bytes, edition as u64, a) as u32
+    let e = edition as u64;
+    record::check(bytes, e, a) as u32
 }
 
 #[no_mangle]
@@ -81,4 +75,24 @@ pub extern "C" fn ollskuvan_copy_name(
     ensures { λ _. ⌜ now (buffer .exit) ≡ nameBuffer (now (bytes .entry)) place count (now (buffer .entry)) ⌝ }
 {
     names::copy_name(bytes, place, count, buffer) as u32
+}
+
+// `words` are the caller's 56 or more: as record check answers; then 40 if there are fewer.
+#[no_mangle]
+pub extern "C" fn ollskuvan_read(
+    bytes: &[u8],
+    sample: u64,
+    format: u64,
+    all: u32,
+    user: u64,
+    interrupt: u64,
+    edition: u32,
+    words: &mut [u64],
+) -> u32
+    ensures { λ r. ⌜ r ≡ readIntoAnswer editions edition (given sample format all user interrupt) (now (bytes .entry)) (now (words .entry)) ⌝ }
+    ensures { λ _. ⌜ now (words .exit) ≡ readIntoWords editions edition (given sample format all user interrupt) (now (bytes .entry)) (now (words .entry)) ⌝ }
+{
+    let a = attributes(sample, format, all, user, interrupt);
+    let e = edition as u64;
+    record::read_into(bytes, e, a, words) as u32
 }

@@ -2,16 +2,16 @@
 -- gives it to start with. Assumes nothing.
 use mathlib.Core.Path.{_≡_, refl, sym, ap, ap₂, _∙_}
 use mathlib.Core.List.{List, [], _∷_, _++_, map}
-use Prim.Native.Nat.{ℕ, suc, _+_, _-_, _<_, _≤_}
+use Prim.Native.Nat.{ℕ, _+_, _<_, _≤_}
 use native.Mathlib.Nat.{add-zero}
 use native.Mathlib.Omega.{arith}
-use lib.ListN.{length, getD, set, take, length-append}
+use lib.ListN.{length, getD, set}
 use lib.Seq.{slice}
 use Rattle.meaning.specs.declared.Cursor.{Cursor}
 use Rattle.meaning.specs.declared.Item.{Item}
 use Rattle.meaning.specs.Bytes.{put}
-use Rattle.meaning.specs.Items.{step, walk}
-use Rattle.meaning.specs.Values.{Slot, slotItem, tell, wordsOf, width, words}
+use Rattle.meaning.specs.Items.{step}
+use Rattle.meaning.specs.Values.{slotItem, tell, wordsOf, width, words}
 use Rattle.laws.specs.Again.{fine}
 use Rattle.wire.proofs.Laws.{put-nil, put-snoc, put-put, length-put}
 use Rattle.fields.specs.declared.Words.{Words}

@@ -1,25 +1,25 @@
 -- The cases of the answer: what an edition knows, the trailer's room, the walk over rows, the tests of record check. Assumes nothing.
-use mathlib.Core.Path.{_≡_, refl, sym, ap, ap₂, _∙_}
+use mathlib.Core.Path.{_≡_, refl, sym, _∙_}
 use mathlib.Core.Bool.{Bool, true, false, cond, not, _&&_}
-use mathlib.Core.List.{List, [], _∷_, map}
-use Prim.Native.Nat.{ℕ, zero, suc, _+_, _-_, _*_, _/_, _%_, _^_, _<_, _≤_}
+use mathlib.Core.List.{List, map}
+use Prim.Native.Nat.{ℕ, _+_, _-_, _/_, _%_, _^_, _<_, _≤_}
 use native.Mathlib.Nat.{le-div-iff-mul-le, div-eq-of-lt}
 use native.Mathlib.Omega.{arith}
 use lib.ListN.{length, getD, take, List·getD-eq-default}
 use lib.Seq.{slice}
-use lib.Dec.{leb, ltb, eqb}
+use lib.Dec.{leb, eqb}
 use lib.Pow.{pow-pos}
 use borrow.Author.Tests.{le-leb, lt-leb, eq-eqb, ne-eqb, leb-true, leb-false}
 use Rattle.meaning.specs.declared.Attributes.{Attributes}
 use Rattle.meaning.specs.declared.Cursor.{Cursor}
 use Rattle.meaning.specs.declared.Item.{Item}
 use Rattle.meaning.specs.declared.Known.{Known}
-use Rattle.meaning.specs.Bytes.{bit, numberAt}
-use Rattle.meaning.specs.Items.{step, walk, shapeStep}
-use Rattle.meaning.specs.Schema.{item, schema, trailer}
+use Rattle.meaning.specs.Bytes.{bit}
+use Rattle.meaning.specs.Items.{step, walk}
+use Rattle.meaning.specs.Schema.{schema, trailer}
 use Rattle.meaning.specs.Editions.{edition, editions, known, allowed, unread}
-use Rattle.meaning.specs.Records.{Layout, layout, room, roomShape, origin, closed, fieldsOf, fieldsAnswer, judge, checkBy, check, kindOf, miscOf, sizeOf}
-use Rattle.table.specs.Rows.{rows, itemOf}
+use Rattle.meaning.specs.Records.{layout, room, roomShape, origin, closed, fieldsOf, fieldsAnswer, judge, checkBy, check, kindOf, miscOf, sizeOf}
+use Rattle.table.specs.Rows.{rows}
 use Rattle.table.proofs.Laws.{rows-next, rows-over}
 
 -- ---- editions
@@ -60,15 +60,6 @@ unfolding room roomShape
 room-off kind a h = rw h refl
 
 -- ---- the walk over rows
-
--- an item that is off changes nothing
-pub step-off : (xs : List ℕ) (i : Item) (c : Cursor) → i .on ≡ false → c ≡ step xs i c
-unfolding step
-step-off xs i c e = by (eqb (c .why) 0)
-  where
-    by : (t : Bool) → c ≡ cond t (cond (i .on) (shapeStep (i .shape) c (lib.ListN.drop (c .at) xs)) c) c
-    by true = rw e
-    by false = refl
 
 module _ (f : ℕ → Item) (xs : List ℕ) where
   pub walk-next : (k to : ℕ) (c d : Cursor) → k < to → to ≤ 129 → d ≡ step xs (f (getD rows k 0)) c

@@ -7,7 +7,7 @@ ghost use Rattle.meaning.specs.Bytes.{bit};
 ghost use Rattle.meaning.specs.Items.{step, walk};
 ghost use Rattle.meaning.specs.Schema.{schema, trailer};
 ghost use Rattle.meaning.specs.Editions.{editions, allowed, known, unread};
-ghost use Rattle.meaning.specs.Records.{layout, room, closed, fieldsAnswer, judge, check};
+ghost use Rattle.meaning.specs.Records.{layout, room, origin, closed, fieldsAnswer, judge, check};
 ghost use Rattle.meaning.specs.Values.{read};
 ghost use Rattle.record.specs.Into.{readIntoAnswer, readIntoWords};
 ghost use Rattle.table.specs.Rows.{rows, itemOf};
@@ -73,6 +73,18 @@ pub fn unread(k: Known, a: Attributes, kind: u64, misc: u64) -> u16
 }
 
 // ---- the walk
+
+// Where a walk starts: nothing counted, nothing refused.
+fn origin(at: usize) -> Cursor
+    ensures { λ r. ⌜ r ≡ origin at ⌝ }
+{
+    Cursor {
+        at,
+        n: 0,
+        old: 0,
+        why: 0,
+    }
+}
 
 // One row. An item that is not selected costs no more than its guard's test.
 fn turn(s: &[u8], kind: u64, misc: u64, a: Attributes, k: usize, c: Cursor) -> Cursor
@@ -149,18 +161,7 @@ fn fields_answer(r: &[u8], kind: u64, misc: u64, a: Attributes) -> u16
         return 30;
     }
     let end = r.len() - t;
-    let c = walk(
-        &r[..end],
-        kind,
-        misc,
-        a,
-        Cursor {
-            at: 8,
-            n: 0,
-            old: 0,
-            why: 0,
-        },
-    );
+    let c = walk(&r[..end], kind, misc, a, origin(8));
     closed(end, c)
 }
 

@@ -1,17 +1,21 @@
 // The words of a record that is accepted, item by item.
 ghost use mathlib.Core.Path.{_≡_};
-ghost use mathlib.Core.Bool.{cond};
-ghost use Prim.Native.Nat.{_+_, _-_, _<_, _≤_};
+ghost use Prim.Native.Nat.{_+_, _≤_};
 ghost use lib.ListN.{length};
 ghost use Rattle.meaning.specs.Bytes.{put};
 ghost use Rattle.meaning.specs.Schema.{schema, trailer};
-ghost use Rattle.meaning.specs.Records.{room, origin, kindOf, miscOf, fieldsAnswer};
+ghost use Rattle.meaning.specs.Records.{room, kindOf, miscOf, fieldsAnswer};
 ghost use Rattle.meaning.specs.Values.{words, wordsBy};
 ghost use Rattle.fields.specs.Told.{wordsIn};
 ghost use Rattle.record.specs.Into.{itemsOf, Fills};
 use fields::Words;
 use meaning::Attributes;
 use meaning::Cursor;
+
+// Where the words of the fields and those of the trailer start, after type, misc and size.
+const FIELDS_AT: usize = 3;
+
+const TRAILER_AT: usize = 48;
 
 // The words of one item in their place: none, one or two.
 fn place(out: &mut [u64], at: usize, t: Words)
@@ -57,17 +61,6 @@ pub fn fill(
     }
 }
 
-fn origin(at: usize) -> Cursor
-    ensures { λ r. ⌜ r ≡ origin at ⌝ }
-{
-    Cursor {
-        at,
-        n: 0,
-        old: 0,
-        why: 0,
-    }
-}
-
 // Type, misc and size; the words of the fields from 3 on, those of the trailer from 48 on; every other word is 0.
 pub fn of_record(r: &[u8], a: Attributes) -> [u64; 56]
     requires { ⌜ (8 ≤ length (now r)) × (fieldsAnswer (schema (kindOf (now r)) (miscOf (now r)) a) (room (trailer (kindOf (now r)) a)) (now r) ≡ 0) ⌝ }
@@ -84,7 +77,17 @@ pub fn of_record(r: &[u8], a: Attributes) -> [u64; 56]
     let p = table::part_of(kind);
     let from = p.from;
     let to = p.to;
-    fill(&r[..end], kind, misc, a, from, to, origin(8), &mut out, 3);
+    fill(
+        &r[..end],
+        kind,
+        misc,
+        a,
+        from,
+        to,
+        crate::origin(8),
+        &mut out,
+        FIELDS_AT,
+    );
     fill(
         r,
         kind,
@@ -92,9 +95,9 @@ pub fn of_record(r: &[u8], a: Attributes) -> [u64; 56]
         a,
         table::TRAILER_FROM,
         table::TRAILER_TO,
-        origin(end),
+        crate::origin(end),
         &mut out,
-        48,
+        TRAILER_AT,
     );
     out
 }

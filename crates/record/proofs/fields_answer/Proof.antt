@@ -1,7 +1,8 @@
-use mathlib.Core.Path.{sym, _∙_}
+use mathlib.Core.Path.{sym, ap, _∙_}
 use native.Mathlib.Omega.{arith}
 use lib.Seq.{length-take-le}
 use denote.Ref.{now}
+use Rattle.meaning.specs.Items.{walk}
 use Rattle.meaning.specs.Schema.{schema}
 use Rattle.record.proofs.Laws.{answer-short, answer-walked}
 use borrow.Author.Needs.{needs}
@@ -23,6 +24,9 @@ sub-end c = search needs
 slice-aggregate-walk : tie.Need-slice-aggregate-walk
 slice-aggregate-walk c = sym (length-take-le _ _ (omega arith))
 
+origin-requires : tie.Need-origin-requires
+origin-requires c κs = search needs
+
 walk-requires : tie.Need-walk-requires
 walk-requires c κs = search needs
 
@@ -31,8 +35,10 @@ closed-requires c κs = search needs
 
 returns-2 : tie.Need-returns-2
 returns-2 c =
-    let a = c .before .before .before .before .before .before .args in
-    c .closed .ensures ∙ answer-walked (schema (a .kind) (a .misc) (a .a)) (now (a .r)) _ _ (c .before .before .before .before .trailer-room .ensures .0) _ (c .before .before .before .if1 .left) (c .before .walk .ensures)
+    let a = c .before .before .before .before .before .before .before .args in
+    c .closed .ensures
+    ∙ answer-walked (schema (a .kind) (a .misc) (a .a)) (now (a .r)) _ _ (c .before .before .before .before .before .trailer-room .ensures .0) _ (c .before .before .before .before .if1 .left)
+    (c .before .walk .ensures ∙ ap (walk _ (schema (a .kind) (a .misc) (a .a))) (c .before .before .origin .ensures))
 
 pub fields-answer-spec : {M : Type 1} → statement M
 fields-answer-spec =
@@ -43,6 +49,7 @@ fields-answer-spec =
     returns
     sub-end
     slice-aggregate-walk
+    origin-requires
     walk-requires
     closed-requires
     returns-2)

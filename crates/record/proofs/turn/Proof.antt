@@ -7,7 +7,7 @@ use Rattle.meaning.specs.declared.Shape.{Shape}
 use Rattle.meaning.specs.Items.{step}
 use Rattle.meaning.specs.Schema.{item}
 use Rattle.table.specs.Rows.{rows, itemOf}
-use Rattle.record.proofs.Laws.{step-off}
+use Rattle.fields.specs.Walks.{step-off}
 use borrow.Author.Needs.{needs}
 use Rattle.record.proofs.turn.Statement.{statement}
 use Rattle.record.proofs.turn.Tie as tie
@@ -37,8 +37,9 @@ returns-2 : tie.Need-returns-2
 returns-2 c =
     let a = c .before .before .before .before .args in
     let n = c .before .before .row-at in
-    step-off (now (a .s)) (itemOf (a .a) (a .misc) (a .kind) (getD rows (a .k) 0)) (a .c)
-    (ap (λ (r : ℕ). itemOf (a .a) (a .misc) (a .kind) r .on) (sym (n .ensures)) ∙ sym (c .before .is-on .ensures) ∙ c .if1 .left)
+    sym
+    (step-off (now (a .s)) (itemOf (a .a) (a .misc) (a .kind) (getD rows (a .k) 0)) (a .c)
+    (ap (λ (r : ℕ). itemOf (a .a) (a .misc) (a .kind) r .on) (sym (n .ensures)) ∙ sym (c .before .is-on .ensures) ∙ c .if1 .left))
 
 pub turn-spec : {M : Type 1} → statement M
 turn-spec =

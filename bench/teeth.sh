@@ -1,0 +1,65 @@
+#!/usr/bin/env bash
+# Does the comparison bite? Plants one mistake at a time in a copy of careful.c and runs the comparison: each must be
+# found. Not part of the gate; run it after a change of made.c or compare.c.
+#
+#   bench/teeth.sh [ARCHIVE]       target/staticlib/libollskuvan.a; RINGS=20000 SEED=1
+set -u
+cd "$(dirname "$0")/.." || exit 2
+library=${1:-target/staticlib/libollskuvan.a}
+out=target/bench/teeth
+[ -f "$library" ] || { echo "bench/teeth.sh: no such archive: $library" >&2; exit 2; }
+mkdir -p "$out" || exit 2
+found=0 missed=0
+
+plant() { # WORDS SED-EXPRESSION (over the whole file at once)
+  sed -z "$2" bench/careful.c >"$out/careful.c" || exit 2
+  if cmp -s bench/careful.c "$out/careful.c"; then
+    echo "bench/teeth.sh: '$1' changes nothing: careful.c has moved on" >&2
+    exit 2
+  fi
+  gcc -std=c11 -O2 -w -DWITHOUT_VALUES -Iinclude -Ibench -o "$out/bench" bench/bench.c bench/compare.c bench/timing.c bench/made.c \
+    bench/floor.c "$out/careful.c" "$library" || exit 2
+  # in a shell of its own: some mistakes end in a crash, which is found too
+  if bash -c '"$@"; exit $?' teeth "$out/bench" compare "${RINGS:-20000}" "${SEED:-1}" >"$out/log" 2>&1; then
+    echo "MISSED: $1"
+    missed=$((missed + 1))
+  else
+    found=$((found + 1))
+  fi
+}
+
+plant "a build id of 21 bytes" 's/record\[40\] > 20/record[40] > 21/'
+plant "the build id's room before its size" 's/size <= 40 + p->trailer/size < 72 + p->trailer/'
+plant "8 bytes of padding in TEXT_POKE" 's/end - texts > 7/end - texts > 8/'
+plant "interrupt registers by the user mask" 's/? p->interrupt : 0/? p->user : 0/'
+plant "registers behind abi 0" 's/load64(at) != 0 ? p->user : 0/p->user/'
+plant "filled length not tested" 's/if (load64(at + bytes) > bytes)/if (0)/'
+plant "filled length must be below the size" 's/load64(at + bytes) > bytes/load64(at + bytes) >= bytes/'
+plant "stack and aux sizes of any kind" 's/at += 8;\n        left -= 8;\n        if (bytes % 8 != 0)\n            return 32;/at += 8;\n        left -= 8;/'
+plant "raw: 30 before 32" 's/if (bytes % 8 != 0)\n            return 32;\n        if (bytes > left)\n            return 30;\n        at += bytes;/if (bytes > left)\n            return 30;\n        if (bytes % 8 != 0)\n            return 32;\n        at += bytes;/'
+plant "raw size plus 4 wraps" 's/UINT64_C(4) + load32(at)/(uint32_t)(4 + load32(at))/'
+plant "a count of branches wraps" 's/if (n > left || 24 \* n > left)/if (24 * n > left)/'
+plant "a count of read values wraps" 's/if (n > left || n \* p->read_entry > left)/if (n * p->read_entry > left)/'
+plant "a count of namespaces wraps" 's/if (n > left || n \* entry > left)/if (n * entry > left)/'
+plant "a zero early in a name" 's/if (at != last \&\& unlikely(zero8(at)))\n        return 33;//'
+plant "no zero in a name" 's/return likely(zero8(last)) ? 0 : 33/return 0/'
+plant "an empty room is 30" 's/if (at == end)\n        return 33;/if (at == end)\n        return 30;/'
+plant "types are cut to 16 bits" 's/type < OLLSKUVAN_KIND_OTHER ? type : OLLSKUVAN_KIND_OTHER/type \& 0xffff/'
+plant "9 before 8" 's/stop = most == budget ? 8 : 9/stop = most == room ? 9 : 8/'
+plant "row 7 a word late" 's/unlikely(size > distance)/unlikely(size > distance + 8)/'
+plant "row 6 allows 12" 's/size < HEADER || size % 8 != 0/size < HEADER || size % 4 != 0/'
+plant "scratch a byte short" 's/if (scratch_len < size)/if (scratch_len + 1 < size)/'
+plant "a record that crosses is not copied" 's/memcpy(scratch + whole, ring, size - whole);//'
+plant "row 4 a word late" 's/head - tail > ring_len/head - tail > ring_len + 8/g'
+plant "the trailer without its identifier" 's/sample_type & OLLSKUVAN_TRAILER_BITS/sample_type \& OLLSKUVAN_TRAILER_BITS \& ~UINT64_C(0x10000)/'
+plant "21 for SAMPLE alone" 's/new_bits && (k == 9 || id_all)/new_bits \&\& k == 9/'
+plant "22 for READ alone" 's/(k == 8 || (k == 9 && bit(sample_type, 4)))/k == 8/'
+plant "no 24" 's/k == 9 && bit(sample_type, 14) && bit(sample_type, 24)/0/'
+plant "23 behind the size" 's/if (!p->build_id_known)\n            return 23;\n        if (size <= 40 + p->trailer)\n            return 30;/if (size <= 40 + p->trailer)\n            return 30;\n        if (!p->build_id_known)\n            return 23;/'
+plant "the edition narrowed" 's/if (edition - 1 > 2)/if ((uint8_t)edition - 1u > 2)/'
+plant "edition 2 knows type 16" 's/last_type\[4\] = { 0, 9, 15, 20 }/last_type[4] = { 0, 9, 16, 20 }/'
+plant "edition 1 knows bit 16" 's/last_bit\[4\] = { 0, 15, 18, 24 }/last_bit[4] = { 0, 16, 18, 24 }/'
+plant "the code page size is forgotten" 's/LAST_BITS UINT64_C(0xe80000)/LAST_BITS UINT64_C(0x680000)/'
+rm -rf "$out"
+echo "planted mistakes: $found found, $missed missed"
+[ "$missed" -eq 0 ]
