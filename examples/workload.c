@@ -10,7 +10,7 @@
 #include <fcntl.h>
 #include <pthread.h>
 #include <sched.h>
-#include <stdbool.h>
+#include <stdarg.h>
 #include <stdint.h>
 #include <stdio.h>
 #include <stdlib.h>
@@ -28,6 +28,21 @@ static void die(const char *what)
 {
     fprintf(stderr, "workload: %s: %s\n", what, strerror(errno));
     exit(1);
+}
+
+/* A text that fits its room, or the end of the program: nothing is cut. */
+static void compose(char *out, size_t room, const char *format, ...) __attribute__((format(printf, 3, 4)));
+
+static void compose(char *out, size_t room, const char *format, ...)
+{
+    va_list list;
+    va_start(list, format);
+    int length = vsnprintf(out, room, format, list);
+    va_end(list);
+    if (length < 0 || (size_t)length >= room) {
+        fprintf(stderr, "workload: a name is too long\n");
+        exit(1);
+    }
 }
 
 static void call_me(const char *name)
@@ -129,7 +144,7 @@ static void run_children(void)
 {
     for (int i = 0; i < CHILDREN; i++) {
         char name[16];
-        snprintf(name, sizeof name, "kiln-child-%d", i);
+        compose(name, sizeof name, "kiln-child-%d", i);
         fflush(facts);
         pid_t pid = fork();
         if (pid < 0)
@@ -164,34 +179,34 @@ static void run_naps(void)
     fprintf(facts, "naps %ld %ld\n", last - first, switches() - before);
 }
 
+/* A file in the folder whose whole name has this many bytes, mapped and removed. */
+static void map_long_name(const char *own, const char *folder, const char *name, size_t bytes, char file[512])
+{
+    compose(file, 512, "%s/%.*s", folder, (int)(bytes - strlen(folder) - 1), name);
+    copy_file(own, file);
+    map_file(file);
+    unlink(file);
+}
+
+/* A name of 72 bytes is the longest that the report shows; 73 are too many. */
 static void run_maps(const char *own, const char *facts_path)
 {
-    char file[512], longer[512];
-    map_file(own);
-    /* a name of 72 bytes is the longest that the report shows, 73 is too long */
+    char given[512], file[512];
     const char *slash = strrchr(facts_path, '/');
-    int folder = slash != NULL ? (int)(slash - facts_path) : 0;
-    char real[4096];
-    char given[512];
-    snprintf(given, sizeof given, "%.*s", folder > 0 ? folder : 1, folder > 0 ? facts_path : ".");
-    if (realpath(given, real) == NULL)
+    compose(given, sizeof given, "%.*s", slash != NULL ? (int)(slash - facts_path) : 1, slash != NULL ? facts_path : ".");
+    char *folder = realpath(given[0] != '\0' ? given : "/", NULL);
+    if (folder == NULL)
         die(given);
-    size_t length = strlen(real) + 1;
-    if (length >= 72) {
+    map_file(own);
+    if (strlen(folder) > 60) {
         fprintf(facts, "long skipped\n");
-        return;
+    } else {
+        map_long_name(own, folder, "cone-6-oxidation-firing-profile-of-the-big-kiln-in-the-yard-behind-the-old-school", 72, file);
+        fprintf(facts, "mapped %s\n", file);
+        map_long_name(own, folder, "dune-6-oxidation-firing-profile-of-the-big-kiln-in-the-yard-behind-the-old-school", 73, file);
+        fprintf(facts, "long %zu\n", strlen(file));
     }
-    snprintf(file, sizeof file, "%s/%.*s", real, (int)(72 - length),
-        "cone-6-oxidation-firing-profile-of-the-big-kiln-in-the-yard-behind-the-old-school");
-    snprintf(longer, sizeof longer, "%s/%.*s", real, (int)(73 - length),
-        "dune-6-oxidation-firing-profile-of-the-big-kiln-in-the-yard-behind-the-old-school");
-    copy_file(own, file);
-    copy_file(own, longer);
-    map_file(file);
-    map_file(longer);
-    unlink(file);
-    unlink(longer);
-    fprintf(facts, "mapped %s\nlong %zu\n", file, strlen(longer));
+    free(folder);
 }
 
 static int known(const char *facts_path)
