@@ -1,14 +1,19 @@
-# Two commands: `make run` drains a shipped ring, `make test` proves and tests everything.
-# Needed: the Rattle toolchain (rt), and Debian's packages gcc, make, rustc, valgrind (valgrind may be missing: its part is then skipped).
+# Two commands: `make run` drains a shipped ring, `make test` proves and tests everything (the gate).
+# Needed: the Rattle toolchain (rt), and Debian's packages gcc, make, rustc, pkg-config and valgrind (a part whose tool is missing is skipped with a word).
 .DELETE_ON_ERROR:
-.PHONY: run test lib soak clean help
+.PHONY: help run test lib clean
 
 RING ?= rings/switches.img
+LIB = target/staticlib/libollskuvan.a
 
 help:
-	@echo "make run    build ringdump and drain a shipped ring (RING=$(RING))"
-	@echo "make test   prove every crate, try every must-fail edit, run all tests (the gate)"
-	@echo "make lib    build target/staticlib/libollskuvan.a for C"
+	@echo "make run       build ringdump and drain a shipped ring (RING=$(RING))"
+	@echo "make test      prove every crate, try every must-fail edit, run all tests (the gate)"
+	@echo "make lib       build $(LIB) for C"
+	@echo "make report    the report of the shipped kiln rings, and its picture"
+	@echo "make bench     speed beside careful C"
+	@echo "make install   header, library, pkg-config file, manual page (PREFIX=$(PREFIX))"
+	@echo "make soak      random and damaged rings beside the independent reader (MINUTES=5)"
 
 # the journal of a ring that a live kernel wrote: an entry a line, then why the drain stopped and at which tail
 run:
@@ -17,10 +22,23 @@ run:
 	@target/bin/ringdump < "$(RING)"
 
 lib:
-	rt staticlib ollskuvan
+	@rt staticlib ollskuvan | tail -n 1
 
 test:
 	@bash tools/gate.sh
 
 clean:
 	rm -rf target
+
+# what needs the library builds it first
+$(LIB):
+	@rt staticlib ollskuvan | tail -n 1
+
+examples bench bench-short bench-instructions install outside-tests: $(LIB)
+
+MINUTES ?= 5
+.PHONY: soak
+soak: $(LIB)
+	tests/run.sh soak $(MINUTES)
+
+include tests/Makefile.inc examples/Makefile.inc bench/Makefile.inc packaging/Makefile.inc

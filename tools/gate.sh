@@ -10,7 +10,7 @@ began=$(date +%s)
 rt ci >"$log" 2>&1
 status=$?
 last=$(tail -n 1 "$log")
-grep -E '^rt: ' "$log" | grep -v 'library ' | tail -n 200
+grep -E '^rt: ' "$log" | tail -n 300
 if [ "$status" -ne 0 ]; then
   tail -n 60 "$log"
   case "$last" in
@@ -22,14 +22,26 @@ if [ "$status" -ne 0 ]; then
 fi
 echo "proved in $(($(date +%s) - began)) s"
 
-for part in tools/selfcheck.sh tests/run.sh; do
-  [ -f "$part" ] || continue
-  if ! bash "$part"; then
-    echo "$part failed"
+# a part from outside: its name, then the command
+part() {
+  local name=$1 start
+  shift
+  start=$(date +%s)
+  echo "== $name"
+  if ! "$@"; then
+    echo "$name failed"
     echo "${last%% passed*} passed, 1 failed"
     exit 1
   fi
-done
+  echo "   $name: $(($(date +%s) - start)) s"
+}
+part 'the tree itself' bash tools/selfcheck.sh
+part 'the library for C' bash -c 'rt staticlib ollskuvan >target/staticlib.log 2>&1 || { tail -n 20 target/staticlib.log; exit 1; }'
+part 'tests from outside' bash tests/run.sh
+part 'careful C beside ours' bash bench/run.sh --short
+part 'examples' make -s examples-test
+part 'live rings' make -s live-test
+part 'the package' make -s install-test
 echo "all in $(($(date +%s) - began)) s"
 case "$last" in
   *' passed, 0 failed') echo "$last" ;;
