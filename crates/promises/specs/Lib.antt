@@ -3,6 +3,7 @@ pub mod Scratch
 pub mod Reasons
 pub mod Demand1
 pub mod Names
+pub mod Lent
 pub mod Demand2
 pub mod Demand3
 pub mod Unique
