@@ -8,6 +8,9 @@
 #   tests/run.sh standin         with the independent reader in the library's place: tries the tests
 #                                themselves and says nothing about the library
 #   tests/run.sh long COUNT SEED COUNT drains and COUNT values with this seed, and nothing else
+#   tests/run.sh soak MINUTES [SEED]
+#                                random and damaged rings, records and images until the time is up, with
+#                                progress every ten seconds; stops at the first difference
 #
 # DRAINS, VALUES and SEED change the counts and the seed of the gate's run. Needs rustc, a C compiler
 # (CC, or cc) and, for the memory check of the C calls, valgrind. Everything is built in target/tests/.
@@ -30,6 +33,10 @@ case $mode in
     long)
         [ $# -eq 3 ] || stop "use: tests/run.sh long COUNT SEED"
         drains=$2 values=$2 seed=$3
+        ;;
+    soak)
+        { [ $# -eq 2 ] || [ $# -eq 3 ]; } || stop "use: tests/run.sh soak MINUTES [SEED]"
+        minutes=$2 seed=${3:-1}
         ;;
     *) stop "no such word: $mode (see the head of this file)" ;;
 esac
@@ -64,6 +71,10 @@ case $mode in
         [ -f "$archive" ] || stop "$archive is missing: run 'rt staticlib ollskuvan' first"
         [ $mode = long ] || [ -x "$ringdump" ] || stop "$ringdump is missing: run 'rt check ringdump' first"
         without= undefined=
+        if [ $mode = soak ] && ! nm "$archive" 2>/dev/null | grep -q ' T ollskuvan_read$'; then
+            echo "== the archive has no read and write: they are left out"
+            without="--cfg without_values"
+        fi
         if [ $mode = without-values ]; then
             without="--cfg without_values"
             undefined=-DWITHOUT_VALUES
@@ -72,10 +83,13 @@ case $mode in
         part "build the independent reader" \
             rust $without -C link-arg="$archive" -o "$out/reader" tests/reader/main.rs
         # shellcheck disable=SC2086
-        part "build the calls from C" c $undefined -o "$out/exports" tests/exports.c "$archive"
+        [ $mode = soak ] || part "build the calls from C" c $undefined -o "$out/exports" tests/exports.c "$archive"
         ;;
 esac
 
+if [ $mode = soak ]; then
+    exec "$out/reader" soak "$ringdump" --rings rings --folder "$out" --minutes "$minutes" --seed "$seed"
+fi
 if [ $mode = long ]; then
     part "drains, checks and name copies: $drains cases, seed $seed" \
         "$out/reader" drains --count "$drains" --seed "$seed"
@@ -85,6 +99,7 @@ if [ $mode = long ]; then
 fi
 
 part "document 01's examples on the independent reader" "$out/reader" examples
+part "kept cases that other readers get wrong" "$out/reader" cases tests/cases
 part "every export from C" "$out/exports"
 if command -v valgrind >/dev/null; then
     part "every export from C, under valgrind" \
@@ -101,5 +116,7 @@ if [ $mode != without-values ]; then
 fi
 # shellcheck disable=SC2086
 part "what ringdump prints" "$out/reader" images $ringdump --rings rings --folder "$out" --seed "$seed" --count 400
+part "damaged real rings: 5000 cases, seed $seed" "$out/reader" damaged --rings rings --seed "$seed" --count 5000
+[ $mode = standin ] || part "fuzzing, if clang is there" tests/fuzz/run.sh 100000 "$seed"
 
 echo "outside tests: $parts parts done in $(($(date +%s) - begun)) s, none failed"

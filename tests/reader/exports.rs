@@ -1,7 +1,9 @@
-//! A stand-in for libollskuvan.a: the exports, answered by the independent reader itself.
+//! The exports, answered by the independent reader itself.
 //!
-//! It is built only to test the test programs (tests/run.sh standin). A comparison with the
-//! stand-in compares the independent reader with itself and says nothing about the library.
+//! Under the library's names it is a stand-in for libollskuvan.a, built only to test the test programs
+//! (tests/run.sh standin). A comparison with the stand-in compares the independent reader with itself
+//! and says nothing about the library. Under names of its own (`own_names`: reader_drain and so on) it
+//! stands beside the library in one program: the fuzz target, tests/fuzz.
 
 use crate::abi::CDrained;
 use crate::record;
@@ -11,15 +13,16 @@ use crate::words::FIELDS;
 use crate::writer;
 
 /// A null pointer is allowed where the length is 0.
-unsafe fn lent<'s, T>(pointer: *const T, length: usize) -> &'s [T] {
+pub unsafe fn lent<'s, T>(pointer: *const T, length: usize) -> &'s [T] {
     if length == 0 { &[] } else { std::slice::from_raw_parts(pointer, length) }
 }
 
-unsafe fn lent_mut<'s, T>(pointer: *mut T, length: usize) -> &'s mut [T] {
+pub unsafe fn lent_mut<'s, T>(pointer: *mut T, length: usize) -> &'s mut [T] {
     if length == 0 { &mut [] } else { std::slice::from_raw_parts_mut(pointer, length) }
 }
 
-#[no_mangle]
+#[cfg_attr(own_names, export_name = "reader_drain")]
+#[cfg_attr(not(own_names), no_mangle)]
 pub unsafe extern "C" fn ollskuvan_drain(
     ring: *const u8, ring_len: usize, head: u64, tail: u64, sample_type: u64, read_format: u64,
     sample_id_all: u32, user_mask: u64, interrupt_mask: u64, edition: u32, budget: u64,
@@ -31,7 +34,8 @@ pub unsafe extern "C" fn ollskuvan_drain(
     CDrained { taken: d.taken, bytes: d.bytes, tail: d.tail, stop: d.stop }
 }
 
-#[no_mangle]
+#[cfg_attr(own_names, export_name = "reader_check")]
+#[cfg_attr(not(own_names), no_mangle)]
 pub unsafe extern "C" fn ollskuvan_check(
     record: *const u8, record_len: usize, sample_type: u64, read_format: u64, sample_id_all: u32,
     user_mask: u64, interrupt_mask: u64, edition: u32,
@@ -40,14 +44,16 @@ pub unsafe extern "C" fn ollskuvan_check(
     record::check(lent(record, record_len), edition, &a)
 }
 
-#[no_mangle]
+#[cfg_attr(own_names, export_name = "reader_copy_name")]
+#[cfg_attr(not(own_names), no_mangle)]
 pub unsafe extern "C" fn ollskuvan_copy_name(
     record: *const u8, record_len: usize, place: u64, count: u64, buffer: *mut u8, buffer_len: usize,
 ) -> u32 {
     record::copy_name(lent(record, record_len), place, count, lent_mut(buffer, buffer_len))
 }
 
-#[no_mangle]
+#[cfg_attr(own_names, export_name = "reader_read")]
+#[cfg_attr(not(own_names), no_mangle)]
 pub unsafe extern "C" fn ollskuvan_read(
     record: *const u8, record_len: usize, sample_type: u64, read_format: u64, sample_id_all: u32,
     user_mask: u64, interrupt_mask: u64, edition: u32, fields: *mut u64, fields_len: usize,
@@ -63,7 +69,8 @@ pub unsafe extern "C" fn ollskuvan_read(
     }
 }
 
-#[no_mangle]
+#[cfg_attr(own_names, export_name = "reader_write")]
+#[cfg_attr(not(own_names), no_mangle)]
 pub unsafe extern "C" fn ollskuvan_write(
     fields: *const u64, fields_len: usize, source: *const u8, source_len: usize, sample_type: u64,
     read_format: u64, sample_id_all: u32, user_mask: u64, interrupt_mask: u64, edition: u32,

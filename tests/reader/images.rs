@@ -88,15 +88,7 @@ pub fn run(program: &mut Program, rings: Option<&Path>, seed: u64, count: u64) -
     lengths(program)?;
     let by_length = program.runs;
     for number in 0..count {
-        let mut r = Random::new(seed, number);
-        let case = loop {
-            let case = drain_case(&mut r);
-            if case.ring.len() <= 16_384 {
-                break case;
-            }
-        };
-        let pieces = if number % 8 == 0 { Some(1 + r.below(200) as usize) } else { None };
-        program.compare(&format!("seed {seed}, image {number}"), &case.image().bytes(), pieces)?;
+        one_image(program, seed, number)?;
     }
     let made = program.runs - by_length;
     if let Some(folder) = rings {
@@ -114,6 +106,19 @@ pub fn run(program: &mut Program, rings: Option<&Path>, seed: u64, count: u64) -
         program.runs - by_length - made
     );
     Ok(())
+}
+
+/// One made image, at times in pieces.
+pub fn one_image(program: &mut Program, seed: u64, number: u64) -> Result<(), String> {
+    let mut r = Random::new(seed, number);
+    let case = loop {
+        let case = drain_case(&mut r);
+        if case.ring.len() <= 16_384 {
+            break case;
+        }
+    };
+    let pieces = if number % 8 == 0 { Some(1 + r.below(200) as usize) } else { None };
+    program.compare(&format!("seed {seed}, image {number}"), &case.image().bytes(), pieces)
 }
 
 /// Inputs below 50 bytes, of just 50, and rings of every kind of length.

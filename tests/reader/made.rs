@@ -448,7 +448,7 @@ pub fn damage_body(r: &mut Random, record: &mut Vec<u8>, a: &Attributes) {
 }
 
 /// A size that the record does not have.
-fn damage_size(r: &mut Random, record: &mut [u8]) {
+pub fn damage_size(r: &mut Random, record: &mut [u8]) {
     let size = le16(record, 6);
     let (any, small) = (r.next() as u16, r.next() as u16 & 0x1f8);
     let wrong = r.pick(&[
@@ -509,7 +509,7 @@ fn some_ring_length(r: &mut Random) -> usize {
     }
 }
 
-fn some_tail(r: &mut Random) -> u64 {
+pub fn some_tail(r: &mut Random) -> u64 {
     let place = r.next();
     8 * match r.below(4) {
         0 => r.below(1 << 10),
@@ -519,7 +519,7 @@ fn some_tail(r: &mut Random) -> u64 {
     }
 }
 
-fn put(ring: &mut [u8], count: u64, bytes: &[u8]) {
+pub fn put(ring: &mut [u8], count: u64, bytes: &[u8]) {
     let length = ring.len() as u64;
     for (i, byte) in bytes.iter().enumerate() {
         ring[(count.wrapping_add(i as u64) % length) as usize] = *byte;
@@ -622,7 +622,7 @@ fn choose_room(r: &mut Random, case: &mut DrainCase, sizes: &[usize]) {
 }
 
 /// Head and tail as nobody should hand them in.
-fn damage_counts(r: &mut Random, case: &mut DrainCase) {
+pub fn damage_counts(r: &mut Random, case: &mut DrainCase) {
     let length = case.ring.len() as u64;
     match r.below(8) {
         0 => case.head = case.head.wrapping_add(1 + r.below(7)),

@@ -4,16 +4,19 @@
 //! Standard library only. Build and use: tests/run.sh, or `reader help`.
 
 mod abi;
+mod cases;
 mod drains;
 mod examples;
 #[cfg(standin)]
 mod exports;
+mod fuzz;
 mod guard;
 mod images;
 mod made;
 mod record;
 mod ring;
 mod rules;
+mod soak;
 mod tally;
 mod values;
 mod words;
@@ -35,7 +38,14 @@ reader values [OPTIONS]               read and write: the library against the in
 reader bits                           each sample bit, read format, type and trailer bit: written, read, compared
 reader images PROGRAM [WORDS...] [OPTIONS]
                                       ringdump's print over made images, real rings and inputs of every length
-options: --seed N (default 1)  --count N  --from N (first case)  --rings FOLDER  --folder FOLDER (for files made)
+reader cases FOLDER                   the kept cases: inputs that other readers get wrong, with the answers that are due
+reader plain FOLDER                   the records of the kept cases, a line each, for other readers
+reader damaged --rings FOLDER [OPTIONS]
+                                      real rings with damage: drain, check and read compared
+reader soak PROGRAM [WORDS...] --rings FOLDER [OPTIONS]
+                                      drains, values, damaged real rings and printed images for --minutes N (default 1)
+reader seeds FOLDER [OPTIONS]         seeds for the fuzz target: from the real rings, and --count made ones
+options: --seed N (default 1)  --count N  --from N (first case)  --rings FOLDER  --folder FOLDER (for files made)  --minutes N
 A case depends on the seed and its number alone: --seed S --from N --count 1 runs case N again.
 ";
 
@@ -45,12 +55,20 @@ struct Options {
     from: u64,
     rings: Option<PathBuf>,
     folder: PathBuf,
+    minutes: u64,
     words: Vec<String>,
 }
 
 fn parse(arguments: &[String]) -> Result<Options, String> {
-    let mut o =
-        Options { seed: 1, count: None, from: 0, rings: None, folder: PathBuf::from("."), words: Vec::new() };
+    let mut o = Options {
+        seed: 1,
+        count: None,
+        from: 0,
+        rings: None,
+        folder: PathBuf::from("."),
+        minutes: 1,
+        words: Vec::new(),
+    };
     let mut at = arguments.iter();
     while let Some(word) = at.next() {
         if !word.starts_with("--") {
@@ -65,6 +83,7 @@ fn parse(arguments: &[String]) -> Result<Options, String> {
             "--from" => o.from = number()?,
             "--rings" => o.rings = Some(PathBuf::from(value)),
             "--folder" => o.folder = PathBuf::from(value),
+            "--minutes" => o.minutes = number()?,
             _ => return Err(format!("{word} is not known")),
         }
     }
@@ -101,10 +120,24 @@ fn run(command: &str, o: &Options) -> Result<(), String> {
             Ok(())
         }
         "images" => {
-            let (path, arguments) = o.words.split_first().ok_or("images needs a program")?;
-            let mut program = images::Program { path: Path::new(path), arguments, folder: &o.folder, runs: 0 };
-            images::run(&mut program, o.rings.as_deref(), o.seed, o.count.unwrap_or(400))
+            images::run(&mut program(o)?, o.rings.as_deref(), o.seed, o.count.unwrap_or(400))
         }
+        "cases" => cases::run(Path::new(o.words.first().ok_or("cases needs a folder")?)),
+        "plain" => cases::plain(Path::new(o.words.first().ok_or("plain needs a folder")?)),
+        "damaged" => {
+            let (rings, _) = real_rings(o)?;
+            let mut tally = Tally::default();
+            let count = o.count.unwrap_or(10_000);
+            let one = |seed, number, tally: &mut Tally| soak::damaged_case(&rings, seed, number, tally);
+            run_cases("damaged", o, count, &mut tally, one)?;
+            println!("damaged: seed {}, {count} real rings with damage, no difference", o.seed);
+            Ok(())
+        }
+        "soak" => {
+            let (rings, folder) = real_rings(o)?;
+            soak::run(&mut program(o)?, &rings, folder, o.seed, o.minutes)
+        }
+        "seeds" => seeds(Path::new(o.words.first().ok_or("seeds needs a folder")?), o),
         "help" => {
             print!("{HELP}");
             Ok(())
@@ -117,6 +150,17 @@ fn dump() -> Result<(), String> {
     let mut input = Vec::new();
     std::io::stdin().read_to_end(&mut input).map_err(|e| e.to_string())?;
     std::io::stdout().write_all(ring::program_output(&input).as_bytes()).map_err(|e| e.to_string())
+}
+
+/// Writes the seeds of the fuzz target, each to a file of its own.
+fn seeds(folder: &Path, o: &Options) -> Result<(), String> {
+    let rings = o.rings.as_deref().map_or(Ok(Vec::new()), images::images_of)?;
+    let seeds = fuzz::seeds(&rings, o.seed, o.count.unwrap_or(600));
+    for (name, bytes) in &seeds {
+        std::fs::write(folder.join(name), bytes).map_err(|e| format!("{name}: {e}"))?;
+    }
+    println!("seeds: {} inputs for the fuzz target", seeds.len());
+    Ok(())
 }
 
 /// The records of an image, each with its answer and the words that are not 0.
@@ -147,7 +191,7 @@ fn list(path: &Path) -> Result<(), String> {
 }
 
 /// The records of an image from tail to head.
-fn records_of(image: &ring::Image) -> Result<Vec<(u64, Vec<u8>)>, String> {
+fn records_of(image: &ring::Image) -> Result<soak::Records, String> {
     let length = image.ring.len() as u64;
     let mut records = Vec::new();
     let mut tail = image.tail;
@@ -200,10 +244,28 @@ fn rings(folder: &Path) -> Result<(), String> {
     Ok(())
 }
 
+/// The program that prints images, and its words.
+fn program(o: &Options) -> Result<images::Program<'_>, String> {
+    let (path, arguments) = o.words.split_first().ok_or("a program is needed: ringdump")?;
+    Ok(images::Program { path: Path::new(path), arguments, folder: &o.folder, runs: 0 })
+}
+
+/// The real rings of --rings, each with its records.
+fn real_rings(o: &Options) -> Result<(Vec<(ring::Image, soak::Records)>, &Path), String> {
+    let folder = o.rings.as_deref().ok_or("--rings FOLDER is needed")?;
+    let mut rings = Vec::new();
+    for (name, bytes) in images::images_of(folder)? {
+        let image = ring::Image::parse(&bytes).ok_or(format!("{name}: fewer than 50 bytes"))?;
+        let records = records_of(&image).map_err(|e| format!("{name}: {e}"))?;
+        rings.push((image, records));
+    }
+    Ok((rings, folder))
+}
+
 /// Runs cases one after the other; a difference ends it and says how to run it again.
-fn cases(
+fn run_cases(
     command: &str, o: &Options, count: u64, tally: &mut Tally,
-    one: fn(u64, u64, &mut Tally) -> Result<(), String>,
+    one: impl Fn(u64, u64, &mut Tally) -> Result<(), String>,
 ) -> Result<(), String> {
     for number in o.from..o.from + count {
         one(o.seed, number, tally).map_err(|difference| {
@@ -235,7 +297,7 @@ fn run_drains(o: &Options) -> Result<(), String> {
     let count = o.count.unwrap_or(200_000);
     let mut tally = Tally::default();
     let crossings = if o.from == 0 { fixed_part("crossings", drains::crossings, &mut tally)? } else { 0 };
-    cases("drains", o, count, &mut tally, drains::one_case)?;
+    run_cases("drains", o, count, &mut tally, drains::one_case)?;
     tally.print_records();
     tally.print_accepted();
     for call in ["drain", "check", "name copy"] {
@@ -256,7 +318,7 @@ fn run_values(o: &Options) -> Result<(), String> {
     let count = o.count.unwrap_or(100_000);
     let mut tally = Tally::default();
     let edges = if o.from == 0 { fixed_part("edges", values::edges, &mut tally)? } else { 0 };
-    cases("values", o, count, &mut tally, values::one_case)?;
+    run_cases("values", o, count, &mut tally, values::one_case)?;
     tally.print_records();
     for call in ["read", "write"] {
         tally.print_answers(call);

@@ -7,3 +7,4 @@ pub mod Lent
 pub mod Demand2
 pub mod Demand3
 pub mod Unique
+pub mod Counts

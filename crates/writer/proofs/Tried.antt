@@ -1,0 +1,103 @@
+-- The loop that tests: one item, all of them, and what its end says of `fits`. Assumes nothing.
+use mathlib.Core.Path.{_≡_, refl, sym, ap, ap₂, _∙_, subst}
+use Prim.Native.Nat.{ℕ, zero, suc, _+_, _-_, _*_, _/_, _%_, _^_, _<_, _≤_}
+use native.Mathlib.Nat.{add-zero, mul-one}
+use native.Mathlib.Omega.{arith}
+use mathlib.Core.Bool.{Bool, true, false, cond, not, _&&_, _||_}
+use mathlib.Core.List.{List, [], _∷_, _++_}
+use mathlib.Core.Logic.{_⊎_, inl, inr}
+use lib.ListN.{length, take, drop, getD}
+use lib.Dec.{leb, eqb, ltb}
+use mir.Val.{Fits}
+use mir.Syntax.{w8}
+use borrow.Author.Tests.{leb-true, leb-false, le-leb, lt-leb, lt-ltb, ltb-false, eqb-true, not-true, not-false}
+use Rattle.meaning.specs.declared.Cursor.{Cursor}
+use Rattle.meaning.specs.declared.Item.{Item}
+use Rattle.meaning.specs.declared.Shape.{Shape}
+use Rattle.meaning.specs.Bytes.{small}
+use Rattle.meaning.specs.Items.{Con, cursor}
+use Rattle.meaning.specs.Writing.{next, nexts, fit}
+use Rattle.meaning.specs.Values.{Slot, slot, held, means, beyond, anyBeyond}
+use Rattle.laws.specs.Bytes.{apart, and-true, true-and}
+use Rattle.writer.specs.declared.Form.{Form}
+use Rattle.writer.specs.Forms.{form, fitsForm, passesEnd, taken, formBytes, formNext}
+use Rattle.writer.specs.Tries.{unfit, fitsItem, good, tryItem, tryItems}
+use Rattle.writer.proofs.Fitting.{fits-is, next-is, passes-is, width-most, name-lists}
+
+-- the bytes of a slice are small
+pub small-of : (xs : List ℕ) → ((i : ℕ) → Fits w8 (getD xs i 0)) → small xs ≡ true
+unfolding small
+small-of [] h = refl
+small-of (x ∷ xs) h = true-and (ltb x 256) (small xs) (lt-ltb x 256 (h 0 .fits)) (small-of xs (λ i. h (suc i)))
+
+and-false : (b : Bool) → b && false ≡ false
+and-false true = refl
+and-false false = refl
+
+-- ---- one item
+
+module _ (src : List ℕ) (i : Item) (s : Slot) (c : Cursor) where
+  pub try-beyond : beyond src i s ≡ true → unfit ≡ tryItem src i s c
+  unfolding tryItem good
+  try-beyond o = rw (o, and-false (fitsItem src i s c))
+
+  module _ (bytesOnly : small src ≡ true) (narrow : s .num < 2 ^ 64) (o : beyond src i s ≡ false) where
+    pub try-misfit : fitsForm (form i c s) src s ≡ false → unfit ≡ tryItem src i s c
+    unfolding tryItem good
+    try-misfit f = rw (fits-is i c src s bytesOnly narrow o, f)
+
+    pub try-fit : fitsForm (form i c s) src s ≡ true
+        → cond (leb (formNext (form i c s) s c .at) 65535) (formNext (form i c s) s c) unfit ≡ tryItem src i s c
+    unfolding tryItem good
+    try-fit f = rw (fits-is i c src s bytesOnly narrow o, f, o, next-is i c src s f o)
+
+-- ---- the place after it, as the code adds it up
+
+module _ (f : Form) (s : Slot) (c : Cursor) (bytes : ℕ) (e : bytes ≡ taken f s) where
+  pub past-end : 65535 < c .at + (f .width + bytes + f .pad) → unfit ≡ cond (leb (formNext f s c .at) 65535) (formNext f s c) unfit
+  unfolding formNext
+  past-end h = rw (lt-leb (c .at + (f .width + taken f s + f .pad)) 65535 (omega (arith, h, e)))
+
+  pub before-end : c .at + (f .width + bytes + f .pad) ≤ 65535
+      → cursor (c .at + (f .width + bytes + f .pad)) (f .n) (f .old) (c .why) ≡ cond (leb (formNext f s c .at) 65535) (formNext f s c) unfit
+  unfolding formNext
+  before-end h =
+      rw (le-leb (c .at + (f .width + taken f s + f .pad)) 65535 (omega (arith, h, e)))
+      (ap (λ (n : ℕ). cursor (c .at + (f .width + n + f .pad)) (f .n) (f .old) (c .why)) e)
+
+pub taken-on : (f : Form) (s : Slot) → f .list ≡ true → s .count * f .unit ≡ taken f s
+unfolding taken
+taken-on f s e = rw e
+
+pub taken-off : (f : Form) (s : Slot) → f .list ≡ false → 0 ≡ taken f s
+unfolding taken
+taken-off f s e = rw e
+
+-- a list that does not pass the source's end
+pub inside-source : (f : Form) (src : List ℕ) (s : Slot) → passesEnd src (f .list) (f .unit) (s .place) (s .count) ≡ false → f .list ≡ true
+    → s .place + s .count * f .unit ≤ length src
+unfolding passesEnd
+inside-source f src s o e =
+    let g : ltb (length src) (s .place + s .count * f .unit) ≡ false = rw e at o in
+    ltb-false (length src) (s .place + s .count * f .unit) g
+
+-- the form that the code has is the item's
+module _ (i : Item) (c : Cursor) (s : Slot) (src : List ℕ) (f : Form) (e : f ≡ form i c s) where
+  pub beyond-by : (r : Bool) → r ≡ passesEnd src (f .list) (f .unit) (s .place) (s .count) → beyond src i s ≡ r
+  beyond-by r h = passes-is i c src s ∙ ap (λ (g : Form). passesEnd src (g .list) (g .unit) (s .place) (s .count)) (sym e) ∙ sym h
+
+  pub width-by : f .width ≤ 8
+  width-by = rw e (width-most i c s)
+
+  module _ (r : Bool) (h : r ≡ passesEnd src (f .list) (f .unit) (s .place) (s .count)) (o : r ≡ false) where
+    pub inside-by : f .list ≡ true → s .place + s .count * f .unit ≤ length src
+    inside-by l = inside-source f src s (sym h ∙ o) l
+
+    pub name-by : f .name ≡ true → s .place + s .count ≤ length src
+    name-by n =
+        let p = name-lists i c s (ap (λ (g : Form). g .name) (sym e) ∙ n) in
+        let l : f .list ≡ true = ap (λ (g : Form). g .list) e ∙ p .0 in
+        let u : f .unit ≡ 1 = ap (λ (g : Form). g .unit) e ∙ p .1 in
+        let q : s .place + s .count * f .unit ≤ length src = inside-by l in
+        let m : s .count * f .unit ≡ s .count = ap (λ (k : ℕ). s .count * k) u ∙ mul-one (s .count) in
+        omega (arith, q, m)

@@ -1,0 +1,185 @@
+-- Turns of the loops over a part's rows: what is still to come is the whole. Assumes nothing.
+use mathlib.Core.Path.{_≡_, refl, sym, ap, ap₂, _∙_, subst}
+use Prim.Native.Nat.{ℕ, zero, suc, _+_, _-_, _*_, _/_, _%_, _^_, _<_, _≤_}
+use native.Mathlib.Nat.{add-zero}
+use native.Mathlib.Omega.{arith}
+use mathlib.Core.Bool.{Bool, true, false, cond, not, _&&_, _||_}
+use mathlib.Core.List.{List, [], _∷_, _++_, map}
+use lib.ListN.{length, take, drop, getD}
+use lib.Seq.{slice, drop-drop}
+use lib.Dec.{leb, eqb, ltb}
+use borrow.Author.Tests.{leb-true, not-true}
+use Rattle.meaning.specs.declared.Cursor.{Cursor}
+use Rattle.meaning.specs.declared.Item.{Item}
+use Rattle.meaning.specs.declared.Shape.{Shape}
+use Rattle.meaning.specs.declared.Shape.the-variants.{Number, Ignored, Count, Size, Times, Earlier, Registers, Filled, Abi, Limit, Listed, Bytes, Pad, Name}
+use Rattle.meaning.specs.Items.{Con, cursor}
+use Rattle.meaning.specs.Writing.{next}
+use Rattle.meaning.specs.Values.{Slot, slot, tell, wordsOf, held, beyond, anyBeyond, slotsTold}
+use Rattle.laws.specs.Bytes.{apart, and-true, true-and}
+use Rattle.laws.specs.There.{next-why}
+use Rattle.table.specs.Rows.{rows, itemOf}
+use Rattle.table.proofs.Laws.{rows-next, rows-over}
+use Rattle.writer.specs.declared.Part.{Part}
+use Rattle.writer.specs.declared.Told.{Told}
+use Rattle.writer.specs.Tellings.{givenSlot, afterTold}
+use Rattle.writer.specs.Tries.{unfit, fitsItem, good, tryItem, tryItems, itemHere, itemsFrom, slotsFrom}
+
+words-most : (sh : Shape) → wordsOf sh ≤ 2
+unfolding tell
+words-most (Number w) = omega arith
+words-most (Ignored k) = omega arith
+words-most (Count w) = omega arith
+words-most (Size w) = omega arith
+words-most (Times k) = omega arith
+words-most (Earlier k) = omega arith
+words-most Registers = omega arith
+words-most Filled = omega arith
+words-most (Abi m) = omega arith
+words-most (Limit k) = omega arith
+words-most (Listed k) = omega arith
+words-most (Bytes k) = omega arith
+words-most Pad = omega arith
+words-most Name = omega arith
+
+pub items-next : (p : Part) (k : ℕ) → k < p .to → p .to ≤ 129 → itemsFrom p k ≡ itemHere p k ∷ itemsFrom p (k + 1)
+unfolding itemsFrom itemHere
+items-next p k h m = rows-next (itemOf (p .attributes) (p .misc) (p .kind)) k (p .to) h m
+
+pub items-over : (p : Part) → itemsFrom p (p .to) ≡ []
+unfolding itemsFrom
+items-over p = rows-over (itemOf (p .attributes) (p .misc) (p .kind)) (p .to)
+
+pub slots-next : (i : Item) (is : List Item) (t : Told) (ws : List ℕ) → slotsFrom (i ∷ is) t ws ≡ givenSlot ws t i ∷ slotsFrom is (afterTold ws t i) ws
+unfolding slotsFrom slotsTold
+slots-next i is t ws =
+    ap (λ (l : List ℕ). givenSlot ws t i ∷ slotsTold is l (afterTold ws t i .n) (afterTold ws t i .old)) (drop-drop (wordsOf (i .shape)) (t .at) ws)
+
+-- a function of the items and slots that are still to come, one item on
+module _ {A : Type 0} (f : List Item → List Slot → A) (p : Part) (ws : List ℕ) (k : ℕ) (t : Told) where
+  abbrev pub left : A
+  left = f (itemsFrom p k) (slotsFrom (itemsFrom p k) t ws)
+
+  pub one-on : k < p .to → p .to ≤ 129
+      → left ≡ f (itemHere p k ∷ itemsFrom p (k + 1)) (givenSlot ws t (itemHere p k) ∷ slotsFrom (itemsFrom p (k + 1)) (afterTold ws t (itemHere p k)) ws)
+  one-on h m =
+      ap (λ (is : List Item). f is (slotsFrom is t ws)) (items-next p k h m)
+      ∙ ap (λ (ss : List Slot). f (itemHere p k ∷ itemsFrom p (k + 1)) ss) (slots-next (itemHere p k) (itemsFrom p (k + 1)) t ws)
+
+  pub none-on : k ≡ p .to → left ≡ f [] []
+  unfolding slotsFrom slotsTold
+  none-on e =
+      ap (λ (is : List Item). f is (slotsFrom is t ws)) (ap (λ (n : ℕ). itemsFrom p n) e ∙ items-over p)
+
+-- how far the rows and the words are gone through
+pub record Within (p : Part) (k : ℕ) (t : Told) : Type 0 where
+  pub rows : k ≤ p .to
+  pub words : t .at ≤ 48 + 2 * k
+
+pub within-on : (p : Part) (k : ℕ) (t : Told) (ws : List ℕ) (i : Item) (t′ : Told) → Within p k t → k < p .to → t′ ≡ afterTold ws t i → Within p (k + 1) t′
+within-on p k t ws i t′ w h e =
+    let q : t′ .at ≡ t .at + wordsOf (i .shape) = ap (λ (x : Told). x .at) e in
+    let m = words-most (i .shape) in
+    let n = w .words in
+    record { rows = omega (arith, h); words = omega (arith, q, m, n) }
+
+-- ---- 41
+
+module _ (src ws : List ℕ) (p : Part) (first : Told) where
+  abbrev pub looked : ℕ → Told → Bool
+  looked k t = left (anyBeyond src) p ws k t
+
+  pub record Looking (k : ℕ) (t : Told) : Type 0 where
+    pub same : looked k t ≡ looked (p .from) first
+    pub within : Within p k t
+
+  module _ (k : ℕ) (t : Told) (l : Looking k t) where
+    module _ (i : Item) (s : Slot) (r : Bool) (eᵢ : i ≡ itemHere p k) (eₛ : s ≡ givenSlot ws t i) (eᵣ : r ≡ beyond src i s) (h : k < p .to) (m : p .to ≤ 129) where
+      look-turn : looked (p .from) first ≡ r || looked (k + 1) (afterTold ws t i)
+      unfolding anyBeyond
+      look-turn =
+          let g : Item → Bool = λ (j : Item). beyond src j (givenSlot ws t j) || looked (k + 1) (afterTold ws t j) in
+          sym (l .same) ∙ one-on (anyBeyond src) p ws k t h m ∙ ap g (sym eᵢ)
+          ∙ ap (λ (b : Bool). b || looked (k + 1) (afterTold ws t i)) (ap (λ (x : Slot). beyond src i x) (sym eₛ) ∙ sym eᵣ)
+
+      pub look-found : r ≡ true → true ≡ looked (p .from) first
+      look-found e = sym (look-turn ∙ ap (λ (b : Bool). b || looked (k + 1) (afterTold ws t i)) e)
+
+      pub look-on : r ≡ false → (t′ : Told) → t′ ≡ afterTold ws t i → Looking (k + 1) t′
+      look-on e t′ eₜ = record {
+        same = ap (λ (x : Told). looked (k + 1) x) eₜ ∙ sym (look-turn ∙ ap (λ (b : Bool). b || looked (k + 1) (afterTold ws t i)) e);
+        within = within-on p k t ws i t′ (l .within) h eₜ;
+      }
+
+    pub look-end : p .to ≤ k → false ≡ looked (p .from) first
+    unfolding anyBeyond
+    look-end h = sym (sym (l .same) ∙ none-on (anyBeyond src) p ws k t (let w = l .within .rows in omega (arith, h, w)))
+
+-- ---- one item of the loop that tests
+
+next-same : (i : Item) (v : Con) (c : Cursor) → next i v c .why ≡ c .why
+next-same i v c = next-why (i .on) (i .shape) v c
+
+pub good-parts : (src : List ℕ) (i : Item) (s : Slot) (c : Cursor) → good src i s c ≡ true
+    → (fitsItem src i s c ≡ true) × (beyond src i s ≡ false) × (next i (held src i s) c .at ≤ 65535)
+unfolding good
+good-parts src i s c h =
+    let p = and-true (fitsItem src i s c) (not (beyond src i s) && leb (next i (held src i s) c .at) 65535) h in
+    let q = and-true (not (beyond src i s)) (leb (next i (held src i s) c .at) 65535) (p .1) in
+    (p .0, not-true (beyond src i s) (q .0), leb-true (next i (held src i s) c .at) 65535 (q .1))
+
+-- a cond whose other side is no state
+pub no-state : (b : Bool) (x : Cursor) → cond b x unfit .why ≡ 0 → (b ≡ true) × (cond b x unfit ≡ x)
+no-state true x h = (refl, refl)
+no-state false x h = absurd (omega (arith, h))
+
+a-state : (b : Bool) (x : Cursor) → x .why ≡ 0 → (cond b x unfit .why ≡ 0 → ⊥) → b ≡ false
+a-state true x z n = absurd (n z)
+a-state false x z n = refl
+
+-- ---- the loop that tests
+
+module _ (src ws : List ℕ) (p : Part) (first : Told) (start : Cursor) where
+  abbrev pub tried : ℕ → Told → Cursor → Cursor
+  tried k t c = left (λ (is : List Item) (ss : List Slot). tryItems src is ss c) p ws k t
+
+  pub record Trying (k : ℕ) (t : Told) (c : Cursor) : Type 0 where
+    pub same : tried k t c ≡ tried (p .from) first start
+    pub within : Within p k t
+    pub place : c .at ≤ 65535
+    pub fine : c .why ≡ 0
+
+  module _ (k : ℕ) (t : Told) (c : Cursor) (l : Trying k t c) where
+    module _ (i : Item) (s : Slot) (r : Cursor) (eᵢ : i ≡ itemHere p k) (eₛ : s ≡ givenSlot ws t i) (eᵣ : r ≡ tryItem src i s c) (h : k < p .to) (m : p .to ≤ 129) where
+      try-turn : tried (p .from) first start ≡ cond (good src i s c) (tried (k + 1) (afterTold ws t i) (next i (held src i s) c)) unfit
+      unfolding tryItems
+      try-turn =
+          let g : Item → Slot → Cursor = λ (j : Item) (x : Slot). cond (good src j x c) (tried (k + 1) (afterTold ws t j) (next j (held src j x) c)) unfit in
+          sym (l .same) ∙ one-on (λ (is : List Item) (ss : List Slot). tryItems src is ss c) p ws k t h m
+          ∙ ap (λ (j : Item). g j (givenSlot ws t j)) (sym eᵢ) ∙ ap (λ (x : Slot). g i x) (sym eₛ)
+
+      pub try-stop : (r .why ≡ 0 → ⊥) → r ≡ tried (p .from) first start
+      unfolding tryItem
+      try-stop n =
+          let b : good src i s c ≡ false =
+          a-state (good src i s c) (next i (held src i s) c) (next-same i (held src i s) c ∙ l .fine) (λ z. n (ap (λ (x : Cursor). x .why) eᵣ ∙ z)) in
+          eᵣ ∙ ap (λ (q : Bool). cond q (next i (held src i s) c) unfit) b
+          ∙ sym (try-turn ∙ ap (λ (q : Bool). cond q (tried (k + 1) (afterTold ws t i) (next i (held src i s) c)) unfit) b)
+
+      pub try-on : r .why ≡ 0 → (t′ : Told) → t′ ≡ afterTold ws t i → Trying (k + 1) t′ r
+      unfolding tryItem
+      try-on z t′ eₜ =
+          let u = no-state (good src i s c) (next i (held src i s) c) (ap (λ (x : Cursor). x .why) (sym eᵣ) ∙ z) in
+          let q : r ≡ next i (held src i s) c = eᵣ ∙ u .1 in
+          let a = good-parts src i s c (u .0) .2 in
+          record {
+            same = ap₂ (λ (x : Told) (y : Cursor). tried (k + 1) x y) eₜ q
+                ∙ sym (try-turn ∙ ap (λ (b : Bool). cond b (tried (k + 1) (afterTold ws t i) (next i (held src i s) c)) unfit) (u .0));
+            within = within-on p k t ws i t′ (l .within) h eₜ;
+            place = subst (λ (x : Cursor). x .at ≤ 65535) (sym q) a;
+            fine = z;
+          }
+
+    pub try-end : p .to ≤ k → c ≡ tried (p .from) first start
+    unfolding tryItems
+    try-end h = sym (sym (l .same) ∙ none-on (λ (is : List Item) (ss : List Slot). tryItems src is ss c) p ws k t (let w = l .within .rows in omega (arith, h, w)))

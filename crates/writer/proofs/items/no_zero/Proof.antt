@@ -1,0 +1,28 @@
+use denote.Ref.{now}
+use mathlib.Core.Path.{_≡_, ap, sym, _∙_}
+use Prim.Native.Nat.{ℕ, _+_}
+use native.Mathlib.Omega.{arith}
+use lib.ListN.{length}
+use lib.Dec.{eqb}
+use Rattle.meaning.specs.Bytes.{zeroIn}
+use Rattle.writer.proofs.Tests.{no-zeros}
+use borrow.Author.Needs.{needs}
+use Rattle.writer.proofs.items.no_zero.Statement.{statement}
+use Rattle.writer.proofs.items.no_zero.Tie as tie
+use Rattle.writer.proofs.items.no_zero.Reads as reads
+use Rattle.writer.proofs.items.no_zero.Lts as lts
+use Rattle.fields.proofs.zero_from.Reads as zero-from-reads
+
+-- src/items.rt:56:5
+zero-from-requires : tie.Need-zero-from-requires
+zero-from-requires c κs = search needs
+
+-- src/items.rt:53:1
+returns : tie.Need-returns
+returns c =
+    let xs = now (c .before .before .args .s) in
+    let e : c .zero-from .result ≡ zeroIn xs = omega (arith, c .zero-from .ensures .0) in
+    ap (λ (n : ℕ). eqb n (length xs)) e ∙ no-zeros xs
+
+pub no-zero-spec : {M : Type 1} → statement M
+no-zero-spec = tie.close (tie.spec zero-from-requires returns)

@@ -1,0 +1,5 @@
+pub mod Tellings
+pub mod Forms
+pub mod Tries
+pub mod Measures
+pub mod Writer

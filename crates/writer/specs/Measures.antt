@@ -1,0 +1,35 @@
+-- What the writer measures before it writes: the value that the words tell, and its size where it can be written. Not what must be believed:
+-- proofs/Measuring ties it to `writable`. Assumes nothing: these are definitions.
+use Prim.Native.Nat.{ℕ, _≤_}
+use mathlib.Core.Path.{_≡_}
+use mathlib.Core.Bool.{Bool, cond, _&&_}
+use mathlib.Core.List.{List}
+use lib.ListN.{length, drop, getD}
+use Rattle.meaning.specs.declared.Attributes.{Attributes}
+use Rattle.meaning.specs.declared.Item.{Item}
+use Rattle.meaning.specs.Bytes.{allZero}
+use Rattle.meaning.specs.Records.{Value, written, fitsBy}
+use Rattle.meaning.specs.Values.{means, slotsTold, spareBy}
+use Rattle.writer.specs.declared.Part.{Part}
+use Rattle.writer.specs.Tries.{itemsFrom}
+
+-- a part of the table, of a type, that holds these items
+pub record Lays (p : Part) (a : Attributes) (k : ℕ) (is : List Item) : Type 0 where
+  pub attributes : p .attributes ≡ a
+  pub kind : p .kind ≡ k
+  pub ordered : p .from ≤ p .to
+  pub within : p .to ≤ 129
+  pub items : itemsFrom p (p .from) ≡ is
+
+unfoldable pub toldValue : List Item → List Item → List ℕ → List ℕ → Value
+toldValue is ts src ws = record {
+  kind = getD ws 0 0;
+  misc = getD ws 1 0;
+  size = getD ws 2 0;
+  body = means src is (slotsTold is (drop 3 ws) 0 0);
+  tail = means src ts (slotsTold ts (drop 48 ws) 0 0);
+}
+
+-- the size of the record that the words tell; 0 where there is none
+unfoldable pub measured : List Item → List Item → List ℕ → List ℕ → ℕ
+measured is ts src ws = cond (allZero (spareBy is ts ws) && fitsBy is ts (toldValue is ts src ws)) (length (written is ts (toldValue is ts src ws))) 0

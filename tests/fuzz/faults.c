@@ -1,0 +1,132 @@
+/*
+ * The fuzz target tried on itself: the exports, answered by the independent reader with one planted
+ * fault each (-DFAULT=n). tests/fuzz/run.sh faults links them in the library's place; the target must
+ * find every one.
+ */
+#include <stdint.h>
+#include <stdlib.h>
+#include <string.h>
+
+#include "ollskuvan.h"
+
+struct ollskuvan_drained reader_drain(const uint8_t *, size_t, uint64_t, uint64_t, uint64_t, uint64_t, uint32_t,
+    uint64_t, uint64_t, uint32_t, uint64_t, uint8_t *, size_t, uint8_t *, size_t);
+uint32_t reader_check(const uint8_t *, size_t, uint64_t, uint64_t, uint32_t, uint64_t, uint64_t, uint32_t);
+uint32_t reader_copy_name(const uint8_t *, size_t, uint64_t, uint64_t, uint8_t *, size_t);
+uint32_t reader_read(const uint8_t *, size_t, uint64_t, uint64_t, uint32_t, uint64_t, uint64_t, uint32_t,
+    uint64_t *, size_t);
+uint32_t reader_write(const uint64_t *, size_t, const uint8_t *, size_t, uint64_t, uint64_t, uint32_t, uint64_t,
+    uint64_t, uint32_t, uint8_t *, size_t);
+
+static int fault(int number) { return FAULT == number; }
+
+/* What a fault reads is not used. */
+static volatile uint8_t seen;
+
+struct ollskuvan_drained ollskuvan_drain(const uint8_t *ring, size_t ring_len, uint64_t head, uint64_t tail,
+    uint64_t sample_type, uint64_t read_format, uint32_t sample_id_all, uint64_t user_mask, uint64_t interrupt_mask,
+    uint32_t edition, uint64_t budget, uint8_t *scratch, size_t scratch_len, uint8_t *journal, size_t journal_len)
+{
+    struct ollskuvan_drained d;
+    uint64_t i;
+
+    if (fault(1) && head < tail) /* head and tail compared without the wrap */
+        head = tail;
+    if (fault(2) && ring_len) /* one byte past the ring is read */
+        seen = ring[ring_len];
+    if (fault(3) && ring_len) /* one byte before the ring is read */
+        seen = *(ring - 1);
+    if (fault(4) && edition > 255) /* the edition narrowed to a byte */
+        edition &= 255;
+    d = reader_drain(ring, ring_len, head, tail, sample_type, read_format, sample_id_all, user_mask, interrupt_mask,
+        edition, budget, scratch, scratch_len, journal, journal_len);
+    if (fault(5)) { /* the drain ends at a body refusal */
+        for (i = 0; i < d.taken; i++)
+            if (journal[16 * i + OLLSKUVAN_JOURNAL_ANSWER] >= 30) {
+                d.taken = i;
+                d.stop = journal[16 * i + OLLSKUVAN_JOURNAL_ANSWER];
+            }
+    }
+    if (fault(6) && journal_len > 16 * d.taken) /* a byte after the last entry */
+        journal[16 * d.taken] ^= 1;
+    if (fault(7) && d.stop == OLLSKUVAN_STOP_SCRATCH && scratch_len) /* the scratch touched by a stop */
+        scratch[0] ^= 1;
+    if (fault(8)) /* one byte past the journal is written */
+        journal[journal_len] = 0;
+    if (fault(9) && d.taken == 3) /* a type above 65,535 cut to two bytes */
+        for (i = 0; i < d.taken; i++)
+            if (journal[16 * i + 4] == 255 && journal[16 * i + 5] == 255)
+                journal[16 * i + 4] = 0;
+    return d;
+}
+
+uint32_t ollskuvan_check(const uint8_t *record, size_t record_len, uint64_t sample_type, uint64_t read_format,
+    uint32_t sample_id_all, uint64_t user_mask, uint64_t interrupt_mask, uint32_t edition)
+{
+    uint32_t answer;
+
+    if (fault(10)) /* interrupt registers counted with the user mask */
+        interrupt_mask = user_mask;
+    if (fault(11)) /* sample_id_all narrowed to a byte */
+        sample_id_all &= 255;
+    if (fault(12) && record_len) /* one byte past the record is read */
+        seen = record[record_len];
+    answer = reader_check(record, record_len, sample_type, read_format, sample_id_all, user_mask, interrupt_mask,
+        edition);
+    if (fault(13) && answer == OLLSKUVAN_REFUSED_INNER) /* an inner rule is not tested */
+        answer = OLLSKUVAN_OK;
+    if (fault(14) && answer == OLLSKUVAN_REFUSED_WEIGHTS) /* both weights are accepted */
+        answer = OLLSKUVAN_OK;
+    return answer;
+}
+
+uint32_t ollskuvan_copy_name(const uint8_t *record, size_t record_len, uint64_t place, uint64_t count,
+    uint8_t *buffer, size_t buffer_len)
+{
+    uint32_t answer = reader_copy_name(record, record_len, place, count, buffer, buffer_len);
+
+    if (fault(15) && answer == OLLSKUVAN_REFUSED_NAME_ROOM && buffer_len) { /* a name cut short to fit */
+        memcpy(buffer, record + place, buffer_len - 1);
+        buffer[buffer_len - 1] = 0;
+    }
+    if (fault(16) && answer == OLLSKUVAN_REFUSED_PLACE && place + count <= record_len) /* place plus count wraps */
+        answer = OLLSKUVAN_OK;
+    return answer;
+}
+
+uint32_t ollskuvan_read(const uint8_t *record, size_t record_len, uint64_t sample_type, uint64_t read_format,
+    uint32_t sample_id_all, uint64_t user_mask, uint64_t interrupt_mask, uint32_t edition,
+    uint64_t *fields, size_t fields_len)
+{
+    uint32_t answer = reader_read(record, record_len, sample_type, read_format, sample_id_all, user_mask,
+        interrupt_mask, edition, fields, fields_len);
+
+    if (fault(17) && answer != OLLSKUVAN_OK && fields_len) /* a word changed although the record is refused */
+        fields[0] = 0;
+    if (fault(18) && answer == OLLSKUVAN_OK) /* misc is not kept whole */
+        fields[OLLSKUVAN_MISC] &= 0x6007;
+    if (fault(19) && answer == OLLSKUVAN_OK && (sample_type & OLLSKUVAN_BIT_IDENTIFIER) && sample_id_all)
+        fields[OLLSKUVAN_TRAILER_CPU] = fields[OLLSKUVAN_TRAILER_IDENTIFIER]; /* the last word taken for the cpu */
+    if (fault(20) && answer == OLLSKUVAN_REFUSED_ROOM) /* too few words are no refusal */
+        answer = OLLSKUVAN_OK;
+    return answer;
+}
+
+uint32_t ollskuvan_write(const uint64_t *fields, size_t fields_len, const uint8_t *source, size_t source_len,
+    uint64_t sample_type, uint64_t read_format, uint32_t sample_id_all, uint64_t user_mask, uint64_t interrupt_mask,
+    uint32_t edition, uint8_t *buffer, size_t buffer_len)
+{
+    uint32_t answer;
+
+    if (fault(21) && source_len) /* one byte past the source is read */
+        seen = source[source_len];
+    answer = reader_write(fields, fields_len, source, source_len, sample_type, read_format, sample_id_all, user_mask,
+        interrupt_mask, edition, buffer, buffer_len);
+    if (fault(22) && answer == OLLSKUVAN_OK && buffer_len > fields[OLLSKUVAN_SIZE]) /* a byte after the record */
+        buffer[fields[OLLSKUVAN_SIZE]] ^= 1;
+    if (fault(23) && answer == OLLSKUVAN_REFUSED_VALUE && buffer_len < 8) /* 40 before 42 */
+        answer = OLLSKUVAN_REFUSED_ROOM;
+    if (fault(24) && answer == OLLSKUVAN_REFUSED_PLACE) /* a place past the source is no refusal of its own */
+        answer = OLLSKUVAN_REFUSED_VALUE;
+    return answer;
+}

@@ -1,0 +1,123 @@
+#!/bin/sh
+# The fuzz target (target.c): libollskuvan.a and ringdump beside the independent reader, under libFuzzer
+# with clang's address and undefined sanitizers on the C side. Everything is built in target/fuzz/.
+#
+#   tests/fuzz/run.sh                     200,000 executions, seed 1
+#   tests/fuzz/run.sh RUNS [SEED]         so many executions with this seed (0 RUNS: builds it and ends)
+#   tests/fuzz/run.sh again FILE          runs an input again that was kept at a difference
+#   tests/fuzz/run.sh faults              the target tried on itself: 24 planted faults (faults.c), each must be found
+#
+# MAX_LEN is the longest input (default 1200 bytes: many executions in a second); SECONDS_AT_MOST ends a run
+# early. The corpus grows from run to run in target/fuzz/corpus; delete it to start from the seeds again.
+# Needs target/staticlib/libollskuvan.a, target/obj/ringdump.o, rustc, and Debian's packages clang and
+# libclang-rt-dev (here: that of clang's own number). Where a package is missing it says so and ends with 0.
+set -eu
+cd "$(dirname "$0")/../.."
+
+out=target/fuzz
+archive=target/staticlib/libollskuvan.a
+program=target/obj/ringdump.o
+max_len=${MAX_LEN:-1200}
+
+stop() { echo "tests/fuzz/run.sh: $*" >&2; exit 1; }
+skip() { echo "== fuzzing skipped: $*"; exit 0; }
+
+runs=${1:-200000}
+case $runs in
+    faults) ;;
+    again) [ $# -eq 2 ] || stop "use: tests/fuzz/run.sh again FILE" ;;
+    *[!0-9]*) stop "RUNS is a number (see the head of this file)" ;;
+esac
+seed=${2:-1}
+
+command -v clang >/dev/null || skip "clang is missing (Debian: apt-get install clang)"
+command -v rustc >/dev/null || skip "rustc is missing: the independent reader is written in Rust"
+command -v objcopy >/dev/null || skip "objcopy is missing (Debian: apt-get install binutils)"
+mkdir -p "$out"
+number=$(clang -dumpversion | cut -d. -f1)
+echo 'int LLVMFuzzerTestOneInput(const char *b, unsigned long n) { return !b && n > n + 1; }' >"$out/probe.c"
+clang -fsanitize=fuzzer,address,undefined -o "$out/probe" "$out/probe.c" 2>/dev/null ||
+    skip "clang has no sanitizer libraries (Debian: apt-get install libclang-rt-$number-dev)"
+[ -f "$archive" ] || stop "$archive is missing: run 'rt staticlib ollskuvan' first"
+[ -f "$program" ] || stop "$program is missing: run 'rt check ringdump' first"
+
+without=
+nm "$archive" 2>/dev/null | grep -q ' T ollskuvan_read$' || without=-DWITHOUT_VALUES
+
+libraries="-lpthread -ldl -lm"
+build() {
+    clang -std=gnu11 -Wall -Wextra -Werror -g -O2 -Iinclude -fsanitize=fuzzer,address,undefined \
+        -fno-sanitize-recover=undefined "$@"
+}
+
+newer() { # newer MADE SOURCE...: it is there and no source is younger
+    made=$1
+    shift
+    [ -f "$made" ] && [ -z "$(find "$@" -newer "$made" -print)" ]
+}
+
+# The independent reader with libFuzzer's coverage: the archive itself has none, so this leads the search.
+newer "$out/libindependent.a" tests/reader tests/fuzz/run.sh ||
+    rustc --edition 2021 -O -C overflow-checks=on -C panic=abort -C codegen-units=1 --cfg own_names \
+        --crate-type staticlib --crate-name independent -C passes=sancov-module \
+        -C llvm-args=-sanitizer-coverage-level=4 -C llvm-args=-sanitizer-coverage-inline-8bit-counters \
+        -C llvm-args=-sanitizer-coverage-pc-table -C llvm-args=-sanitizer-coverage-trace-compares \
+        -o "$out/libindependent.a" tests/reader/library.rs
+newer "$out/target" tests/fuzz tests/reader include "$archive" "$program" || {
+    # ringdump as it was compiled, with its main, read and write under other names
+    objcopy --redefine-sym main=ringdump_main --redefine-sym read=ringdump_read \
+        --redefine-sym write=ringdump_write "$program" "$out/ringdump.o"
+    # shellcheck disable=SC2086
+    build -o "$out/target" $without tests/fuzz/target.c "$out/ringdump.o" "$out/libindependent.a" "$archive" $libraries
+}
+newer "$out/seeds/made-0" tests/reader rings || {
+    # the test program makes the seeds; if tests/run.sh has not built it, it is built here without the library
+    seeder=target/tests/reader
+    newer $seeder tests/reader || {
+        seeder=$out/seeder
+        rustc --edition 2021 -O --cfg standin -o "$seeder" tests/reader/main.rs
+    }
+    rm -rf "$out/seeds"
+    mkdir -p "$out/seeds"
+    "$seeder" seeds "$out/seeds" --rings rings --count 600
+}
+mkdir -p "$out/corpus" "$out/found"
+
+if [ "$runs" = again ]; then
+    exec "$out/target" "$2"
+fi
+if [ "$runs" = faults ]; then
+    build -c -o "$out/target.o" tests/fuzz/target.c
+    number=1
+    while [ $number -le 24 ]; do
+        # shellcheck disable=SC2086
+        build -DFAULT=$number -o "$out/faulty" "$out/target.o" tests/fuzz/faults.c "$out/ringdump.o" \
+            "$out/libindependent.a" $libraries
+        if "$out/faulty" -runs=1000000 -seed="$seed" -max_len="$max_len" -detect_leaks=0 -artifact_prefix="$out/planted-" \
+            -dict=tests/fuzz/ollskuvan.dict "$out/seeds" >"$out/log" 2>&1; then
+            stop "planted fault $number was not found"
+        fi
+        grep -qE '^DIFFERENCE|AddressSanitizer: SEGV|AddressSanitizer: .*overflow' "$out/log" ||
+            stop "planted fault $number ended otherwise, see $out/log"
+        when=$(grep -E '^#[0-9]' "$out/log" | tail -n 1 | cut -f1)
+        how=$(grep -oE '^DIFFERENCE: .*|AddressSanitizer: [A-Za-z-]*' "$out/log" | head -n 1 | cut -c1-80)
+        echo "fault $number: found, ${when:-among the seeds}: $how"
+        rm -f "$out"/planted-*
+        number=$((number + 1))
+    done
+    echo "fuzz: 24 planted faults, all found"
+    exit 0
+fi
+[ "$runs" -gt 0 ] || exit 0
+[ -z "$without" ] || echo "== the archive has no read and write: they are left out"
+begun=$(date +%s)
+# libFuzzer counts the corpus it starts from as executions too.
+"$out/target" -runs="$runs" -seed="$seed" -max_len="$max_len" -max_total_time="${SECONDS_AT_MOST:-0}" \
+    -dict=tests/fuzz/ollskuvan.dict -detect_leaks=0 -print_final_stats=1 -artifact_prefix="$out/found/" \
+    "$out/corpus" "$out/seeds" 2>"$out/log" || {
+    grep -v '^#' "$out/log" | head -c 60000 >&2
+    stop "failed with seed $seed: the input is kept in $out/found; run it again: tests/fuzz/run.sh again FILE"
+}
+grep '^fuzz:' "$out/log"
+done=$(sed -n 's/^stat::number_of_executed_units: *//p' "$out/log")
+echo "fuzz: $done executions with seed $seed in $(($(date +%s) - begun)) s, no difference"

@@ -1,0 +1,688 @@
+/*
+ * The fuzz target: the exports of libollskuvan.a and the program ringdump beside the independent reader
+ * (tests/reader, as the archive libindependent.a), in one program, on inputs that libFuzzer makes.
+ * A difference between the two, or a byte touched outside a lent slice, ends it with a description;
+ * libFuzzer then keeps the input in a file, and `target FILE` runs it again. tests/fuzz/run.sh builds it.
+ *
+ * The library's code is proved machine code without instrumentation. So that a byte read or written
+ * outside a slice is still seen, every slice that is lent to it lies against a page that cannot be
+ * touched: after its end, or before its start if flag AT_START is set; on its other side are guard bytes.
+ *
+ * An input is a control block of 48 bytes, then what ringdump takes: head, tail, sample type, read
+ * format, user mask, interrupt mask (8 bytes each), edition, sample_id_all (1 byte each), and bytes.
+ * What is missing is zero. The control block:
+ *   0  the call, modulo 4: drain, ringdump, record (check, name copy, read, write again), write
+ *   1  flags, see below            2  LAID: the ring's length is 64 << (this modulo 9)
+ *   3  what buffers hold before    4, 5  scratch: choice and number; ringdump: 4 cuts the input below 50
+ *   6, 7  journal                  8  budget: 0 is without end, else this minus 1
+ *   9, 10  ringdump reads and writes at most so many bytes a call (0: all)
+ *   11  words lent for a value     12  write: changes to the value, modulo 4
+ *   13  write: bytes cut from the source
+ *   14  room for a written record  15  room for a name
+ *   16 to 45  three changes of ten bytes: word, what to do, number
+ * tests/reader/fuzz.rs makes seeds and mutations in this layout.
+ */
+#include <inttypes.h>
+#include <stdarg.h>
+#include <stdint.h>
+#include <stdio.h>
+#include <stdlib.h>
+#include <string.h>
+#include <sys/mman.h>
+#include <unistd.h>
+
+#include "ollskuvan.h"
+
+enum { CONTROL = 48, HEADER = 50, LONGEST = 65536, FIELDS = OLLSKUVAN_FIELDS };
+
+enum {
+    LAID = 1,          /* the bytes are records, laid into a ring from the tail on; else they are the ring */
+    HEAD_DISTANCE = 2, /* LAID: the head is the tail plus the head's number; else it is after the last record */
+    PLACE_NEAR = 4,    /* record: the name's place and count are kept near the record's length */
+    FALSE_EDITION = 8, /* the edition plus 256 */
+    HIGH_ID_ALL = 16,  /* sample_id_all in the highest byte of its 32 bits */
+    AT_START = 32,     /* slices lie against the page before them */
+    TRUE_SIZE = 64     /* record, write: the record's size is made to be its length */
+};
+
+/* The independent reader, and ringdump with its main, read and write renamed. */
+struct ollskuvan_drained reader_drain(const uint8_t *, size_t, uint64_t, uint64_t, uint64_t, uint64_t, uint32_t,
+    uint64_t, uint64_t, uint32_t, uint64_t, uint8_t *, size_t, uint8_t *, size_t);
+uint32_t reader_check(const uint8_t *, size_t, uint64_t, uint64_t, uint32_t, uint64_t, uint64_t, uint32_t);
+uint32_t reader_copy_name(const uint8_t *, size_t, uint64_t, uint64_t, uint8_t *, size_t);
+uint32_t reader_read(const uint8_t *, size_t, uint64_t, uint64_t, uint32_t, uint64_t, uint64_t, uint32_t,
+    uint64_t *, size_t);
+uint32_t reader_write(const uint64_t *, size_t, const uint8_t *, size_t, uint64_t, uint64_t, uint32_t, uint64_t,
+    uint64_t, uint32_t, uint8_t *, size_t);
+size_t reader_print(const uint8_t *, size_t, uint8_t *, size_t);
+size_t reader_mutate(uint8_t *, size_t, size_t, uint32_t);
+int ringdump_main(void);
+ssize_t ringdump_read(int, void *, size_t);
+ssize_t ringdump_write(int, const void *, size_t);
+
+int LLVMFuzzerInitialize(int *, char ***);
+int LLVMFuzzerTestOneInput(const uint8_t *, size_t);
+size_t LLVMFuzzerCustomMutator(uint8_t *, size_t, size_t, unsigned);
+size_t LLVMFuzzerMutate(uint8_t *, size_t, size_t);
+
+/* The input that is being tried. */
+static struct {
+    uint8_t control[CONTROL];
+    uint64_t head, tail, sample_type, read_format, user_mask, interrupt_mask;
+    uint32_t edition, sample_id_all;
+    uint8_t bytes[LONGEST];
+    size_t count;
+} in;
+
+#define ATTRIBUTES in.sample_type, in.read_format, in.sample_id_all, in.user_mask, in.interrupt_mask, in.edition
+
+/* ---- What was reached: told to libFuzzer as if it were coverage, and counted for the end's report. ---- */
+
+enum call { DRAIN, PROGRAM, CHECK, COPY, READ, WRITE, CALLS };
+static const char *const call_names[CALLS] = { "drain", "ringdump", "check", "name copy", "read", "write" };
+
+/* by call, type (0, or 21 for every other) and answer */
+enum { TYPES = 22, ANSWERS = 64 };
+__attribute__((section("__libfuzzer_extra_counters"))) static uint8_t reached[CALLS * TYPES * ANSWERS];
+static uint64_t answers[CALLS][ANSWERS];
+static uint64_t accepted[4][TYPES];
+static uint64_t executions, records_seen, crossings;
+
+static void reach(enum call call, uint64_t type, uint32_t answer)
+{
+    size_t row = type < TYPES ? (size_t)type : TYPES - 1;
+
+    answers[call][answer % ANSWERS]++;
+    reached[(call * TYPES + row) * ANSWERS + answer % ANSWERS] = 1;
+}
+
+static void print_reached(void)
+{
+    int call, answer, type, edition;
+
+    if (executions == 0)
+        return;
+    fprintf(stderr, "fuzz: %" PRIu64 " executions, no difference; %" PRIu64 " records drained, %" PRIu64
+        " across the ring's end\n", executions, records_seen, crossings);
+    for (call = 0; call < CALLS; call++) {
+        fprintf(stderr, "fuzz: %s answers:", call_names[call]);
+        for (answer = 0; answer < ANSWERS; answer++)
+            if (answers[call][answer])
+                fprintf(stderr, "  %d: %" PRIu64, answer, answers[call][answer]);
+        fprintf(stderr, "\n");
+    }
+    for (edition = 1; edition <= 3; edition++) {
+        fprintf(stderr, "fuzz: types accepted by check in edition %d:", edition);
+        for (type = 0; type < TYPES; type++)
+            if (accepted[edition][type])
+                fprintf(stderr, " %d", type);
+        fprintf(stderr, "\n");
+    }
+}
+
+/* ---- Differences. ---- */
+
+static void print_hex(const char *name, const void *bytes, size_t count)
+{
+    size_t i;
+
+    fprintf(stderr, "  %s, %zu bytes: ", name, count);
+    for (i = 0; i < count; i++)
+        fprintf(stderr, "%02x", ((const uint8_t *)bytes)[i]);
+    fprintf(stderr, "\n");
+}
+
+/* The attributes are printed here; the caller has printed what else went in. */
+static void differs(const char *words, ...)
+{
+    va_list rest;
+
+    fprintf(stderr, "DIFFERENCE: ");
+    va_start(rest, words);
+    vfprintf(stderr, words, rest);
+    va_end(rest);
+    fprintf(stderr, "\n  edition %" PRIu32 "  sample type %#" PRIx64 "  read format %#" PRIx64
+        "  sample_id_all %#" PRIx32 "  user mask %#" PRIx64 "  interrupt mask %#" PRIx64 "\n", in.edition,
+        in.sample_type, in.read_format, in.sample_id_all, in.user_mask, in.interrupt_mask);
+    executions = 0;
+    abort();
+}
+
+/* ---- Lent slices. ---- */
+
+enum slice { RING, SCRATCH, JOURNAL, RECORD, NAME, VALUE, SOURCE, BUFFER, SLICES };
+enum { AREA = 1 << 18, GUARD = 64 };
+static uint8_t *areas[SLICES];
+
+/* The place of a slice of so many bytes, with guard bytes on the side that no page protects. */
+static uint8_t *lend(enum slice slice, const void *bytes, size_t count)
+{
+    uint8_t *place;
+
+    if (in.control[1] & AT_START) {
+        place = areas[slice];
+        memset(place + count, 0xa5, GUARD);
+    } else {
+        place = areas[slice] + AREA - count;
+        memset(place - GUARD, 0xa5, GUARD);
+    }
+    if (count)
+        memcpy(place, bytes, count);
+    return place;
+}
+
+static void guards_are_kept(enum slice slice, const uint8_t *place, size_t count)
+{
+    const uint8_t *guard = in.control[1] & AT_START ? place + count : place - GUARD;
+    int i;
+
+    for (i = 0; i < GUARD; i++)
+        if (guard[i] != 0xa5)
+            differs("a byte beside slice %d was written to", (int)slice);
+}
+
+static void is_kept(enum slice slice, const uint8_t *place, const void *bytes, size_t count)
+{
+    guards_are_kept(slice, place, count);
+    if (count && memcmp(place, bytes, count)) {
+        print_hex("before", bytes, count);
+        print_hex("after", place, count);
+        differs("slice %d, which is only read, was written to", (int)slice);
+    }
+}
+
+/* A slice after the call: what the reader made of it, and nothing beside it. */
+static void is_as(enum slice slice, const uint8_t *place, const void *due, size_t count, const char *name)
+{
+    guards_are_kept(slice, place, count);
+    if (count && memcmp(place, due, count)) {
+        print_hex("library", place, count);
+        print_hex("independent", due, count);
+        differs("%s", name);
+    }
+}
+
+/* ---- The calls, each by both. ---- */
+
+static uint64_t type_of(const uint8_t *record, size_t count)
+{
+    return count < 4 ? 0 : record[0] | (uint32_t)record[1] << 8 | (uint32_t)record[2] << 16 | (uint32_t)record[3] << 24;
+}
+
+static uint32_t check(const uint8_t *record, size_t count)
+{
+    const uint8_t *lent = lend(RECORD, record, count);
+    uint32_t library = ollskuvan_check(lent, count, ATTRIBUTES);
+    uint32_t independent = reader_check(record, count, ATTRIBUTES);
+    uint64_t type = type_of(record, count);
+
+    if (library != independent) {
+        print_hex("record", record, count);
+        differs("check: library %" PRIu32 ", independent %" PRIu32, library, independent);
+    }
+    is_kept(RECORD, lent, record, count);
+    reach(CHECK, type, library);
+    if (library == 0 && in.edition < 4 && type < TYPES)
+        accepted[in.edition][type]++;
+    return library;
+}
+
+static void copy_name(const uint8_t *record, size_t count, uint64_t place, uint64_t bytes, size_t room)
+{
+    uint8_t before[300];
+    uint8_t *lent, *buffer;
+    uint32_t library, independent;
+
+    memset(before, in.control[3], sizeof before);
+    lent = lend(RECORD, record, count);
+    buffer = lend(NAME, before, room);
+    library = ollskuvan_copy_name(lent, count, place, bytes, buffer, room);
+    independent = reader_copy_name(record, count, place, bytes, before, room);
+    if (library != independent) {
+        print_hex("record", record, count);
+        differs("name copy of %" PRIu64 " bytes at %" PRIu64 ", room %zu: library %" PRIu32 ", independent %" PRIu32,
+            bytes, place, room, library, independent);
+    }
+    is_kept(RECORD, lent, record, count);
+    is_as(NAME, buffer, before, room, "name copy: the buffer");
+    reach(COPY, 0, library);
+}
+
+#ifndef WITHOUT_VALUES
+/* Reads into so many words; the independent reader's words are left in `value`. */
+static uint32_t read_value(const uint8_t *record, size_t count, uint64_t *value, size_t words)
+{
+    uint8_t *lent, *lent_words;
+    uint32_t library, independent;
+    size_t i;
+
+    for (i = 0; i < words; i++)
+        value[i] = UINT64_C(0x0123456789abcdef);
+    lent = lend(RECORD, record, count);
+    lent_words = lend(VALUE, value, 8 * words);
+    library = ollskuvan_read(lent, count, ATTRIBUTES, (uint64_t *)(void *)lent_words, words);
+    independent = reader_read(record, count, ATTRIBUTES, value, words);
+    if (library != independent) {
+        print_hex("record", record, count);
+        differs("read into %zu words: library %" PRIu32 ", independent %" PRIu32, words, library, independent);
+    }
+    is_kept(RECORD, lent, record, count);
+    if (memcmp(lent_words, value, 8 * words))
+        print_hex("record", record, count);
+    is_as(VALUE, lent_words, value, 8 * words, "read: the words of the value");
+    reach(READ, type_of(record, count), library);
+    return library;
+}
+
+static uint8_t written[LONGEST + 512];
+
+/* Writes into so many bytes; the independent writer's buffer is left in `written`. */
+static uint32_t write_value(const uint64_t *value, size_t words, const uint8_t *source, size_t count, size_t room)
+{
+    uint8_t *lent_words, *lent_source, *buffer;
+    uint32_t library, independent;
+
+    memset(written, in.control[3], room);
+    lent_words = lend(VALUE, value, 8 * words);
+    lent_source = lend(SOURCE, source, count);
+    buffer = lend(BUFFER, written, room);
+    library = ollskuvan_write((const uint64_t *)(void *)lent_words, words, lent_source, count, ATTRIBUTES, buffer, room);
+    independent = reader_write(value, words, source, count, ATTRIBUTES, written, room);
+    if (library != independent || (room && memcmp(buffer, written, room))) {
+        print_hex("value", value, 8 * words);
+        print_hex("source", source, count);
+    }
+    if (library != independent)
+        differs("write into %zu bytes: library %" PRIu32 ", independent %" PRIu32, room, library, independent);
+    is_kept(VALUE, lent_words, value, 8 * words);
+    is_kept(SOURCE, lent_source, source, count);
+    is_as(BUFFER, buffer, written, room, "write: the buffer");
+    reach(WRITE, words ? value[0] : 0, library);
+    return library;
+}
+
+/* What was accepted by write, read back: the same numbers. The places of lists may differ. */
+static void reads_back(size_t size)
+{
+    static uint8_t record[LONGEST];
+    uint64_t value[FIELDS];
+
+    memcpy(record, written, size);
+    if (read_value(record, size, value, FIELDS) != 0 || value[OLLSKUVAN_SIZE] != size) {
+        print_hex("record", record, size);
+        differs("what was written does not read back");
+    }
+}
+#endif
+
+/* ---- The ring. ---- */
+
+static uint8_t laid[64 << 8];
+
+struct ring {
+    const uint8_t *bytes;
+    size_t length;
+    uint64_t head;
+};
+
+static struct ring make_ring(void)
+{
+    struct ring ring = { in.bytes, in.count, in.head };
+    size_t place, first, count;
+
+    if (!(in.control[1] & LAID))
+        return ring;
+    ring.length = (size_t)64 << in.control[2] % 9;
+    ring.bytes = laid;
+    count = in.count < ring.length ? in.count : ring.length;
+    place = (size_t)(in.tail % ring.length);
+    first = count < ring.length - place ? count : ring.length - place;
+    memset(laid, 0, ring.length);
+    memcpy(laid + place, in.bytes, first);
+    memcpy(laid, in.bytes + first, count - first);
+    ring.head = in.tail + (in.control[1] & HEAD_DISTANCE ? in.head : count / 8 * 8);
+    return ring;
+}
+
+static size_t scratch_length(size_t ring_length)
+{
+    size_t n = in.control[5];
+
+    switch (in.control[4] % 5) {
+    case 0: return ring_length;
+    case 1: return n;
+    case 2: return 8 * n;
+    case 3: return ring_length > n ? ring_length - n : 0;
+    default: return 8 * n + 7;
+    }
+}
+
+static size_t journal_length(size_t ring_length)
+{
+    size_t n = in.control[7];
+
+    switch (in.control[6] % 4) {
+    case 0: return 16 * (ring_length / 8 + 1);
+    case 1: return n;
+    case 2: return 16 * n;
+    default: return 16 * n + 15;
+    }
+}
+
+/* The records of a journal one by one: check answers the same, and accepted ones are read. */
+static void take_apart(const struct ring *ring, const uint8_t *journal, uint64_t taken)
+{
+    static uint8_t record[LONGEST];
+    uint64_t i, tail;
+    uint32_t answer;
+    size_t at, size, k;
+
+    for (i = 0; i < taken; i++, journal += 16) {
+        for (tail = 0, k = 8; k-- > 0;)
+            tail = tail << 8 | journal[OLLSKUVAN_JOURNAL_TAIL + k];
+        answer = journal[OLLSKUVAN_JOURNAL_ANSWER] | (uint32_t)journal[OLLSKUVAN_JOURNAL_ANSWER + 1] << 8;
+        at = (size_t)(tail % ring->length);
+        size = ring->bytes[at + 6] | (size_t)ring->bytes[at + 7] << 8;
+        crossings += at + size > ring->length;
+        if (i >= 6)
+            continue;
+        for (k = 0; k < size; k++)
+            record[k] = ring->bytes[(at + k) % ring->length];
+        if (check(record, size) != answer) {
+            print_hex("record", record, size);
+            differs("check does not answer as the journal does: %" PRIu32, answer);
+        }
+#ifndef WITHOUT_VALUES
+        if (answer == 0) {
+            uint64_t value[FIELDS];
+
+            read_value(record, size, value, FIELDS);
+        }
+#endif
+    }
+    records_seen += taken;
+}
+
+static void try_drain(void)
+{
+    static uint8_t scratch[LONGEST], journal[2 * LONGEST + 64];
+    struct ring ring = make_ring();
+    size_t scratch_len = scratch_length(ring.length), journal_len = journal_length(ring.length);
+    uint64_t budget = in.control[8] ? in.control[8] - 1u : UINT64_MAX;
+    const uint8_t *lent_ring;
+    uint8_t *lent_scratch, *lent_journal;
+    struct ollskuvan_drained library, independent;
+
+    memset(scratch, in.control[3], scratch_len);
+    memset(journal, in.control[3], journal_len);
+    lent_ring = lend(RING, ring.bytes, ring.length);
+    lent_scratch = lend(SCRATCH, scratch, scratch_len);
+    lent_journal = lend(JOURNAL, journal, journal_len);
+    library = ollskuvan_drain(lent_ring, ring.length, ring.head, in.tail, ATTRIBUTES, budget, lent_scratch,
+        scratch_len, lent_journal, journal_len);
+    independent = reader_drain(ring.bytes, ring.length, ring.head, in.tail, ATTRIBUTES, budget, scratch, scratch_len,
+        journal, journal_len);
+    if (library.taken != independent.taken || library.bytes != independent.bytes || library.tail != independent.tail
+        || library.stop != independent.stop || memcmp(lent_journal, journal, journal_len)
+        || memcmp(lent_scratch, scratch, scratch_len)) {
+        fprintf(stderr, "  drain: head %#" PRIx64 "  tail %#" PRIx64 "  budget %" PRIu64 "  scratch %zu  journal %zu\n",
+            ring.head, in.tail, budget, scratch_len, journal_len);
+        fprintf(stderr, "  library:     taken %" PRIu64 "  bytes %" PRIu64 "  tail %#" PRIx64 "  stop %" PRIu32 "\n",
+            library.taken, library.bytes, library.tail, library.stop);
+        fprintf(stderr, "  independent: taken %" PRIu64 "  bytes %" PRIu64 "  tail %#" PRIx64 "  stop %" PRIu32 "\n",
+            independent.taken, independent.bytes, independent.tail, independent.stop);
+        print_hex("ring", ring.bytes, ring.length);
+    }
+    is_as(JOURNAL, lent_journal, journal, journal_len, "drain: the journal");
+    is_as(SCRATCH, lent_scratch, scratch, scratch_len, "drain: the scratch");
+    if (library.taken != independent.taken || library.bytes != independent.bytes || library.tail != independent.tail
+        || library.stop != independent.stop)
+        differs("drain: the results");
+    is_kept(RING, lent_ring, ring.bytes, ring.length);
+    reach(DRAIN, library.taken < 4 ? library.taken : 4, library.stop);
+    take_apart(&ring, journal, library.taken);
+}
+
+/* ---- The program ringdump. ---- */
+
+static uint8_t image[HEADER + LONGEST], printed[1 << 17], due[1 << 17];
+static size_t image_length, image_taken, printed_length;
+
+ssize_t ringdump_read(int file, void *bytes, size_t count)
+{
+    size_t left = image_length - image_taken;
+
+    if (file != 0)
+        differs("ringdump reads from file %d", file);
+    if (in.control[9] && count > in.control[9])
+        count = in.control[9];
+    if (count > left)
+        count = left;
+    memcpy(bytes, image + image_taken, count);
+    image_taken += count;
+    return (ssize_t)count;
+}
+
+ssize_t ringdump_write(int file, const void *bytes, size_t count)
+{
+    if (file != 1)
+        differs("ringdump writes to file %d", file);
+    if (in.control[10] && count > in.control[10])
+        count = in.control[10];
+    if (count > sizeof printed - printed_length)
+        differs("ringdump prints more than a journal can hold");
+    memcpy(printed + printed_length, bytes, count);
+    printed_length += count;
+    return (ssize_t)count;
+}
+
+static void put64(uint8_t *at, uint64_t number)
+{
+    int i;
+
+    for (i = 0; i < 8; i++)
+        at[i] = (uint8_t)(number >> 8 * i);
+}
+
+static void try_program(void)
+{
+    struct ring ring = make_ring();
+    size_t length;
+    int status;
+
+    put64(image, ring.head);
+    put64(image + 8, in.tail);
+    put64(image + 16, in.sample_type);
+    put64(image + 24, in.read_format);
+    put64(image + 32, in.user_mask);
+    put64(image + 40, in.interrupt_mask);
+    image[48] = (uint8_t)in.edition;
+    image[49] = (uint8_t)(in.sample_id_all ? in.sample_id_all | 1 : 0);
+    memcpy(image + HEADER, ring.bytes, ring.length);
+    image_length = HEADER + ring.length;
+    if (in.control[4] && in.control[4] < HEADER)
+        image_length = in.control[4];
+    image_taken = printed_length = 0;
+    status = ringdump_main();
+    length = reader_print(image, image_length, due, sizeof due);
+    if (status != 0 || length != printed_length || memcmp(printed, due, length)) {
+        print_hex("image", image, image_length);
+        fprintf(stderr, "  ringdump:\n%.*s  independent:\n%.*s", (int)printed_length, printed, (int)length, due);
+        differs("ringdump prints something else, or ends with %d", status);
+    }
+    /* "stop N tail T" at the end: its number */
+    while (length > 1 && due[length - 2] != '\n')
+        length--;
+    reach(PROGRAM, 0, (uint32_t)atoi((const char *)due + (length > 1 ? length - 1 : 0) + 5));
+}
+
+/* ---- One record. ---- */
+
+static size_t true_size(void)
+{
+    size_t count = in.count > LONGEST - 8 ? LONGEST - 8 : in.count;
+
+    if (in.control[1] & TRUE_SIZE && count >= 8) {
+        count = count / 8 * 8;
+        in.bytes[6] = (uint8_t)count;
+        in.bytes[7] = (uint8_t)(count >> 8);
+    }
+    return count;
+}
+
+static void try_record(void)
+{
+    size_t count = true_size();
+    uint64_t place = in.head, bytes = in.tail;
+
+    check(in.bytes, count);
+    if (in.control[1] & PLACE_NEAR) {
+        place %= count + 2;
+        bytes %= count + 2;
+    }
+    copy_name(in.bytes, count, place, bytes, in.control[15]);
+#ifndef WITHOUT_VALUES
+    {
+        static const uint8_t lengths[] = { FIELDS, FIELDS - 1, 0, FIELDS + 1, 3, FIELDS + 4, 1, 54 };
+        uint64_t value[FIELDS + 4];
+        size_t room = count + (in.control[14] & 7);
+
+        if (in.control[11])
+            read_value(in.bytes, count, value, lengths[in.control[11] % 8]);
+        if (read_value(in.bytes, count, value, FIELDS) == 0) {
+            if (write_value(value, FIELDS, in.bytes, count, room) != 0) {
+                print_hex("record", in.bytes, count);
+                differs("a record that was read cannot be written again");
+            }
+            reads_back(count);
+        }
+    }
+#endif
+}
+
+#ifndef WITHOUT_VALUES
+static size_t buffer_room(uint64_t size)
+{
+    size_t whole = size < LONGEST ? (size_t)size : LONGEST;
+
+    switch (in.control[14]) {
+    case 0: return whole;
+    case 1: return whole ? whole - 1 : 0;
+    case 2: return 0;
+    default: return whole + in.control[14];
+    }
+}
+
+static void try_write(void)
+{
+    size_t count = true_size(), source, words = FIELDS;
+    uint64_t value[FIELDS + 4] = { 0 };
+    int i, k;
+
+    if (reader_read(in.bytes, count, ATTRIBUTES, value, FIELDS) != 0 && count >= 8) {
+        value[OLLSKUVAN_TYPE] = type_of(in.bytes, count);
+        value[OLLSKUVAN_MISC] = in.bytes[4] | (uint64_t)in.bytes[5] << 8;
+        value[OLLSKUVAN_SIZE] = in.bytes[6] | (uint64_t)in.bytes[7] << 8;
+    }
+    for (i = 0; i < in.control[12] % 4; i++) {
+        const uint8_t *change = in.control + 16 + 10 * i;
+        uint64_t number = 0, *word = &value[change[0] % FIELDS];
+
+        for (k = 8; k-- > 0;)
+            number = number << 8 | change[2 + k];
+        switch (change[1] % 6) {
+        case 0: *word = number; break;
+        case 1: *word += number; break;
+        case 2: *word ^= number; break;
+        case 3: *word += (int8_t)change[2]; break;
+        case 4: *word ^= UINT64_C(1) << change[2] % 64; break;
+        default: *word = UINT64_MAX << change[2] % 64; break;
+        }
+    }
+    source = count > in.control[13] ? count - in.control[13] : 0;
+    if (in.control[11] > 250)
+        words = in.control[11] == 251 ? 0 : in.control[11] - 252 + 54;
+    if (write_value(value, words, in.bytes, source, buffer_room(value[OLLSKUVAN_SIZE])) == 0)
+        reads_back((size_t)value[OLLSKUVAN_SIZE]);
+}
+#endif
+
+/* ---- What libFuzzer calls. ---- */
+
+static uint64_t get64(const uint8_t *at)
+{
+    uint64_t number = 0;
+    int i;
+
+    for (i = 8; i-- > 0;)
+        number = number << 8 | at[i];
+    return number;
+}
+
+static void take_input(const uint8_t *data, size_t size)
+{
+    uint8_t head[CONTROL + HEADER] = { 0 };
+    const uint8_t *at = head + CONTROL;
+
+    memcpy(head, data, size < sizeof head ? size : sizeof head);
+    memcpy(in.control, head, CONTROL);
+    in.head = get64(at);
+    in.tail = get64(at + 8);
+    in.sample_type = get64(at + 16);
+    in.read_format = get64(at + 24);
+    in.user_mask = get64(at + 32);
+    in.interrupt_mask = get64(at + 40);
+    in.edition = at[48];
+    in.sample_id_all = at[49];
+    if (in.control[1] & FALSE_EDITION)
+        in.edition += 256;
+    if (in.control[1] & HIGH_ID_ALL)
+        in.sample_id_all <<= 24;
+    in.count = size > sizeof head ? size - sizeof head : 0;
+    memcpy(in.bytes, data + (size - in.count), in.count);
+}
+
+int LLVMFuzzerInitialize(int *count, char ***words)
+{
+    size_t page = (size_t)sysconf(_SC_PAGESIZE);
+    int i;
+
+    (void)count;
+    (void)words;
+    for (i = 0; i < SLICES; i++) {
+        uint8_t *all = mmap(NULL, AREA + 2 * page, PROT_NONE, MAP_PRIVATE | MAP_ANONYMOUS, -1, 0);
+
+        if (all == MAP_FAILED || mprotect(all + page, AREA, PROT_READ | PROT_WRITE) != 0) {
+            perror("mmap");
+            exit(1);
+        }
+        areas[i] = all + page;
+    }
+    atexit(print_reached);
+    return 0;
+}
+
+int LLVMFuzzerTestOneInput(const uint8_t *data, size_t size)
+{
+    if (size > CONTROL + HEADER + LONGEST)
+        return 0;
+    executions++;
+    take_input(data, size);
+    switch (in.control[0] % 4) {
+    case 0: try_drain(); break;
+    case 1: try_program(); break;
+#ifndef WITHOUT_VALUES
+    case 3: try_write(); break;
+#endif
+    default: try_record(); break;
+    }
+    return 0;
+}
+
+/* Two in three mutations know what a record is; the others are libFuzzer's own, with the dictionary. */
+size_t LLVMFuzzerCustomMutator(uint8_t *data, size_t size, size_t most, unsigned seed)
+{
+    if (seed % 3 == 0)
+        return LLVMFuzzerMutate(data, size, most);
+    return reader_mutate(data, size, most, seed);
+}

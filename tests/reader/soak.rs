@@ -1,0 +1,158 @@
+//! The soak: drains, values, damaged real rings and printed images, until the time is up.
+//!
+//! Each case depends on the seed and its number alone. The first difference ends the soak and says how
+//! to run that case again.
+
+use crate::drains::{self, compare_check, compare_drain, Difference};
+use crate::images;
+use crate::made::*;
+use crate::ring::Image;
+use crate::tally::Tally;
+use crate::values;
+use crate::words::FIELDS;
+use std::path::Path;
+use std::time::{Duration, Instant};
+
+/// Cases of each kind in one round, before the clock is looked at again.
+const DRAINS: u64 = 1000;
+const VALUES: u64 = 500;
+const DAMAGED: u64 = 100;
+const PRINTED: u64 = 5;
+
+/// The records of an image from tail to head, each with its own tail count.
+pub type Records = Vec<(u64, Vec<u8>)>;
+
+/// A real ring with damage: to records, to single bytes, to the attributes, to head and tail.
+pub fn damaged_case(
+    rings: &[(Image, Records)], seed: u64, number: u64, tally: &mut Tally,
+) -> Result<(), Difference> {
+    let mut r = Random::new(seed ^ 0xda3a_6ed, number);
+    let (image, records) = &rings[r.below(rings.len() as u64) as usize];
+    let mut attributes = image.attributes;
+    let edition = if r.one_in(4) { some_edition(&mut r) } else { image.edition };
+    match r.below(10) {
+        0 => attributes = some_attributes(&mut r, edition),
+        1 => attributes.sample_type ^= 1 << r.below(25),
+        2 => attributes.read_format ^= 1 << r.below(5),
+        3 => attributes.user_mask ^= r.next() & r.next() & r.next(),
+        4 => attributes.sample_id_all ^= 1,
+        _ => {}
+    }
+    // Laid again from another tail, so that another record crosses the end.
+    let tail = if r.one_in(2) { image.tail } else { some_tail(&mut r) };
+    let length = image.ring.len();
+    let mut ring = image.ring.clone();
+    let mut at = 0;
+    let damage = 1 + r.below(12);
+    for (_, record) in records {
+        let mut record = record.clone();
+        if r.one_in(damage) {
+            damage_body(&mut r, &mut record, &attributes);
+        }
+        if r.one_in(200) {
+            damage_size(&mut r, &mut record);
+        }
+        if at + record.len() > length {
+            break;
+        }
+        put(&mut ring, tail.wrapping_add(at as u64), &record);
+        at += record.len();
+        if r.one_in(20) {
+            compare_check(&record, &attributes, edition, &mut r, tally)?;
+            if !cfg!(without_values) {
+                let _value = values::compare_read(&record, &attributes, edition, FIELDS, &mut r, tally)?;
+            }
+        }
+    }
+    for _ in 0..r.below(4) {
+        let byte = r.below(length as u64) as usize;
+        ring[byte] = r.next() as u8;
+    }
+    let mut case = DrainCase {
+        head: tail.wrapping_add(at as u64),
+        tail,
+        attributes,
+        edition,
+        budget: if r.one_in(8) { r.below(100) } else { u64::MAX },
+        scratch: if r.one_in(8) { r.below(200) as usize } else { length },
+        journal: if r.one_in(8) { r.below(1000) as usize } else { 2 * length + 16 },
+        ring,
+    };
+    if r.one_in(10) {
+        damage_counts(&mut r, &mut case);
+    }
+    compare_drain(&case, &mut r, tally)?;
+    Ok(())
+}
+
+/// What has been tried so far.
+#[derive(Default)]
+struct Done {
+    drains: u64,
+    values: u64,
+    damaged: u64,
+    printed: u64,
+}
+
+impl Done {
+    fn text(&self, seed: u64, since: Instant) -> String {
+        let seconds = since.elapsed().as_secs();
+        format!(
+            "soak: {} min {:02} s, seed {seed}: {} drains, {} values, {} damaged real rings, {} images printed",
+            seconds / 60,
+            seconds % 60,
+            self.drains,
+            self.values,
+            self.damaged,
+            self.printed
+        )
+    }
+}
+
+fn again(kind: &str, seed: u64, number: u64, more: &str, difference: Difference) -> String {
+    format!(
+        "seed {seed}, {kind} case {number}: {difference}\nrun it again: reader {kind} --seed {seed} --from {number} --count 1{more}"
+    )
+}
+
+pub fn run(
+    program: &mut images::Program, rings: &[(Image, Records)], folder: &Path, seed: u64, minutes: u64,
+) -> Result<(), String> {
+    let start = Instant::now();
+    let end = start + Duration::from_secs(60 * minutes);
+    let mut told = start;
+    let mut done = Done::default();
+    let mut tally = Tally::default();
+    let more = format!(" --rings {}", folder.display());
+    while Instant::now() < end {
+        for number in done.drains..done.drains + DRAINS {
+            drains::one_case(seed, number, &mut tally).map_err(|d| again("drains", seed, number, "", d))?;
+        }
+        done.drains += DRAINS;
+        if !cfg!(without_values) {
+            for number in done.values..done.values + VALUES {
+                values::one_case(seed, number, &mut tally).map_err(|d| again("values", seed, number, "", d))?;
+            }
+            done.values += VALUES;
+        }
+        for number in done.damaged..done.damaged + DAMAGED {
+            damaged_case(rings, seed, number, &mut tally).map_err(|d| again("damaged", seed, number, &more, d))?;
+        }
+        done.damaged += DAMAGED;
+        for number in done.printed..done.printed + PRINTED {
+            images::one_image(program, seed ^ 0x1a6e, number)?;
+        }
+        done.printed += PRINTED;
+        if told.elapsed() >= Duration::from_secs(10) {
+            told = Instant::now();
+            println!("{}", done.text(seed, start));
+        }
+    }
+    tally.print_records();
+    tally.print_accepted();
+    for call in ["drain", "check", "name copy", "read", "write"] {
+        tally.print_answers(call);
+    }
+    println!("{}; no difference", done.text(seed, start));
+    Ok(())
+}
