@@ -1,11 +1,13 @@
 // What C calls: numbers and byte slices in, numbers out. Each entry is thin and has the whole contract of what it calls; the
 // numbers of 32 bits are not narrowed, so edition 257 is no edition and any sample_id_all but 0 is set.
 ghost use mathlib.Core.Path.{_≡_};
+ghost use lib.ListN.{length};
 ghost use Rattle.meaning.specs.Editions.{editions};
 ghost use Rattle.meaning.specs.Records.{check};
 ghost use Rattle.meaning.specs.Drain.{told, drain};
 ghost use Rattle.meaning.specs.Names.{nameAnswer, nameBuffer};
 ghost use Rattle.record.specs.Into.{readIntoAnswer, readIntoWords};
+ghost use Rattle.writer.specs.Writer.{writeWordsAnswer, writeWordsBuffer};
 ghost use Rattle.ollskuvan.specs.Given.{given};
 use meaning::Attributes;
 use meaning::Drained;
@@ -95,4 +97,25 @@ pub extern "C" fn ollskuvan_read(
     let a = attributes(sample, format, all, user, interrupt);
     let e = edition as u64;
     record::read_into(bytes, e, a, words) as u32
+}
+
+// The writer's answer: 42 also for fewer than 56 words.
+#[no_mangle]
+pub extern "C" fn ollskuvan_write(
+    words: &[u64],
+    source: &[u8],
+    sample: u64,
+    format: u64,
+    all: u32,
+    user: u64,
+    interrupt: u64,
+    edition: u32,
+    buffer: &mut [u8],
+) -> u32
+    ensures { λ r. ⌜ r ≡ writeWordsAnswer edition (given sample format all user interrupt) (now (source .entry)) (now (words .entry)) (length (now (buffer .entry))) ⌝ }
+    ensures { λ _. ⌜ now (buffer .exit) ≡ writeWordsBuffer edition (given sample format all user interrupt) (now (source .entry)) (now (words .entry)) (now (buffer .entry)) ⌝ }
+{
+    let a = attributes(sample, format, all, user, interrupt);
+    let e = edition as u64;
+    writer::write(words, source, e, a, buffer) as u32
 }
