@@ -33,6 +33,7 @@ use Rattle.ring.proofs as ring
 use Rattle.reader.proofs as reader
 use Rattle.drain.proofs as drains
 use Rattle.ollskuvan.proofs as ollskuvan
+use Rattle.writer.proofs as writer
 
 -- the law: a contract is an equation for each result and each slice, so one law settles it
 pub same : {A : Type 0} {x y z : A} → x ≡ z → y ≡ z → x ≡ y
@@ -380,11 +381,16 @@ ollskuvan-read κs a x y s t p q = same (p .0) (q .0)
 pub ollskuvan-read-words : Seen ollskuvan.ollskuvan_read.Kinds.ps ollskuvan.ollskuvan_read.Kinds.r ollskuvan.ollskuvan_read.Reads.Learnt (λ κs x s. now (s .1 .1 .1 .1 .1 .1 .1 .0))
 ollskuvan-read-words κs a x y s t p q = same (p .1) (q .1)
 
--- ---- over the definition, for what is not a function yet: the writer's answer, and the buffer at exit
+pub ollskuvan-write : Result ollskuvan.ollskuvan_write.Kinds.ps ollskuvan.ollskuvan_write.Kinds.r ollskuvan.ollskuvan_write.Reads.Learnt
+ollskuvan-write κs a x y s t p q = same (p .0) (q .0)
 
-module _ (e : ℕ) (a : Attributes) (source words buffer : List ℕ) where
-  abbrev Writes : ℕ → List ℕ → Type 0
-  Writes x b = (x ≡ writeAnswer editions e a source words (length buffer)) × (b ≡ writeBuffer editions e a source words buffer)
+pub ollskuvan-write-buffer : Seen ollskuvan.ollskuvan_write.Kinds.ps ollskuvan.ollskuvan_write.Kinds.r ollskuvan.ollskuvan_write.Reads.Learnt (λ κs x s. now (s .1 .1 .1 .1 .1 .1 .1 .1 .0))
+ollskuvan-write-buffer κs a x y s t p q = same (p .1) (q .1)
 
-  pub write-unique : (x y : ℕ) (b c : List ℕ) → Writes x b → Writes y c → (x ≡ y) × (b ≡ c)
-  write-unique x y b c p q = (same (p .0) (q .0), same (p .1) (q .1))
+-- ---- writer
+
+pub write : Result writer.write.Kinds.ps writer.write.Kinds.r writer.write.Reads.Learnt
+write κs a x y s t p q = same (p .0) (q .0)
+
+pub write-buffer : Seen writer.write.Kinds.ps writer.write.Kinds.r writer.write.Reads.Learnt (λ κs x s. now (s .1 .1 .1 .1 .0))
+write-buffer κs a x y s t p q = same (p .1) (q .1)
