@@ -10,6 +10,7 @@ use crate::ring::Image;
 use crate::tally::Tally;
 use crate::values;
 use crate::words::FIELDS;
+use std::panic::{catch_unwind, AssertUnwindSafe};
 use std::path::Path;
 use std::time::{Duration, Instant};
 
@@ -109,6 +110,11 @@ impl Done {
     }
 }
 
+/// A panic of the test itself is a difference too: it must name its case.
+fn caught(one: impl FnOnce() -> Result<(), Difference>) -> Result<(), Difference> {
+    catch_unwind(AssertUnwindSafe(one)).unwrap_or_else(|_| Err("the test itself panicked, see above".to_string()))
+}
+
 fn again(kind: &str, seed: u64, number: u64, more: &str, difference: Difference) -> String {
     format!(
         "seed {seed}, {kind} case {number}: {difference}\nrun it again: reader {kind} --seed {seed} --from {number} --count 1{more}"
@@ -126,17 +132,18 @@ pub fn run(
     let more = format!(" --rings {}", folder.display());
     while Instant::now() < end {
         for number in done.drains..done.drains + DRAINS {
-            drains::one_case(seed, number, &mut tally).map_err(|d| again("drains", seed, number, "", d))?;
+            caught(|| drains::one_case(seed, number, &mut tally)).map_err(|d| again("drains", seed, number, "", d))?;
         }
         done.drains += DRAINS;
         if !cfg!(without_values) {
             for number in done.values..done.values + VALUES {
-                values::one_case(seed, number, &mut tally).map_err(|d| again("values", seed, number, "", d))?;
+                caught(|| values::one_case(seed, number, &mut tally)).map_err(|d| again("values", seed, number, "", d))?;
             }
             done.values += VALUES;
         }
         for number in done.damaged..done.damaged + DAMAGED {
-            damaged_case(rings, seed, number, &mut tally).map_err(|d| again("damaged", seed, number, &more, d))?;
+            caught(|| damaged_case(rings, seed, number, &mut tally))
+                .map_err(|d| again("damaged", seed, number, &more, d))?;
         }
         done.damaged += DAMAGED;
         for number in done.printed..done.printed + PRINTED {

@@ -192,7 +192,7 @@ pub fn one_case(seed: u64, number: u64, tally: &mut Tally) -> Result<(), Differe
             1 => r.pick(&[TYPE, MISC, SIZE]),
             _ => {
                 let used: Vec<usize> = (0..FIELDS).filter(|w| value[*w] != 0).collect();
-                r.pick(&used)
+                if used.is_empty() { TYPE } else { r.pick(&used) }
             }
         };
         value[word] = r.pick(&neighbours(value[word]));

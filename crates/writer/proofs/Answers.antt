@@ -1,21 +1,21 @@
 -- The writer's answers, as the code finds them. Assumes nothing.
-use mathlib.Core.Path.{_≡_, refl, sym, ap, ap₂, _∙_, subst}
-use Prim.Native.Nat.{ℕ, zero, suc, _+_, _-_, _<_, _≤_}
+use mathlib.Core.Path.{_≡_, refl, sym, ap, ap₂, _∙_}
+use Prim.Native.Nat.{ℕ, _-_, _<_, _≤_}
 use native.Mathlib.Omega.{arith}
-use mathlib.Core.Bool.{Bool, true, false, cond, _&&_}
-use mathlib.Core.List.{List, [], _∷_, _++_}
+use mathlib.Core.Bool.{Bool, true, false, cond}
+use mathlib.Core.List.{List}
 use lib.ListN.{length, take, drop, getD, length-append}
-use lib.Dec.{leb, eqb, ltb}
+use lib.Dec.{leb}
 use borrow.Author.Tests.{eq-eqb, ne-eqb, le-leb, lt-leb}
 use Rattle.meaning.specs.declared.Attributes.{Attributes}
 use Rattle.meaning.specs.declared.Item.{Item}
 use Rattle.meaning.specs.declared.Known.{Known}
-use Rattle.meaning.specs.Bytes.{allZero, put}
+use Rattle.meaning.specs.Bytes.{put}
 use Rattle.meaning.specs.Editions.{editions, known, allowed, unread}
 use Rattle.meaning.specs.Schema.{schema, trailer}
 use Rattle.meaning.specs.Writing.{write}
-use Rattle.meaning.specs.Records.{Layout, origin, layout, Value, header, fieldBytes, written, writeRecord, fitsBy, fits}
-use Rattle.meaning.specs.Values.{anyBeyond, slotsTold, meant, spareBy, spare, writable, writeBy, writeAnswer, writeBuffer}
+use Rattle.meaning.specs.Records.{Layout, origin, layout, Value, header, fieldBytes, written, writeRecord, fits}
+use Rattle.meaning.specs.Values.{anyBeyond, slotsTold, meant, spare, writable, writeBy, writeAnswer, writeBuffer}
 use Rattle.laws.specs.Whole.{header-length}
 use Rattle.laws.specs.Answer42.{buffer-kept}
 use Rattle.writer.specs.declared.Part.{Part}

@@ -1,30 +1,30 @@
 -- The table of forms is what the definitions say: a slot fits the form of an item exactly when its content fits the item, and the form's bytes
 -- and next state are the item's. Assumes nothing.
-use mathlib.Core.Path.{_≡_, refl, sym, ap, ap₂, _∙_}
+use mathlib.Core.Path.{_≡_, refl, sym, ap, _∙_}
 use Prim.Native.Nat.{ℕ, zero, suc, _+_, _-_, _*_, _%_, _^_, _<_, _≤_}
 use native.Mathlib.Nat.{add-zero, mul-one, eq-of-mul-eq-mul-right}
 use native.Mathlib.Omega.{arith}
-use mathlib.Core.Bool.{Bool, true, false, cond, not, _&&_, _||_}
-use mathlib.Core.List.{List, [], _∷_, _++_, append-nil}
+use mathlib.Core.Bool.{Bool, true, false, cond, _&&_, _||_}
+use mathlib.Core.List.{List, [], _++_, append-nil}
 use lib.ListN.{length, take, drop, length-append, length-drop, length-replicate}
 use lib.Seq.{length-take-le}
 use lib.Dec.{leb, eqb, ltb, leb·suc-suc, eqb·suc-zero}
-use borrow.Author.Tests.{leb-true, leb-false, le-leb, lt-leb, ltb-true, ltb-false, lt-ltb, le-ltb, eqb-true, eqb-false, eq-eqb, ne-eqb}
+use borrow.Author.Tests.{leb-true, le-leb, ltb-false, eqb-true, eq-eqb}
 use Rattle.meaning.specs.declared.Cursor.{Cursor}
 use Rattle.meaning.specs.declared.Item.{Item}
 use Rattle.meaning.specs.declared.Shape.{Shape}
 use Rattle.meaning.specs.declared.Shape.the-variants.{Number, Ignored, Count, Size, Times, Earlier, Registers, Filled, Abi, Limit, Listed, Bytes, Pad, Name}
 use Rattle.meaning.specs.declared.Width.{Width}
 use Rattle.meaning.specs.declared.Width.the-variants.{W1, W2, W4, W8}
-use Rattle.meaning.specs.Bytes.{ones, spell, zeros, small, nonzero}
-use Rattle.meaning.specs.Items.{Con, con, bytes, cursor, counted, before, past}
+use Rattle.meaning.specs.Bytes.{spell, zeros, small, nonzero}
+use Rattle.meaning.specs.Items.{con, bytes, cursor, counted, before, past}
 use Rattle.meaning.specs.Writing.{emit, number, blank, listed, fitShape, next}
-use Rattle.meaning.specs.Values.{Slot, slot, lists, unit, held, beyond}
+use Rattle.meaning.specs.Values.{Slot, lists, unit, held, beyond}
 use Rattle.laws.specs.Bytes.{apart, and-true, true-and, small-take, small-drop, length-spell}
 use Rattle.laws.specs.There.{item}
 use Rattle.writer.specs.Tries.{fitsItem}
 use Rattle.writer.specs.declared.Form.{Form}
-use Rattle.writer.specs.Forms.{blankForm, numberForm, listForm, nameForm, top, shapeForm, form, fitsForm, passesEnd, taken, formBytes, formNext}
+use Rattle.writer.specs.Forms.{top, shapeForm, form, fitsForm, passesEnd, taken, formBytes, formNext}
 
 -- two tests that say the same
 pub same-test : (a b : Bool) → (a ≡ true → b ≡ true) → (b ≡ true → a ≡ true) → a ≡ b

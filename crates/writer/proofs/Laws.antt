@@ -1,13 +1,13 @@
 -- Laws that the proofs of this crate cite. Assumes nothing.
 use mathlib.Core.Path.{_≡_, refl, sym, ap, ap₂, _∙_}
-use Prim.Native.Nat.{ℕ, zero, suc, _+_, _-_, _*_, _%_, _^_, _<_, _≤_}
+use Prim.Native.Nat.{ℕ, _+_, _-_, _≤_}
 use native.Mathlib.Nat.{add-zero}
 use native.Mathlib.Omega.{arith}
-use mathlib.Core.Bool.{Bool, true, false, cond, _&&_, _||_}
-use mathlib.Core.List.{List, [], _∷_, _++_}
-use lib.ListN.{length, take, drop, getD}
+use mathlib.Core.Bool.{Bool, true, false, cond, _&&_}
+use mathlib.Core.List.{List}
+use lib.ListN.{drop, getD}
 use lib.Seq.{getD-drop}
-use lib.Dec.{leb, eqb, ltb}
+use lib.Dec.{eqb}
 use Rattle.meaning.specs.declared.Item.{Item}
 use Rattle.meaning.specs.declared.Shape.{Shape}
 use Rattle.meaning.specs.declared.Shape.the-variants.{Number, Ignored, Count, Size, Times, Earlier, Registers, Filled, Abi, Limit, Listed, Bytes, Pad, Name}

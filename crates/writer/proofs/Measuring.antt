@@ -1,12 +1,10 @@
 -- What the two loops that test say of `fits`. Assumes nothing.
 use mathlib.Core.Path.{_≡_, refl, sym, ap, ap₂, _∙_, subst}
-use Prim.Native.Nat.{ℕ, zero, suc, _+_, _-_, _*_, _/_, _%_, _^_, _<_, _≤_}
-use native.Mathlib.Nat.{add-zero}
-use native.Mathlib.Numerals.{add-one}
+use Prim.Native.Nat.{ℕ, suc, _-_, _%_, _^_, _≤_}
 use native.Mathlib.Omega.{arith}
 use mathlib.Core.Bool.{Bool, true, false, cond, not, _&&_, _||_}
-use mathlib.Core.List.{List, [], _∷_, _++_}
-use lib.ListN.{length, take, drop, getD, length-append}
+use mathlib.Core.List.{List, [], _∷_}
+use lib.ListN.{length, drop, getD}
 use lib.Dec.{leb, eqb, ltb}
 use borrow.Author.Tests.{leb-true, le-leb, ltb-true, eqb-true, eq-eqb, lt-ltb}
 use Rattle.meaning.specs.declared.Attributes.{Attributes}
@@ -15,8 +13,8 @@ use Rattle.meaning.specs.declared.Item.{Item}
 use Rattle.meaning.specs.declared.Shape.{Shape}
 use Rattle.meaning.specs.declared.Shape.the-variants.{Number, Ignored, Count, Size, Times, Earlier, Registers, Filled, Abi, Limit, Listed, Bytes, Pad, Name}
 use Rattle.meaning.specs.Bytes.{allZero}
-use Rattle.meaning.specs.Items.{Con, cursor}
-use Rattle.meaning.specs.Writing.{next, nexts, fit, write}
+use Rattle.meaning.specs.Items.{Con}
+use Rattle.meaning.specs.Writing.{next, nexts, fit}
 use Rattle.meaning.specs.Records.{Value, fixedShape, fixed, origin, fieldBytes, written, fitsBy}
 use Rattle.meaning.specs.Values.{Slot, lists, held, means, beyond, anyBeyond, slotsTold, spareBy}
 use Rattle.laws.specs.Bytes.{apart, and-true, true-and}
@@ -28,8 +26,9 @@ use Rattle.writer.specs.declared.Told.{Told}
 use Rattle.writer.specs.Tellings.{from}
 use Rattle.writer.specs.Tries.{unfit, fitsItem, good, tryItems, itemsFrom, slotsFrom}
 use Rattle.writer.specs.Measures.{Lays, toldValue, measured}
+use Rattle.writer.proofs.Tried.{and-false}
 use Rattle.writer.proofs.Turns.{good-parts, no-state}
-use Rattle.writer.proofs.Putting.{tried-is, tried-at}
+use Rattle.writer.proofs.Putting.{tried-is}
 
 pub slots-length : (is : List Item) (ws : List ℕ) (n old : ℕ) → length (slotsTold is ws n old) ≡ length is
 unfolding slotsTold
@@ -144,15 +143,11 @@ tried-most src (i ∷ is) (s ∷ ss) c m z =
     subst (λ (x : Cursor). x .at ≤ 65535) (sym (u .1))
     (tried-most src is ss (next i (held src i s) c) (good-parts src i s c (u .0) .2) (ap (λ (x : Cursor). x .why) (sym (u .1)) ∙ z))
 
-and-right : (a : Bool) → a && false ≡ false
-and-right true = refl
-and-right false = refl
-
 module _ (is ts : List Item) (src ws : List ℕ) (plain : fixed ts ≡ true) (inside : anyBeyond src is (slotsTold is (drop 3 ws) 0 0) ≡ false) (c₁ : Cursor)
     (e₁ : c₁ ≡ tryItems src is (slotsFrom is (from 3) ws) (origin 8)) where
   unmeasured : (fitsBy is ts (toldValue is ts src ws) ≡ true → ⊥) → 0 ≡ measured is ts src ws
   unfolding measured
-  unmeasured n = rw (never (fitsBy is ts (toldValue is ts src ws)) n, and-right (allZero (spareBy is ts ws)))
+  unmeasured n = rw (never (fitsBy is ts (toldValue is ts src ws)) n, and-false (allZero (spareBy is ts ws)))
 
   pub bad-body : (c₁ .why ≡ 0 → ⊥) → 0 ≡ measured is ts src ws
   unfolding toldValue slotsFrom

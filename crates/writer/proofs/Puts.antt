@@ -1,15 +1,14 @@
 -- Laws of the loop that puts: one item's three pieces, all items, the whole record. Assumes nothing.
-use mathlib.Core.Path.{_≡_, refl, sym, ap, ap₂, _∙_, subst}
-use Prim.Native.Nat.{ℕ, zero, suc, _+_, _-_, _*_, _/_, _%_, _^_, _<_, _≤_}
-use native.Mathlib.Nat.{add-zero, mul-one}
+use mathlib.Core.Path.{_≡_, refl, sym, ap, ap₂, _∙_}
+use Prim.Native.Nat.{ℕ, zero, suc, _+_, _-_, _/_, _%_, _≤_}
 use native.Mathlib.Omega.{arith}
-use mathlib.Core.Bool.{Bool, true, false, cond, not, _&&_, _||_}
-use mathlib.Core.List.{List, [], _∷_, _++_}
-use lib.ListN.{length, take, drop, getD, length-append, length-replicate}
+use mathlib.Core.Bool.{false}
+use mathlib.Core.List.{List, _∷_, _++_}
+use lib.ListN.{length, take, drop, length-append, length-replicate}
 use Rattle.meaning.specs.Bytes.{spell, zeros, put}
 use Rattle.meaning.specs.Values.{Slot}
 use Rattle.laws.specs.Bytes.{length-spell}
-use Rattle.wire.proofs.Laws.{put-put, length-put, put-nil}
+use Rattle.wire.proofs.Laws.{put-put}
 use Rattle.writer.specs.declared.Form.{Form}
 use Rattle.writer.specs.Forms.{passesEnd, taken, formBytes}
 use Rattle.writer.proofs.Fitting.{taken-length}

@@ -1,20 +1,18 @@
 -- Turns of the loop that puts: the bytes still to come, put where the state says, make the whole. Assumes nothing.
 use mathlib.Core.Path.{_≡_, refl, sym, ap, ap₂, _∙_, subst}
-use Prim.Native.Nat.{ℕ, zero, suc, _+_, _-_, _*_, _/_, _%_, _^_, _<_, _≤_}
-use native.Mathlib.Nat.{add-zero}
+use Prim.Native.Nat.{ℕ, _+_, _-_, _^_, _<_, _≤_}
 use native.Mathlib.Omega.{arith}
-use mathlib.Core.Bool.{Bool, true, false, cond, not, _&&_, _||_}
+use mathlib.Core.Bool.{Bool, true, false, cond}
 use mathlib.Core.List.{List, [], _∷_, _++_}
-use lib.ListN.{length, take, drop, getD, length-append}
-use lib.Dec.{leb, eqb, ltb}
-use borrow.Author.Tests.{leb-true, le-leb}
+use lib.ListN.{length}
+use lib.Dec.{leb}
+use borrow.Author.Tests.{le-leb}
 use Rattle.meaning.specs.declared.Cursor.{Cursor}
 use Rattle.meaning.specs.declared.Item.{Item}
 use Rattle.meaning.specs.Bytes.{small, put}
-use Rattle.meaning.specs.Items.{Con, cursor}
-use Rattle.meaning.specs.Writing.{emit, next, nexts, fit, write}
-use Rattle.meaning.specs.Values.{Slot, slot, held, means, beyond, anyBeyond}
-use Rattle.laws.specs.Bytes.{apart, and-true, true-and}
+use Rattle.meaning.specs.Items.{Con}
+use Rattle.meaning.specs.Writing.{emit, next, nexts, write}
+use Rattle.meaning.specs.Values.{Slot, held, means}
 use Rattle.laws.specs.More.{nexts-at}
 use Rattle.wire.proofs.Laws.{put-put, length-put, put-nil}
 use Rattle.writer.specs.declared.Form.{Form}
@@ -22,9 +20,8 @@ use Rattle.writer.specs.declared.Part.{Part}
 use Rattle.writer.specs.declared.Told.{Told}
 use Rattle.writer.specs.Forms.{form, fitsForm, passesEnd, taken, formBytes, formNext}
 use Rattle.writer.specs.Tellings.{givenSlot, afterTold}
-use Rattle.writer.specs.Tries.{unfit, fitsItem, good, tryItem, tryItems, itemHere, itemsFrom, slotsFrom}
+use Rattle.writer.specs.Tries.{unfit, good, tryItems, itemHere, itemsFrom, slotsFrom}
 use Rattle.writer.proofs.Fitting.{fits-is, bytes-is, next-is, passes-is, width-most, form-length}
-use Rattle.writer.proofs.Tried.{inside-source}
 use Rattle.writer.proofs.Turns.{left, one-on, none-on, Within, within-on, good-parts, no-state, tried}
 
 -- a walk that ends as a state fits everywhere, and ends where the items do

@@ -1,23 +1,22 @@
 -- A measured record, put into a buffer. Assumes nothing.
 use mathlib.Core.Path.{_≡_, refl, sym, ap, ap₂, _∙_, subst}
-use Prim.Native.Nat.{ℕ, zero, suc, _+_, _-_, _*_, _%_, _<_, _≤_}
-use native.Mathlib.Nat.{add-zero, zero-add}
+use Prim.Native.Nat.{ℕ, _+_, _-_, _<_, _≤_}
 use native.Mathlib.Omega.{arith}
 use mathlib.Core.Bool.{Bool, true, false, cond, _&&_}
-use mathlib.Core.List.{List, [], _∷_, _++_, append-assoc}
-use lib.ListN.{length, take, drop, getD, length-append}
+use mathlib.Core.List.{List, _++_, append-assoc}
+use lib.ListN.{length, drop, getD, length-append}
 use Rattle.meaning.specs.declared.Attributes.{Attributes}
 use Rattle.meaning.specs.declared.Cursor.{Cursor}
 use Rattle.meaning.specs.declared.Item.{Item}
 use Rattle.meaning.specs.Bytes.{spell, allZero, put}
-use Rattle.meaning.specs.Writing.{fit, write, nexts}
+use Rattle.meaning.specs.Writing.{write}
 use Rattle.meaning.specs.Records.{Value, fixed, room, origin, header, fieldBytes, written, fitsBy}
 use Rattle.meaning.specs.Values.{Slot, means, anyBeyond, slotsTold, spareBy}
 use Rattle.laws.specs.Bytes.{and-true, length-spell}
 use Rattle.laws.specs.Fixed.{fixed-write}
 use Rattle.laws.specs.Whole.{header-length}
 use Rattle.laws.specs.More.{nexts-at, fields-end, record-end}
-use Rattle.wire.proofs.Laws.{put-put, length-put}
+use Rattle.wire.proofs.Laws.{put-put}
 use Rattle.writer.specs.declared.Part.{Part}
 use Rattle.writer.specs.declared.Told.{Told}
 use Rattle.writer.specs.Tellings.{from}

@@ -1,23 +1,22 @@
 -- The parts of a type, how many words they have, and the words that no item has. Assumes nothing.
-use mathlib.Core.Path.{_≡_, refl, sym, ap, ap₂, _∙_, subst}
-use Prim.Native.Nat.{ℕ, zero, suc, _+_, _-_, _*_, _<_, _≤_}
-use native.Mathlib.Nat.{add-zero}
+use mathlib.Core.Path.{_≡_, refl, sym, ap, ap₂, _∙_}
+use Prim.Native.Nat.{ℕ, suc, _+_, _-_, _*_, _<_, _≤_}
 use native.Mathlib.Numerals.{add-one}
 use native.Mathlib.Omega.{arith}
-use mathlib.Core.Bool.{Bool, true, false, cond, _&&_}
+use mathlib.Core.Bool.{Bool, true, false, _&&_}
 use mathlib.Core.List.{List, [], _∷_, _++_}
 use lib.ListN.{length, take, drop, getD, drop-of-length-le, List·getD-eq-default}
 use lib.Seq.{drop-cons, getD-take}
 use lib.Dec.{leb, eqb}
-use borrow.Author.Tests.{leb-true, leb-false, eqb-true, eq-eqb, ne-eqb}
+use borrow.Author.Tests.{leb-true, leb-false, eq-eqb, ne-eqb}
 use Rattle.meaning.specs.declared.Attributes.{Attributes}
 use Rattle.meaning.specs.declared.Item.{Item}
 use Rattle.meaning.specs.Bytes.{allZero}
 use Rattle.meaning.specs.Schema.{schema, trailer}
 use Rattle.meaning.specs.Values.{tell, wordsOf, width, spareBy}
 use Rattle.laws.specs.Bytes.{take-length-by}
+use Rattle.table.specs.Rows.{rows}
 use Rattle.table.specs.declared.Part.{Part as Rows}
-use Rattle.table.specs.Rows.{rows, itemOf}
 use Rattle.table.specs.Same.{Holds, trailer-rows}
 use Rattle.writer.specs.declared.Part.{Part}
 use Rattle.writer.specs.Tries.{itemHere, itemsFrom}

@@ -1,27 +1,24 @@
 -- The loop that tests: one item, all of them, and what its end says of `fits`. Assumes nothing.
-use mathlib.Core.Path.{_≡_, refl, sym, ap, ap₂, _∙_, subst}
-use Prim.Native.Nat.{ℕ, zero, suc, _+_, _-_, _*_, _/_, _%_, _^_, _<_, _≤_}
-use native.Mathlib.Nat.{add-zero, mul-one}
+use mathlib.Core.Path.{_≡_, refl, sym, ap, _∙_}
+use Prim.Native.Nat.{ℕ, suc, _+_, _-_, _*_, _^_, _<_, _≤_}
+use native.Mathlib.Nat.{mul-one}
 use native.Mathlib.Omega.{arith}
-use mathlib.Core.Bool.{Bool, true, false, cond, not, _&&_, _||_}
-use mathlib.Core.List.{List, [], _∷_, _++_}
-use mathlib.Core.Logic.{_⊎_, inl, inr}
-use lib.ListN.{length, take, drop, getD}
-use lib.Dec.{leb, eqb, ltb}
+use mathlib.Core.Bool.{Bool, true, false, cond, _&&_}
+use mathlib.Core.List.{List, [], _∷_}
+use lib.ListN.{length, getD}
+use lib.Dec.{leb, ltb}
 use mir.Val.{Fits}
 use mir.Syntax.{w8}
-use borrow.Author.Tests.{leb-true, leb-false, le-leb, lt-leb, lt-ltb, ltb-false, eqb-true, not-true, not-false}
+use borrow.Author.Tests.{le-leb, lt-leb, lt-ltb, ltb-false}
 use Rattle.meaning.specs.declared.Cursor.{Cursor}
 use Rattle.meaning.specs.declared.Item.{Item}
-use Rattle.meaning.specs.declared.Shape.{Shape}
 use Rattle.meaning.specs.Bytes.{small}
-use Rattle.meaning.specs.Items.{Con, cursor}
-use Rattle.meaning.specs.Writing.{next, nexts, fit}
-use Rattle.meaning.specs.Values.{Slot, slot, held, means, beyond, anyBeyond}
-use Rattle.laws.specs.Bytes.{apart, and-true, true-and}
+use Rattle.meaning.specs.Items.{cursor}
+use Rattle.meaning.specs.Values.{Slot, beyond}
+use Rattle.laws.specs.Bytes.{true-and}
 use Rattle.writer.specs.declared.Form.{Form}
-use Rattle.writer.specs.Forms.{form, fitsForm, passesEnd, taken, formBytes, formNext}
-use Rattle.writer.specs.Tries.{unfit, fitsItem, good, tryItem, tryItems}
+use Rattle.writer.specs.Forms.{form, fitsForm, passesEnd, taken, formNext}
+use Rattle.writer.specs.Tries.{unfit, fitsItem, good, tryItem}
 use Rattle.writer.proofs.Fitting.{fits-is, next-is, passes-is, width-most, name-lists}
 
 -- the bytes of a slice are small
@@ -30,7 +27,7 @@ unfolding small
 small-of [] h = refl
 small-of (x ∷ xs) h = true-and (ltb x 256) (small xs) (lt-ltb x 256 (h 0 .fits)) (small-of xs (λ i. h (suc i)))
 
-and-false : (b : Bool) → b && false ≡ false
+pub and-false : (b : Bool) → b && false ≡ false
 and-false true = refl
 and-false false = refl
 

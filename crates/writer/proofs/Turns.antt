@@ -1,22 +1,19 @@
 -- Turns of the loops over a part's rows: what is still to come is the whole. Assumes nothing.
 use mathlib.Core.Path.{_≡_, refl, sym, ap, ap₂, _∙_, subst}
-use Prim.Native.Nat.{ℕ, zero, suc, _+_, _-_, _*_, _/_, _%_, _^_, _<_, _≤_}
-use native.Mathlib.Nat.{add-zero}
+use Prim.Native.Nat.{ℕ, _+_, _-_, _*_, _<_, _≤_}
 use native.Mathlib.Omega.{arith}
 use mathlib.Core.Bool.{Bool, true, false, cond, not, _&&_, _||_}
-use mathlib.Core.List.{List, [], _∷_, _++_, map}
-use lib.ListN.{length, take, drop, getD}
-use lib.Seq.{slice, drop-drop}
-use lib.Dec.{leb, eqb, ltb}
+use mathlib.Core.List.{List, [], _∷_}
+use lib.Seq.{drop-drop}
+use lib.Dec.{leb}
 use borrow.Author.Tests.{leb-true, not-true}
 use Rattle.meaning.specs.declared.Cursor.{Cursor}
 use Rattle.meaning.specs.declared.Item.{Item}
-use Rattle.meaning.specs.declared.Shape.{Shape}
-use Rattle.meaning.specs.declared.Shape.the-variants.{Number, Ignored, Count, Size, Times, Earlier, Registers, Filled, Abi, Limit, Listed, Bytes, Pad, Name}
-use Rattle.meaning.specs.Items.{Con, cursor}
+use Rattle.meaning.specs.Items.{Con}
 use Rattle.meaning.specs.Writing.{next}
-use Rattle.meaning.specs.Values.{Slot, slot, tell, wordsOf, held, beyond, anyBeyond, slotsTold}
-use Rattle.laws.specs.Bytes.{apart, and-true, true-and}
+use Rattle.meaning.specs.Values.{Slot, wordsOf, held, beyond, anyBeyond, slotsTold}
+use Rattle.fields.specs.Told.{words-most}
+use Rattle.laws.specs.Bytes.{and-true}
 use Rattle.laws.specs.There.{next-why}
 use Rattle.table.specs.Rows.{rows, itemOf}
 use Rattle.table.proofs.Laws.{rows-next, rows-over}
@@ -24,23 +21,6 @@ use Rattle.writer.specs.declared.Part.{Part}
 use Rattle.writer.specs.declared.Told.{Told}
 use Rattle.writer.specs.Tellings.{givenSlot, afterTold}
 use Rattle.writer.specs.Tries.{unfit, fitsItem, good, tryItem, tryItems, itemHere, itemsFrom, slotsFrom}
-
-words-most : (sh : Shape) → wordsOf sh ≤ 2
-unfolding tell
-words-most (Number w) = omega arith
-words-most (Ignored k) = omega arith
-words-most (Count w) = omega arith
-words-most (Size w) = omega arith
-words-most (Times k) = omega arith
-words-most (Earlier k) = omega arith
-words-most Registers = omega arith
-words-most Filled = omega arith
-words-most (Abi m) = omega arith
-words-most (Limit k) = omega arith
-words-most (Listed k) = omega arith
-words-most (Bytes k) = omega arith
-words-most Pad = omega arith
-words-most Name = omega arith
 
 pub items-next : (p : Part) (k : ℕ) → k < p .to → p .to ≤ 129 → itemsFrom p k ≡ itemHere p k ∷ itemsFrom p (k + 1)
 unfolding itemsFrom itemHere

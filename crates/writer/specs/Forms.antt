@@ -1,7 +1,7 @@
 -- An item at a place, as it is written: a table over the shapes. Not what must be believed: proofs/Fitting says that it is what the definitions
 -- of `meaning` say. Assumes nothing: these are definitions.
 use Prim.Native.Nat.{ℕ, _+_, _-_, _*_, _%_, _^_}
-use mathlib.Core.Bool.{Bool, true, false, cond, not, _&&_, _||_}
+use mathlib.Core.Bool.{Bool, true, false, cond, _&&_, _||_}
 use mathlib.Core.List.{List, _++_}
 use lib.ListN.{length, take, drop}
 use lib.Dec.{leb, eqb, ltb}

@@ -2,14 +2,15 @@
 -- proofs/Measuring ties it to `writable`. Assumes nothing: these are definitions.
 use Prim.Native.Nat.{ℕ, _≤_}
 use mathlib.Core.Path.{_≡_}
-use mathlib.Core.Bool.{Bool, cond, _&&_}
+use mathlib.Core.Bool.{false, cond, _&&_}
 use mathlib.Core.List.{List}
 use lib.ListN.{length, drop, getD}
 use Rattle.meaning.specs.declared.Attributes.{Attributes}
 use Rattle.meaning.specs.declared.Item.{Item}
 use Rattle.meaning.specs.Bytes.{allZero}
+use Rattle.meaning.specs.Schema.{schema, trailer}
 use Rattle.meaning.specs.Records.{Value, written, fitsBy}
-use Rattle.meaning.specs.Values.{means, slotsTold, spareBy}
+use Rattle.meaning.specs.Values.{means, anyBeyond, slotsTold, spareBy}
 use Rattle.writer.specs.declared.Part.{Part}
 use Rattle.writer.specs.Tries.{itemsFrom}
 
@@ -33,3 +34,14 @@ toldValue is ts src ws = record {
 -- the size of the record that the words tell; 0 where there is none
 unfoldable pub measured : List Item → List Item → List ℕ → List ℕ → ℕ
 measured is ts src ws = cond (allZero (spareBy is ts ws) && fitsBy is ts (toldValue is ts src ws)) (length (written is ts (toldValue is ts src ws))) 0
+
+-- kind and misc are the words' own, and no selected list or name of that type passes the source's end
+abbrev pub Inside : List ℕ → List ℕ → Attributes → ℕ → ℕ → Type 0
+Inside src ws a kind misc =
+    (kind ≡ getD ws 0 0) × (misc ≡ getD ws 1 0) × (anyBeyond src (schema kind misc a) (slotsTold (schema kind misc a) (drop 3 ws) 0 0) ≡ false)
+
+abbrev pub sizeTold : List ℕ → List ℕ → Attributes → ℕ → ℕ → ℕ
+sizeTold src ws a kind misc = measured (schema kind misc a) (trailer kind a) src ws
+
+abbrev pub bytesTold : List ℕ → List ℕ → Attributes → ℕ → ℕ → List ℕ
+bytesTold src ws a kind misc = written (schema kind misc a) (trailer kind a) (toldValue (schema kind misc a) (trailer kind a) src ws)

@@ -1,7 +1,7 @@
 -- How words tell an item, as a table over the shapes. Not what must be believed: proofs/Laws says that it is what the definitions of `meaning`
 -- say. Assumes nothing: these are definitions.
 use Prim.Native.Nat.{ℕ, _+_}
-use mathlib.Core.Bool.{Bool, true, false, cond, _&&_}
+use mathlib.Core.Bool.{Bool, true, false, cond}
 use mathlib.Core.List.{List}
 use lib.ListN.{drop, getD}
 use Rattle.meaning.specs.declared.Item.{Item}

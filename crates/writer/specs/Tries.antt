@@ -9,8 +9,8 @@ use lib.Dec.{leb}
 use Rattle.meaning.specs.declared.Cursor.{Cursor}
 use Rattle.meaning.specs.declared.Item.{Item}
 use Rattle.meaning.specs.Items.{cursor}
-use Rattle.meaning.specs.Writing.{blank, fitShape, next}
-use Rattle.meaning.specs.Values.{Slot, held, beyond, slotsTold}
+use Rattle.meaning.specs.Writing.{blank, fitShape, next, write}
+use Rattle.meaning.specs.Values.{Slot, held, beyond, anyBeyond, means, slotsTold}
 use Rattle.table.specs.Rows.{rows, itemOf}
 use Rattle.writer.specs.declared.Part.{Part}
 use Rattle.writer.specs.declared.Told.{Told}
@@ -42,3 +42,19 @@ itemsFrom p k = map (itemOf (p .attributes) (p .misc) (p .kind)) (slice k (p .to
 
 unfoldable pub slotsFrom : List Item → Told → List ℕ → List Slot
 slotsFrom is t ws = slotsTold is (drop (t .at) ws) (t .n) (t .old)
+
+-- of a whole part: its items and their slots; 41 of any of them; the state after all; their bytes
+abbrev pub partItems : Part → List Item
+partItems p = itemsFrom p (p .from)
+
+abbrev pub partSlots : List ℕ → Part → Told → List Slot
+partSlots ws p t = slotsFrom (partItems p) t ws
+
+abbrev pub beyondPart : List ℕ → List ℕ → Part → Told → Bool
+beyondPart src ws p t = anyBeyond src (partItems p) (partSlots ws p t)
+
+abbrev pub triedPart : List ℕ → List ℕ → Part → Told → Cursor → Cursor
+triedPart src ws p t c = tryItems src (partItems p) (partSlots ws p t) c
+
+abbrev pub writtenPart : List ℕ → List ℕ → Part → Told → Cursor → List ℕ
+writtenPart src ws p t c = write (partItems p) (means src (partItems p) (partSlots ws p t)) c

@@ -1,20 +1,17 @@
 // What is known before anything is written: the parts of a type, the words that no item has, and the size of the record that
 // the words tell.
 ghost use mathlib.Core.Path.{_≡_};
-ghost use mathlib.Core.Bool.{false};
 ghost use Prim.Native.Nat.{_+_, _≤_};
-ghost use lib.ListN.{take, drop, getD};
+ghost use lib.ListN.{take, drop};
 ghost use Rattle.meaning.specs.Bytes.{allZero};
 ghost use Rattle.meaning.specs.Schema.{schema, trailer};
-ghost use Rattle.meaning.specs.Values.{anyBeyond, slotsTold, spareBy, width};
-ghost use Rattle.writer.specs.Tries.{itemsFrom};
-ghost use Rattle.writer.specs.Measures.{Lays, measured};
+ghost use Rattle.meaning.specs.Values.{spareBy, width};
+ghost use Rattle.writer.specs.Tries.{partItems};
+ghost use Rattle.writer.specs.Measures.{Lays, Inside, sizeTold};
 use crate::Part;
-use crate::Told;
 use crate::parts;
 use crate::words;
 use meaning::Attributes;
-use meaning::Cursor;
 
 pub fn body(attributes: Attributes, kind: u64, misc: u64) -> Part
     ensures { λ r. ⌜ Lays r attributes kind (schema kind misc attributes) ⌝ }
@@ -44,7 +41,7 @@ pub fn trailing(attributes: Attributes, kind: u64, misc: u64) -> Part
 // The words before the end of a part's own.
 fn words_end(p: Part, first: usize) -> usize
     requires { ⌜ (p .from ≤ p .to) × (p .to ≤ 129) × (first ≤ 48) ⌝ }
-    ensures { λ r. ⌜ r ≡ first + width (itemsFrom p (p .from)) ⌝ }
+    ensures { λ r. ⌜ r ≡ first + width (partItems p) ⌝ }
 {
     let mut end = first;
     let mut k = p.from;
@@ -74,7 +71,7 @@ fn zero_between(ws: &[u64], from: usize, to: usize) -> bool
 // Every word that no item of the type has is 0: the trailer has seven words, and one is kept free.
 fn spare_zero(ws: &[u64], p: Part) -> bool
     requires { ⌜ (p .from ≤ p .to) × (p .to ≤ 129) ⌝ }
-    ensures { λ r. ⌜ r ≡ allZero (spareBy (itemsFrom p (p .from)) (trailer (p .kind) (p .attributes)) (now (ws .entry))) ⌝ }
+    ensures { λ r. ⌜ r ≡ allZero (spareBy (partItems p) (trailer (p .kind) (p .attributes)) (now (ws .entry))) ⌝ }
 {
     zero_between(ws, words_end(p, 3), 48) & zero_between(ws, 55, 56)
 }
@@ -82,8 +79,8 @@ fn spare_zero(ws: &[u64], p: Part) -> bool
 // The size of the record that the words tell, or 0 where they tell none: "42 exactly when no record decodes to the same". A size
 // is true, a multiple of 8, and the numbers of the header fit it.
 pub fn measure(ws: &[u64], source: &[u8], attributes: Attributes, kind: u64, misc: u64) -> usize
-    requires { ⌜ (kind ≡ getD (now ws) 0 0) × (misc ≡ getD (now ws) 1 0) × (anyBeyond (now source) (schema kind misc attributes) (slotsTold (schema kind misc attributes) (drop 3 (now ws)) 0 0) ≡ false) ⌝ }
-    ensures { λ r. ⌜ r ≡ measured (schema kind misc attributes) (trailer kind attributes) (now (source .entry)) (now (ws .entry)) ⌝ }
+    requires { ⌜ Inside (now source) (now ws) attributes kind misc ⌝ }
+    ensures { λ r. ⌜ r ≡ sizeTold (now (source .entry)) (now (ws .entry)) attributes kind misc ⌝ }
 {
     let b = body(attributes, kind, misc);
     let c = parts::try_all(ws, source, b, words::from(3), parts::origin(8));

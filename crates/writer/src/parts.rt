@@ -5,9 +5,7 @@ ghost use Prim.Native.Nat.{_≤_, _<_};
 ghost use lib.ListN.{length};
 ghost use Rattle.meaning.specs.Bytes.{put};
 ghost use Rattle.meaning.specs.Records.{origin};
-ghost use Rattle.meaning.specs.Writing.{write};
-ghost use Rattle.meaning.specs.Values.{anyBeyond, means};
-ghost use Rattle.writer.specs.Tries.{itemHere, itemsFrom, slotsFrom, tryItems};
+ghost use Rattle.writer.specs.Tries.{itemHere, beyondPart, triedPart, writtenPart};
 use crate::Part;
 use crate::Told;
 use crate::forms;
@@ -38,7 +36,7 @@ pub fn item_at(p: Part, k: usize) -> Item
 // 41, of any of them.
 pub fn any_beyond(ws: &[u64], source: &[u8], p: Part, first: Told) -> bool
     requires { ⌜ (p .from ≤ p .to) × (p .to ≤ 129) × (first .at ≤ 48) ⌝ }
-    ensures { λ r. ⌜ r ≡ anyBeyond (now (source .entry)) (itemsFrom p (p .from)) (slotsFrom (itemsFrom p (p .from)) first (now (ws .entry))) ⌝ }
+    ensures { λ r. ⌜ r ≡ beyondPart (now (source .entry)) (now (ws .entry)) p first ⌝ }
 {
     let mut t = first;
     let mut k = p.from;
@@ -58,7 +56,7 @@ pub fn any_beyond(ws: &[u64], source: &[u8], p: Part, first: Told) -> bool
 // The state after all of them; or, from the first that does not fit, `unfit`.
 pub fn try_all(ws: &[u64], source: &[u8], p: Part, first: Told, start: Cursor) -> Cursor
     requires { ⌜ (p .from ≤ p .to) × (p .to ≤ 129) × (first .at ≤ 48) × (start .at ≤ 65535) × (start .why ≡ 0) ⌝ }
-    ensures { λ r. ⌜ r ≡ tryItems (now (source .entry)) (itemsFrom p (p .from)) (slotsFrom (itemsFrom p (p .from)) first (now (ws .entry))) start ⌝ }
+    ensures { λ r. ⌜ r ≡ triedPart (now (source .entry)) (now (ws .entry)) p first start ⌝ }
 {
     let mut t = first;
     let mut c = start;
@@ -80,8 +78,8 @@ pub fn try_all(ws: &[u64], source: &[u8], p: Part, first: Told, start: Cursor) -
 
 // The bytes of all of them, where all fit and the buffer has room: the loop that puts.
 pub fn put_all(ws: &[u64], source: &[u8], p: Part, first: Told, start: Cursor, buffer: &mut [u8])
-    requires { ⌜ (p .from ≤ p .to) × (p .to ≤ 129) × (first .at ≤ 48) × (start .at ≤ 65535) × (tryItems (now source) (itemsFrom p (p .from)) (slotsFrom (itemsFrom p (p .from)) first (now ws)) start .why ≡ 0) × (tryItems (now source) (itemsFrom p (p .from)) (slotsFrom (itemsFrom p (p .from)) first (now ws)) start .at ≤ length (now buffer)) ⌝ }
-    ensures { λ _. ⌜ now (buffer .exit) ≡ put (now (buffer .entry)) (start .at) (write (itemsFrom p (p .from)) (means (now (source .entry)) (itemsFrom p (p .from)) (slotsFrom (itemsFrom p (p .from)) first (now (ws .entry)))) start) ⌝ }
+    requires { ⌜ (p .from ≤ p .to) × (p .to ≤ 129) × (first .at ≤ 48) × (start .at ≤ 65535) × (triedPart (now source) (now ws) p first start .why ≡ 0) × (triedPart (now source) (now ws) p first start .at ≤ length (now buffer)) ⌝ }
+    ensures { λ _. ⌜ now (buffer .exit) ≡ put (now (buffer .entry)) (start .at) (writtenPart (now (source .entry)) (now (ws .entry)) p first start) ⌝ }
 {
     let mut t = first;
     let mut c = start;

@@ -1,14 +1,10 @@
 // The bytes of a whole record: header, fields, trailer. Nothing here is called before the size is known and there is room.
 ghost use mathlib.Core.Path.{_≡_};
-ghost use mathlib.Core.Bool.{false};
 ghost use mathlib.Core.List.{_++_};
 ghost use Prim.Native.Nat.{_≤_, _<_};
-ghost use lib.ListN.{length, drop, getD};
+ghost use lib.ListN.{length};
 ghost use Rattle.meaning.specs.Bytes.{spell, put};
-ghost use Rattle.meaning.specs.Schema.{schema, trailer};
-ghost use Rattle.meaning.specs.Records.{written};
-ghost use Rattle.meaning.specs.Values.{anyBeyond, slotsTold};
-ghost use Rattle.writer.specs.Measures.{toldValue, measured};
+ghost use Rattle.writer.specs.Measures.{Inside, sizeTold, bytesTold};
 use crate::measure;
 use crate::parts;
 use crate::words;
@@ -34,8 +30,8 @@ pub fn put_record(
     end: usize,
     buffer: &mut [u8],
 )
-    requires { ⌜ (kind ≡ getD (now ws) 0 0) × (misc ≡ getD (now ws) 1 0) × (anyBeyond (now source) (schema kind misc attributes) (slotsTold (schema kind misc attributes) (drop 3 (now ws)) 0 0) ≡ false) × (end ≡ measured (schema kind misc attributes) (trailer kind attributes) (now source) (now ws)) × (0 < end) × (end ≤ length (now buffer)) ⌝ }
-    ensures { λ _. ⌜ now (buffer .exit) ≡ put (now (buffer .entry)) 0 (written (schema kind misc attributes) (trailer kind attributes) (toldValue (schema kind misc attributes) (trailer kind attributes) (now (source .entry)) (now (ws .entry)))) ⌝ }
+    requires { ⌜ (end ≡ sizeTold (now source) (now ws) attributes kind misc) × (0 < end) × (end ≤ length (now buffer)) × Inside (now source) (now ws) attributes kind misc ⌝ }
+    ensures { λ _. ⌜ now (buffer .exit) ≡ put (now (buffer .entry)) 0 (bytesTold (now (source .entry)) (now (ws .entry)) attributes kind misc) ⌝ }
 {
     put_header(kind, misc, words::word(ws, 2), buffer);
     let b = measure::body(attributes, kind, misc);

@@ -1,3 +1,4 @@
+-- `writer::write` meets its contract. Assumes nothing.
 use denote.Ref.{now}
 use mathlib.Core.Path.{sym}
 use native.Mathlib.Omega.{arith}
@@ -6,29 +7,21 @@ use Rattle.writer.proofs.Answers.{too-few, enough}
 use borrow.Author.Needs.{needs}
 use Rattle.writer.proofs.write.Statement.{statement}
 use Rattle.writer.proofs.write.Tie as tie
-use Rattle.writer.proofs.write.Reads as reads
-use Rattle.writer.proofs.write.Lts as lts
-use Rattle.writer.proofs.write_value.Reads as write-value-reads
 
--- src/lib.rt:104:9
 returns : tie.Need-returns
 returns c =
     let a = c .before .before .before .before .args in
     too-few (a .e) (a .a) (now (a .source)) (now (a .words)) (now (a .buffer)) (c .if1 .taken)
 
--- src/lib.rt:106:17
 slice-aggregate-write-value : tie.Need-slice-aggregate-write-value
 slice-aggregate-write-value c = sym (length-take-le 56 (now (c .before .before .before .before .before .args .words)) (omega (arith, c .before .if1 .left)))
 
--- src/lib.rt:106:5
 write-value-requires : tie.Need-write-value-requires
 write-value-requires c κs = search needs
 
--- src/lib.rt:99:1
 same-length : tie.Need-same-length
 same-length c = search needs
 
--- src/lib.rt:99:1
 returns-2 : tie.Need-returns-2
 returns-2 c =
     let a = c .before .before .before .before .before .before .before .before .before .args in

@@ -1,14 +1,11 @@
+-- `writer::forms::filled_width` meets its contract. Assumes nothing.
 use borrow.Author.Tests.{eq-eqb, ne-eqb}
 use Rattle.writer.proofs.forms.filled_width.Statement.{statement}
 use Rattle.writer.proofs.forms.filled_width.Tie as tie
-use Rattle.writer.proofs.forms.filled_width.Reads as reads
-use Rattle.writer.proofs.forms.filled_width.Lts as lts
 
--- src/forms.rt:116:1
 returns : tie.Need-returns
 returns c = simp (eq-eqb _ _ (c .if1 .taken))
 
--- src/forms.rt:116:1
 returns-2 : tie.Need-returns-2
 returns-2 c = simp (ne-eqb _ _ (c .if1 .left))
 

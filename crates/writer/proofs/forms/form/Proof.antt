@@ -1,3 +1,4 @@
+-- `writer::forms::form` meets its contract. Assumes nothing.
 use mathlib.Core.Path.{ap, sym, _∙_}
 use mathlib.Core.Bool.{Bool, cond}
 use borrow.Author.Tests.{not-true, not-false}
@@ -6,27 +7,19 @@ use Rattle.writer.specs.Tellings.{slotOf}
 use borrow.Author.Needs.{needs}
 use Rattle.writer.proofs.forms.form.Statement.{statement}
 use Rattle.writer.proofs.forms.form.Tie as tie
-use Rattle.writer.proofs.forms.form.Reads as reads
-use Rattle.writer.proofs.forms.form.Lts as lts
-use Rattle.writer.proofs.forms.blank.Reads as blank-reads
-use Rattle.writer.proofs.forms.of_shape.Reads as of-shape-reads
 
--- src/forms.rt:157:9
 blank-requires : tie.Need-blank-requires
 blank-requires c κs = search needs
 
--- src/forms.rt:157:9
 returns : tie.Need-returns
 unfolding form
 returns c =
     let a = c .before .before .args in
     c .blank .ensures ∙ sym (ap (λ (b : Bool). cond b (shapeForm (a .i .shape) (a .c) (slotOf (a .s))) (blankForm (a .c) 0)) (not-true (a .i .on) (c .before .if1 .taken)))
 
--- src/forms.rt:160:5
 of-shape-requires : tie.Need-of-shape-requires
 of-shape-requires c κs = search needs
 
--- src/forms.rt:152:1
 returns-2 : tie.Need-returns-2
 unfolding form
 returns-2 c =

@@ -1,3 +1,4 @@
+-- `writer::forms::largest` meets its contract. Assumes nothing.
 use mathlib.Core.Path.{refl}
 use Rattle.meaning.specs.declared.Width.{Width}
 use Rattle.meaning.specs.Items.{bytes}
@@ -6,38 +7,28 @@ use Rattle.writer.proofs.Laws.{of-arm}
 use borrow.Author.Needs.{needs}
 use Rattle.writer.proofs.forms.largest.Statement.{statement}
 use Rattle.writer.proofs.forms.largest.Tie as tie
-use Rattle.writer.proofs.forms.largest.Reads as reads
-use Rattle.writer.proofs.forms.largest.Lts as lts
 
--- src/forms.rt:95:22
 enum-told : tie.Need-enum-told
 enum-told c = search needs
 
--- src/forms.rt:96:22
 enum-told-2 : tie.Need-enum-told-2
 enum-told-2 c = search needs
 
--- src/forms.rt:97:22
 enum-told-3 : tie.Need-enum-told-3
 enum-told-3 c = search needs
 
--- src/forms.rt:98:22
 enum-told-4 : tie.Need-enum-told-4
 enum-told-4 c = search needs
 
--- src/forms.rt:91:1
 returns : tie.Need-returns
 returns c = of-arm (λ (w : Width). top (bytes w)) (c .before .before .args .w) _ _ refl (c .enum-told .given .1)
 
--- src/forms.rt:91:1
 returns-2 : tie.Need-returns-2
 returns-2 c = of-arm (λ (w : Width). top (bytes w)) (c .before .before .args .w) _ _ refl (c .enum-told2 .given .1)
 
--- src/forms.rt:91:1
 returns-3 : tie.Need-returns-3
 returns-3 c = of-arm (λ (w : Width). top (bytes w)) (c .before .before .args .w) _ _ refl (c .enum-told3 .given .1)
 
--- src/forms.rt:91:1
 returns-4 : tie.Need-returns-4
 returns-4 c = of-arm (λ (w : Width). top (bytes w)) (c .before .before .args .w) _ _ refl (c .enum-told4 .given .1)
 

@@ -1,27 +1,20 @@
+-- `writer::forms::listed` meets its contract. Assumes nothing.
 use mathlib.Core.Path.{ap, _∙_}
 use Prim.Native.Nat.{ℕ, _-_}
 use Rattle.writer.specs.Forms.{listForm}
 use borrow.Author.Needs.{needs}
 use Rattle.writer.proofs.forms.listed.Statement.{statement}
 use Rattle.writer.proofs.forms.listed.Tie as tie
-use Rattle.writer.proofs.forms.listed.Reads as reads
-use Rattle.writer.proofs.forms.listed.Lts as lts
-use Rattle.writer.proofs.forms.list.Reads as list-reads
-use Rattle.writer.proofs.forms.smaller.Reads as smaller-reads
 
--- src/forms.rt:126:9
 smaller-requires : tie.Need-smaller-requires
 smaller-requires c κs = search needs
 
--- src/forms.rt:127:22
 sub-list : tie.Need-sub-list
 sub-list c = search needs
 
--- src/forms.rt:127:5
 list-requires : tie.Need-list-requires
 list-requires c κs = search needs
 
--- src/forms.rt:123:1
 returns : tie.Need-returns
 returns c =
     let a = c .before .before .args in

@@ -1,3 +1,4 @@
+-- `writer::forms::name` meets its contract. Assumes nothing.
 use mathlib.Core.Path.{_≡_, ap}
 use Prim.Native.Nat.{ℕ, _+_, _-_, _%_}
 use native.Mathlib.Omega.{arith}
@@ -5,18 +6,13 @@ use Rattle.writer.specs.Forms.{nameForm}
 use borrow.Author.Needs.{needs}
 use Rattle.writer.proofs.forms.name.Statement.{statement}
 use Rattle.writer.proofs.forms.name.Tie as tie
-use Rattle.writer.proofs.forms.name.Reads as reads
-use Rattle.writer.proofs.forms.name.Lts as lts
 
--- src/forms.rt:75:17
 add-over : tie.Need-add-over
 add-over c = search needs
 
--- src/forms.rt:84:14
 sub-t5 : tie.Need-sub-t5
 sub-t5 c = search needs
 
--- src/forms.rt:71:1
 returns : tie.Need-returns
 returns c =
     let a = c .args in

@@ -1,271 +1,207 @@
+-- `writer::forms::of_shape` meets its contract. Assumes nothing.
 use mathlib.Core.Bool.{false, true}
-use mathlib.Core.Path.{refl, sym, ap, ap₂, _∙_}
+use mathlib.Core.Path.{ap, ap₂, _∙_}
 use Prim.Native.Nat.{ℕ}
 use Rattle.meaning.specs.declared.Shape.{Shape}
-use Rattle.writer.specs.declared.Form.{Form}
 use Rattle.writer.specs.Forms.{numberForm, shapeForm}
 use Rattle.writer.specs.Tellings.{slotOf}
 use Rattle.writer.proofs.Laws.{of-arm}
 use borrow.Author.Needs.{needs}
 use Rattle.writer.proofs.forms.of_shape.Statement.{statement}
 use Rattle.writer.proofs.forms.of_shape.Tie as tie
-use Rattle.writer.proofs.forms.of_shape.Reads as reads
-use Rattle.writer.proofs.forms.of_shape.Lts as lts
-use Rattle.fields.proofs.width_of.Reads as width-of-reads
-use Rattle.writer.proofs.forms.blank.Reads as blank-reads
-use Rattle.writer.proofs.forms.filled_width.Reads as filled-width-reads
-use Rattle.writer.proofs.forms.largest.Reads as largest-reads
-use Rattle.writer.proofs.forms.list.Reads as list-reads
-use Rattle.writer.proofs.forms.listed.Reads as listed-reads
-use Rattle.writer.proofs.forms.name.Reads as name-reads
-use Rattle.writer.proofs.forms.number.Reads as number-reads
-use Rattle.writer.proofs.forms.registers.Reads as registers-reads
-use Rattle.writer.proofs.forms.smaller.Reads as smaller-reads
 
--- src/forms.rt:135:23
 enum-known-shape : tie.Need-enum-known-shape
 enum-known-shape c = search needs
 
--- src/forms.rt:135:36
 width-of-requires : tie.Need-width-of-requires
 width-of-requires c κs = search needs
 
--- src/forms.rt:135:57
 largest-requires : tie.Need-largest-requires
 largest-requires c κs = search needs
 
--- src/forms.rt:135:29
 number-requires : tie.Need-number-requires
 number-requires c κs = search needs
 
--- src/forms.rt:136:24
 enum-known-shape-2 : tie.Need-enum-known-shape-2
 enum-known-shape-2 c = search needs
 
--- src/forms.rt:136:30
 blank-requires : tie.Need-blank-requires
 blank-requires c κs = search needs
 
--- src/forms.rt:137:22
 enum-known-shape-3 : tie.Need-enum-known-shape-3
 enum-known-shape-3 c = search needs
 
--- src/forms.rt:137:35
 width-of-requires-2 : tie.Need-width-of-requires-2
 width-of-requires-2 c κs = search needs
 
--- src/forms.rt:137:56
 largest-requires-2 : tie.Need-largest-requires-2
 largest-requires-2 c κs = search needs
 
--- src/forms.rt:137:28
 number-requires-2 : tie.Need-number-requires-2
 number-requires-2 c κs = search needs
 
--- src/forms.rt:138:21
 enum-known-shape-4 : tie.Need-enum-known-shape-4
 enum-known-shape-4 c = search needs
 
--- src/forms.rt:138:34
 width-of-requires-3 : tie.Need-width-of-requires-3
 width-of-requires-3 c κs = search needs
 
--- src/forms.rt:138:55
 largest-requires-3 : tie.Need-largest-requires-3
 largest-requires-3 c κs = search needs
 
--- src/forms.rt:138:27
 number-requires-3 : tie.Need-number-requires-3
 number-requires-3 c κs = search needs
 
--- src/forms.rt:139:22
 enum-known-shape-5 : tie.Need-enum-known-shape-5
 enum-known-shape-5 c = search needs
 
--- src/forms.rt:139:28
 list-requires : tie.Need-list-requires
 list-requires c κs = search needs
 
--- src/forms.rt:140:24
 enum-known-shape-6 : tie.Need-enum-known-shape-6
 enum-known-shape-6 c = search needs
 
--- src/forms.rt:140:30
 list-requires-2 : tie.Need-list-requires-2
 list-requires-2 c κs = search needs
 
--- src/forms.rt:141:29
 enum-told : tie.Need-enum-told
 enum-told c = search needs
 
--- src/forms.rt:141:29
 list-requires-3 : tie.Need-list-requires-3
 list-requires-3 c κs = search needs
 
--- src/forms.rt:142:33
 enum-told-2 : tie.Need-enum-told-2
 enum-told-2 c = search needs
 
--- src/forms.rt:142:33
 filled-width-requires : tie.Need-filled-width-requires
 filled-width-requires c κs = search needs
 
--- src/forms.rt:142:26
 number-requires-4 : tie.Need-number-requires-4
 number-requires-4 c κs = search needs
 
--- src/forms.rt:143:20
 enum-known-shape-7 : tie.Need-enum-known-shape-7
 enum-known-shape-7 c = search needs
 
--- src/forms.rt:143:68
 registers-requires : tie.Need-registers-requires
 registers-requires c κs = search needs
 
--- src/forms.rt:143:29
 number-requires-5 : tie.Need-number-requires-5
 number-requires-5 c κs = search needs
 
--- src/forms.rt:144:22
 enum-known-shape-8 : tie.Need-enum-known-shape-8
 enum-known-shape-8 c = search needs
 
--- src/forms.rt:144:41
 smaller-requires : tie.Need-smaller-requires
 smaller-requires c κs = search needs
 
--- src/forms.rt:144:31
 number-requires-6 : tie.Need-number-requires-6
 number-requires-6 c κs = search needs
 
--- src/forms.rt:145:23
 enum-known-shape-9 : tie.Need-enum-known-shape-9
 enum-known-shape-9 c = search needs
 
--- src/forms.rt:145:29
 listed-requires : tie.Need-listed-requires
 listed-requires c κs = search needs
 
--- src/forms.rt:146:22
 enum-known-shape-10 : tie.Need-enum-known-shape-10
 enum-known-shape-10 c = search needs
 
--- src/forms.rt:146:28
 list-requires-4 : tie.Need-list-requires-4
 list-requires-4 c κs = search needs
 
--- src/forms.rt:147:37
 enum-told-3 : tie.Need-enum-told-3
 enum-told-3 c = search needs
 
--- src/forms.rt:147:33
 sub-blank : tie.Need-sub-blank
 sub-blank c = search needs
 
--- src/forms.rt:147:23
 blank-requires-2 : tie.Need-blank-requires-2
 blank-requires-2 c κs = search needs
 
--- src/forms.rt:148:24
 enum-told-4 : tie.Need-enum-told-4
 enum-told-4 c = search needs
 
--- src/forms.rt:148:24
 name-requires : tie.Need-name-requires
 name-requires c κs = search needs
 
--- src/forms.rt:130:1
 returns : tie.Need-returns
 unfolding shapeForm
 returns c =
     let a = c .before .before .before .before .before .before .args in
     of-arm (λ (sh : Shape). shapeForm sh (a .c) (slotOf (a .s))) (a .shape) _ _ (c .number .ensures ∙ ap₂ (λ (x y : ℕ). numberForm x y false (a .c .n) (a .c .old)) (c .before .before .width-of .ensures .0) (c .before .largest .ensures)) (c .before .before .before .before .shape .given .1)
 
--- src/forms.rt:130:1
 returns-2 : tie.Need-returns-2
 unfolding shapeForm
 returns-2 c =
     let a = c .before .before .before .before .args in
     of-arm (λ (sh : Shape). shapeForm sh (a .c) (slotOf (a .s))) (a .shape) _ _ (c .blank .ensures) (c .before .before .shape2 .given .1)
 
--- src/forms.rt:130:1
 returns-3 : tie.Need-returns-3
 unfolding shapeForm
 returns-3 c =
     let a = c .before .before .before .before .before .before .args in
     of-arm (λ (sh : Shape). shapeForm sh (a .c) (slotOf (a .s))) (a .shape) _ _ (c .number2 .ensures ∙ ap₂ (λ (x y : ℕ). numberForm x y false (a .s .number) (a .c .n)) (c .before .before .width-of2 .ensures .0) (c .before .largest2 .ensures)) (c .before .before .before .before .shape3 .given .1)
 
--- src/forms.rt:130:1
 returns-4 : tie.Need-returns-4
 unfolding shapeForm
 returns-4 c =
     let a = c .before .before .before .before .before .before .args in
     of-arm (λ (sh : Shape). shapeForm sh (a .c) (slotOf (a .s))) (a .shape) _ _ (c .number3 .ensures ∙ ap₂ (λ (x y : ℕ). numberForm x y true (a .s .number) (a .c .old)) (c .before .before .width-of3 .ensures .0) (c .before .largest3 .ensures)) (c .before .before .before .before .shape4 .given .1)
 
--- src/forms.rt:130:1
 returns-5 : tie.Need-returns-5
 unfolding shapeForm
 returns-5 c =
     let a = c .before .before .before .before .args in
     of-arm (λ (sh : Shape). shapeForm sh (a .c) (slotOf (a .s))) (a .shape) _ _ (c .list .ensures) (c .before .before .shape5 .given .1)
 
--- src/forms.rt:130:1
 returns-6 : tie.Need-returns-6
 unfolding shapeForm
 returns-6 c =
     let a = c .before .before .before .before .args in
     of-arm (λ (sh : Shape). shapeForm sh (a .c) (slotOf (a .s))) (a .shape) _ _ (c .list2 .ensures) (c .before .before .shape6 .given .1)
 
--- src/forms.rt:130:1
 returns-7 : tie.Need-returns-7
 unfolding shapeForm
 returns-7 c =
     let a = c .before .before .before .args in
     of-arm (λ (sh : Shape). shapeForm sh (a .c) (slotOf (a .s))) (a .shape) _ _ (c .list3 .ensures) (c .before .enum-told .given .1)
 
--- src/forms.rt:130:1
 returns-8 : tie.Need-returns-8
 unfolding shapeForm
 returns-8 c =
     let a = c .before .before .before .before .args in
     of-arm (λ (sh : Shape). shapeForm sh (a .c) (slotOf (a .s))) (a .shape) _ _ (c .number4 .ensures ∙ ap (λ (x : ℕ). numberForm x (a .c .n) false (a .c .n) (a .c .old)) (c .before .filled-width .ensures)) (c .before .before .enum-told2 .given .1)
 
--- src/forms.rt:130:1
 returns-9 : tie.Need-returns-9
 unfolding shapeForm
 returns-9 c =
     let a = c .before .before .before .before .before .args in
     of-arm (λ (sh : Shape). shapeForm sh (a .c) (slotOf (a .s))) (a .shape) _ _ (c .number5 .ensures ∙ ap (λ (x : ℕ). numberForm 8 18446744073709551615 false x (a .c .old)) (c .before .registers .ensures)) (c .before .before .before .shape7 .given .1)
 
--- src/forms.rt:130:1
 returns-10 : tie.Need-returns-10
 unfolding shapeForm
 returns-10 c =
     let a = c .before .before .before .before .before .args in
     of-arm (λ (sh : Shape). shapeForm sh (a .c) (slotOf (a .s))) (a .shape) _ _ (c .number6 .ensures ∙ ap (λ (x : ℕ). numberForm 1 x false (a .s .number) (a .c .old)) (c .before .smaller .ensures)) (c .before .before .before .shape8 .given .1)
 
--- src/forms.rt:130:1
 returns-11 : tie.Need-returns-11
 unfolding shapeForm
 returns-11 c =
     let a = c .before .before .before .before .args in
     of-arm (λ (sh : Shape). shapeForm sh (a .c) (slotOf (a .s))) (a .shape) _ _ (c .listed .ensures) (c .before .before .shape9 .given .1)
 
--- src/forms.rt:130:1
 returns-12 : tie.Need-returns-12
 unfolding shapeForm
 returns-12 c =
     let a = c .before .before .before .before .args in
     of-arm (λ (sh : Shape). shapeForm sh (a .c) (slotOf (a .s))) (a .shape) _ _ (c .list4 .ensures) (c .before .before .shape10 .given .1)
 
--- src/forms.rt:130:1
 returns-13 : tie.Need-returns-13
 unfolding shapeForm
 returns-13 c =
     let a = c .before .before .before .args in
     of-arm (λ (sh : Shape). shapeForm sh (a .c) (slotOf (a .s))) (a .shape) _ _ (c .blank2 .ensures) (c .before .enum-told3 .given .1)
 
--- src/forms.rt:130:1
 returns-14 : tie.Need-returns-14
 unfolding shapeForm
 returns-14 c =

@@ -1,3 +1,4 @@
+-- `writer::forms::registers` meets its contract. Assumes nothing.
 use mathlib.Core.Path.{ap, _∙_}
 use mathlib.Core.Bool.{cond}
 use Prim.Native.Nat.{ℕ}
@@ -5,20 +6,13 @@ use lib.Dec.{eqb}
 use borrow.Author.Needs.{needs}
 use Rattle.writer.proofs.forms.registers.Statement.{statement}
 use Rattle.writer.proofs.forms.registers.Tie as tie
-use Rattle.writer.proofs.forms.registers.Reads as reads
-use Rattle.writer.proofs.forms.registers.Lts as lts
-use Rattle.wire.proofs.count_ones.Reads as count-ones-reads
-use Rattle.writer.proofs.words.choose.Reads as choose-reads
 
--- src/forms.rt:112:32
 count-ones-requires : tie.Need-count-ones-requires
 count-ones-requires c κs = search needs
 
--- src/forms.rt:112:5
 choose-requires : tie.Need-choose-requires
 choose-requires c κs = search needs
 
--- src/forms.rt:109:1
 returns : tie.Need-returns
 returns c = c .choose .ensures ∙ ap (λ (x : ℕ). cond (eqb (c .before .before .args .abi) 0) 0 x) (c .before .count-ones .ensures .0)
 

@@ -1,3 +1,4 @@
+-- `writer::items::advance` meets its contract. Assumes nothing.
 use mathlib.Core.Path.{_∙_}
 use native.Mathlib.Omega.{arith}
 use Rattle.writer.specs.Tellings.{slotOf}
@@ -5,58 +6,43 @@ use Rattle.writer.proofs.Tried.{past-end, before-end}
 use borrow.Author.Needs.{needs}
 use Rattle.writer.proofs.items.advance.Statement.{statement}
 use Rattle.writer.proofs.items.advance.Tie as tie
-use Rattle.writer.proofs.items.advance.Reads as reads
-use Rattle.writer.proofs.items.advance.Lts as lts
-use Rattle.writer.proofs.items.bytes_taken.Reads as bytes-taken-reads
-use Rattle.writer.proofs.items.unfit.Reads as unfit-reads
 
--- src/items.rt:113:9
 bytes-taken-requires : tie.Need-bytes-taken-requires
 bytes-taken-requires c κs = search needs
 
--- src/items.rt:115:9
 unfit-requires : tie.Need-unfit-requires
 unfit-requires c κs = search needs
 
--- src/items.rt:115:9
 returns : tie.Need-returns
 returns c =
     let a = c .before .before .before .args in
     c .unfit .ensures ∙ past-end (a .f) (slotOf (a .s)) (a .c) (c .before .before .bytes-taken .result) (c .before .before .bytes-taken .ensures) (omega (arith, c .before .if1 .taken))
 
--- src/items.rt:118:9
 unfit-requires-2 : tie.Need-unfit-requires-2
 unfit-requires-2 c κs = search needs
 
--- src/items.rt:118:9
 returns-2 : tie.Need-returns-2
 returns-2 c =
     let a = c .before .before .before .before .before .args in
     c .unfit2 .ensures ∙ past-end (a .f) (slotOf (a .s)) (a .c) (c .before .before .before .before .bytes-taken .result) (c .before .before .before .before .bytes-taken .ensures) (omega (arith, c .before .if2 .taken))
 
--- src/items.rt:120:23
 add-end : tie.Need-add-end
 add-end c = search needs
 
--- src/items.rt:120:23
 add-end-2 : tie.Need-add-end-2
 add-end-2 c = search needs
 
--- src/items.rt:120:15
 add-end-3 : tie.Need-add-end-3
 add-end-3 c = search needs
 
--- src/items.rt:122:9
 unfit-requires-3 : tie.Need-unfit-requires-3
 unfit-requires-3 c κs = search needs
 
--- src/items.rt:122:9
 returns-3 : tie.Need-returns-3
 returns-3 c =
     let a = c .before .before .before .before .before .before .before .before .before .args in
     c .unfit3 .ensures ∙ past-end (a .f) (slotOf (a .s)) (a .c) (c .before .before .before .before .before .before .before .before .bytes-taken .result) (c .before .before .before .before .before .before .before .before .bytes-taken .ensures) (c .before .if3 .taken)
 
--- src/items.rt:109:1
 returns-4 : tie.Need-returns-4
 returns-4 c =
     let a = c .before .before .before .before .before .before .before .before .args in

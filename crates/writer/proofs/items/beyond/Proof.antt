@@ -1,3 +1,4 @@
+-- `writer::items::beyond` meets its contract. Assumes nothing.
 use denote.Ref.{now}
 use mathlib.Core.Path.{ap, sym, _∙_}
 use Rattle.meaning.specs.Items.{cursor}
@@ -8,20 +9,13 @@ use Rattle.writer.proofs.Fitting.{passes-is}
 use borrow.Author.Needs.{needs}
 use Rattle.writer.proofs.items.beyond.Statement.{statement}
 use Rattle.writer.proofs.items.beyond.Tie as tie
-use Rattle.writer.proofs.items.beyond.Reads as reads
-use Rattle.writer.proofs.items.beyond.Lts as lts
-use Rattle.writer.proofs.forms.form.Reads as form-reads
-use Rattle.writer.proofs.items.passes.Reads as passes-reads
 
--- src/items.rt:40:9
 form-requires : tie.Need-form-requires
 form-requires c κs = search needs
 
--- src/items.rt:50:5
 passes-requires : tie.Need-passes-requires
 passes-requires c κs = search needs
 
--- src/items.rt:37:1
 returns : tie.Need-returns
 returns c =
     let a = c .before .before .before .args in

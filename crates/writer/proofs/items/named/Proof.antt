@@ -1,46 +1,36 @@
+-- `writer::items::named` meets its contract. Assumes nothing.
 use denote.Ref.{now}
 use mathlib.Core.Path.{_≡_, ap, sym, _∙_}
 use mathlib.Core.Bool.{Bool, true, cond}
-use mathlib.Core.List.{List}
 use Prim.Native.Nat.{ℕ, _+_, _-_}
 use native.Mathlib.Omega.{arith}
-use lib.ListN.{length, take, drop}
+use lib.ListN.{take, drop}
 use borrow.Author.Tests.{not-true, not-false}
 use Rattle.meaning.specs.Bytes.{nonzero}
 use borrow.Author.Needs.{needs}
 use Rattle.writer.proofs.items.named.Statement.{statement}
 use Rattle.writer.proofs.items.named.Tie as tie
-use Rattle.writer.proofs.items.named.Reads as reads
-use Rattle.writer.proofs.items.named.Lts as lts
-use Rattle.writer.proofs.items.no_zero.Reads as no-zero-reads
 
--- src/items.rt:71:9
 returns : tie.Need-returns
 returns c =
     let a = c .before .before .args in
     sym (ap (λ (b : Bool). cond b (nonzero (take (a .count) (drop (a .place) (now (a .source))))) true) (not-true (a .name) (c .if1 .taken)))
 
--- src/items.rt:74:14
 add-to : tie.Need-add-to
 add-to c = omega (arith, c .before .before .pre (not-false (c .before .before .args .name) (c .if1 .left)))
 
--- src/items.rt:75:13
 sub-no-zero : tie.Need-sub-no-zero
 sub-no-zero c = search needs
 
--- src/items.rt:75:13
 part-no-zero-start : tie.Need-part-no-zero-start
 part-no-zero-start c = search needs
 
--- src/items.rt:75:13
 part-no-zero-end : tie.Need-part-no-zero-end
 part-no-zero-end c = omega (arith, c .before .before .pre (not-false (c .before .before .args .name) (c .if1 .left)))
 
--- src/items.rt:75:5
 no-zero-requires : tie.Need-no-zero-requires
 no-zero-requires c κs = search needs
 
--- src/items.rt:66:1
 returns-2 : tie.Need-returns-2
 returns-2 c =
     let a = c .before .before .before .before .args in

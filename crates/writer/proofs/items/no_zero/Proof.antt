@@ -1,6 +1,7 @@
+-- `writer::items::no_zero` meets its contract. Assumes nothing.
 use denote.Ref.{now}
-use mathlib.Core.Path.{_≡_, ap, sym, _∙_}
-use Prim.Native.Nat.{ℕ, _+_}
+use mathlib.Core.Path.{_≡_, ap, _∙_}
+use Prim.Native.Nat.{ℕ}
 use native.Mathlib.Omega.{arith}
 use lib.ListN.{length}
 use lib.Dec.{eqb}
@@ -9,15 +10,10 @@ use Rattle.writer.proofs.Tests.{no-zeros}
 use borrow.Author.Needs.{needs}
 use Rattle.writer.proofs.items.no_zero.Statement.{statement}
 use Rattle.writer.proofs.items.no_zero.Tie as tie
-use Rattle.writer.proofs.items.no_zero.Reads as reads
-use Rattle.writer.proofs.items.no_zero.Lts as lts
-use Rattle.fields.proofs.zero_from.Reads as zero-from-reads
 
--- src/items.rt:56:5
 zero-from-requires : tie.Need-zero-from-requires
 zero-from-requires c κs = search needs
 
--- src/items.rt:53:1
 returns : tie.Need-returns
 returns c =
     let xs = now (c .before .before .args .s) in

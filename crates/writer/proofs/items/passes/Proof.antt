@@ -1,3 +1,4 @@
+-- `writer::items::passes` meets its contract. Assumes nothing.
 use denote.Ref.{now}
 use native.Mathlib.Omega.{arith}
 use borrow.Author.Tests.{not-true, not-false}
@@ -5,36 +6,28 @@ use Rattle.writer.proofs.Tests.{passes-off, passes-far, passes-none, pa
 use borrow.Author.Needs.{needs}
 use Rattle.writer.proofs.items.passes.Statement.{statement}
 use Rattle.writer.proofs.items.passes.Tie as tie
-use Rattle.writer.proofs.items.passes.Reads as reads
-use Rattle.writer.proofs.items.passes.Lts as lts
 
--- src/items.rt:24:9
 returns : tie.Need-returns
 returns c =
     let a = c .before .args in
     passes-off (now (a .source)) (a .list) (a .unit) (a .place) (a .count) (not-true (a .list) (c .if1 .taken))
 
--- src/items.rt:28:9
 returns-2 : tie.Need-returns-2
 returns-2 c =
     let a = c .before .before .args in
     passes-far (now (a .source)) (a .list) (a .unit) (a .place) (a .count) (not-false (a .list) (c .before .if1 .left)) (c .if2 .taken)
 
--- src/items.rt:31:9
 returns-3 : tie.Need-returns-3
 returns-3 c =
     let a = c .before .before .before .args in
     passes-none (now (a .source)) (a .list) (a .unit) (a .place) (a .count) (not-false (a .list) (c .before .before .if1 .left)) (omega arith) (c .if3 .taken)
 
--- src/items.rt:33:6
 sub-result : tie.Need-sub-result
 sub-result c = search needs
 
--- src/items.rt:33:5
 div-result : tie.Need-div-result
 div-result c = search needs
 
--- src/items.rt:20:1
 returns-4 : tie.Need-returns-4
 returns-4 c =
     let a = c .before .before .before .args in

@@ -1,9 +1,9 @@
+-- `writer::items::put_item` meets its contract. Assumes nothing.
 use denote.Ref.{now}
-use mathlib.Core.Path.{_≡_, ap, sym, _∙_}
-use Prim.Native.Nat.{ℕ, _+_, _-_, _≤_}
+use mathlib.Core.Path.{ap, sym, _∙_}
+use Prim.Native.Nat.{_-_}
 use native.Mathlib.Omega.{arith}
-use lib.ListN.{length, take, drop}
-use Rattle.meaning.specs.Bytes.{put}
+use lib.ListN.{length, take}
 use Rattle.wire.proofs.Laws.{length-put}
 use Rattle.writer.specs.Tellings.{slotOf}
 use Rattle.writer.proofs.Tried.{inside-source, taken-on, taken-off}
@@ -11,43 +11,29 @@ use Rattle.writer.proofs.Puts.{front-length, pieces}
 use borrow.Author.Needs.{needs}
 use Rattle.writer.proofs.items.put_item.Statement.{statement}
 use Rattle.writer.proofs.items.put_item.Tie as tie
-use Rattle.writer.proofs.items.put_item.Reads as reads
-use Rattle.writer.proofs.items.put_item.Lts as lts
-use Rattle.wire.proofs.copy_at.Reads as copy-at-reads
-use Rattle.wire.proofs.le64.Reads as le64-reads
-use Rattle.wire.proofs.zero_at.Reads as zero-at-reads
-use Rattle.writer.proofs.items.bytes_taken.Reads as bytes-taken-reads
-use Rattle.writer.proofs.items.put_list.Reads as put-list-reads
 
--- src/items.rt:164:18
 le64-requires : tie.Need-le64-requires
 le64-requires c κs = search needs
 
--- src/items.rt:166:19
 array-share-prefix-number : tie.Need-array-share-prefix-number
 array-share-prefix-number c = search needs
 
--- src/items.rt:166:19
 slice-aggregate-copy-at : tie.Need-slice-aggregate-copy-at
 slice-aggregate-copy-at c =
     let a = c .before .before .before .before .args in
     front-length (a .f .width) (a .s .number) (c .before .le64 .result) (c .before .before .before .before .pre .0) (c .before .le64 .ensures)
 
--- src/items.rt:166:5
 copy-at-requires : tie.Need-copy-at-requires
 copy-at-requires c κs = search needs
 
--- src/items.rt:167:9
 bytes-taken-requires : tie.Need-bytes-taken-requires
 bytes-taken-requires c κs =
     let a = c .before .before .before .before .before .before .before .before .args in
     λ l. let h = inside-source (a .f) (now (a .source)) (slotOf (a .s)) (c .before .before .before .before .before .before .before .before .pre .1) l in omega (arith, h, c .before .before .before .before .before .before .before .before .good)
 
--- src/items.rt:168:54
 add-put-list : tie.Need-add-put-list
 add-put-list c = search needs
 
--- src/items.rt:168:5
 put-list-requires : tie.Need-put-list-requires
 put-list-requires c κs =
     let a = c .before .before .before .before .before .before .before .before .before .before .args in
@@ -58,23 +44,18 @@ put-list-requires c κs =
       omega (arith, n, c .before .before .before .before .before .before .before .before .before .before .pre .2),
     )
 
--- src/items.rt:169:27
 add-zero-at : tie.Need-add-zero-at
 add-zero-at c = search needs
 
--- src/items.rt:169:27
 add-zero-at-2 : tie.Need-add-zero-at-2
 add-zero-at-2 c = search needs
 
--- src/items.rt:169:5
 zero-at-requires : tie.Need-zero-at-requires
 zero-at-requires c κs = search needs
 
--- src/items.rt:160:1
 same-length : tie.Need-same-length
 same-length c = search needs
 
--- src/items.rt:160:1
 returns : tie.Need-returns
 returns c =
     let a = c .before .before .before .before .before .before .before .before .before .before .before .before .before .before .before .before .before .args in

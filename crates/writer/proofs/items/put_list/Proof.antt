@@ -1,3 +1,4 @@
+-- `writer::items::put_list` meets its contract. Assumes nothing.
 use denote.Ref.{now}
 use mathlib.Core.Path.{_≡_, ap, sym, _∙_}
 use Prim.Native.Nat.{ℕ, _+_, _-_}
@@ -9,41 +10,30 @@ use Rattle.wire.proofs.Laws.{put-nil}
 use borrow.Author.Needs.{needs}
 use Rattle.writer.proofs.items.put_list.Statement.{statement}
 use Rattle.writer.proofs.items.put_list.Tie as tie
-use Rattle.writer.proofs.items.put_list.Reads as reads
-use Rattle.writer.proofs.items.put_list.Lts as lts
-use Rattle.wire.proofs.copy_at.Reads as copy-at-reads
 
--- src/items.rt:152:9
 returns : tie.Need-returns
 returns c =
     let a = c .before .before .before .args in
     sym (ap (λ (k : ℕ). put (now (a .buffer)) (a .at) (take k (drop (a .place) (now (a .source))))) (c .before .before .before .pre .1 (not-true (a .list) (c .if1 .taken))) ∙ put-nil (now (a .buffer)) (a .at) (c .before .before .before .pre .2))
 
--- src/items.rt:155:14
 add-to : tie.Need-add-to
 add-to c = omega (arith, c .before .before .before .pre .0 (not-false (c .before .before .before .args .list) (c .if1 .left)))
 
--- src/items.rt:156:19
 sub-copy-at : tie.Need-sub-copy-at
 sub-copy-at c = search needs
 
--- src/items.rt:156:19
 part-copy-at-start : tie.Need-part-copy-at-start
 part-copy-at-start c = search needs
 
--- src/items.rt:156:19
 part-copy-at-end : tie.Need-part-copy-at-end
 part-copy-at-end c = omega (arith, c .before .before .before .pre .0 (not-false (c .before .before .before .args .list) (c .if1 .left)))
 
--- src/items.rt:156:5
 copy-at-requires : tie.Need-copy-at-requires
 copy-at-requires c κs = search needs
 
--- src/items.rt:147:1
 same-length : tie.Need-same-length
 same-length c = search needs
 
--- src/items.rt:147:1
 returns-2 : tie.Need-returns-2
 returns-2 c =
     let a = c .before .before .before .before .before .before .before .before .args in

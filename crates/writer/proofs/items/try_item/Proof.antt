@@ -1,11 +1,10 @@
+-- `writer::items::try_item` meets its contract. Assumes nothing.
 use denote.Ref.{now}
-use mathlib.Core.Path.{_≡_, ap, sym, _∙_}
-use mathlib.Core.Bool.{Bool, true, false, cond}
-use Prim.Native.Nat.{ℕ, _^_, _<_, _≤_}
+use mathlib.Core.Path.{ap, sym, _∙_}
+use mathlib.Core.Bool.{cond}
 use native.Mathlib.Omega.{arith}
 use lib.Dec.{leb}
 use borrow.Author.Tests.{not-true, not-false}
-use Rattle.meaning.specs.Values.{beyond}
 use Rattle.writer.specs.declared.Form.{Form}
 use Rattle.writer.specs.Forms.{form, fitsForm, formNext}
 use Rattle.writer.specs.Tellings.{slotOf}
@@ -14,44 +13,30 @@ use Rattle.writer.proofs.Tried.{small-of, try-beyond, try-misfit, try-f
 use borrow.Author.Needs.{needs}
 use Rattle.writer.proofs.items.try_item.Statement.{statement}
 use Rattle.writer.proofs.items.try_item.Tie as tie
-use Rattle.writer.proofs.items.try_item.Reads as reads
-use Rattle.writer.proofs.items.try_item.Lts as lts
-use Rattle.writer.proofs.forms.form.Reads as form-reads
-use Rattle.writer.proofs.items.advance.Reads as advance-reads
-use Rattle.writer.proofs.items.fits.Reads as fits-reads
-use Rattle.writer.proofs.items.passes.Reads as passes-reads
-use Rattle.writer.proofs.items.unfit.Reads as unfit-reads
 
--- src/items.rt:136:9
 form-requires : tie.Need-form-requires
 form-requires c κs = search needs
 
--- src/items.rt:137:8
 passes-requires : tie.Need-passes-requires
 passes-requires c κs = search needs
 
--- src/items.rt:138:9
 unfit-requires : tie.Need-unfit-requires
 unfit-requires c κs = search needs
 
--- src/items.rt:138:9
 returns : tie.Need-returns
 returns c =
     let a = c .before .before .before .before .before .args in
     c .unfit .ensures ∙ try-beyond (now (a .source)) (a .i) (slotOf (a .s)) (a .c)
     (beyond-by (a .i) (a .c) (slotOf (a .s)) (now (a .source)) (c .before .before .before .form .result) (c .before .before .before .form .ensures) (c .before .before .passes .result) (c .before .before .passes .ensures) ∙ c .before .if1 .taken)
 
--- src/items.rt:140:9
 fits-requires : tie.Need-fits-requires
 fits-requires c κs =
     let a = c .before .before .before .before .args in
     name-by (a .i) (a .c) (slotOf (a .s)) (now (a .source)) (c .before .before .form .result) (c .before .before .form .ensures) (c .before .passes .result) (c .before .passes .ensures) (c .if1 .left)
 
--- src/items.rt:141:9
 unfit-requires-2 : tie.Need-unfit-requires-2
 unfit-requires-2 c κs = search needs
 
--- src/items.rt:141:9
 returns-2 : tie.Need-returns-2
 returns-2 c =
     let a = c .before .before .before .before .before .before .before .args in
@@ -59,14 +44,12 @@ returns-2 c =
     (beyond-by (a .i) (a .c) (slotOf (a .s)) (now (a .source)) (c .before .before .before .before .before .form .result) (c .before .before .before .before .before .form .ensures) (c .before .before .before .before .passes .result) (c .before .before .before .before .passes .ensures) ∙ c .before .before .before .if1 .left)
     (ap (λ (f : Form). fitsForm f (now (a .source)) (slotOf (a .s))) (sym (c .before .before .before .before .before .form .ensures)) ∙ sym (c .before .before .fits2 .ensures) ∙ not-true (c .before .before .fits2 .result) (c .before .if2 .taken))
 
--- src/items.rt:143:5
 advance-requires : tie.Need-advance-requires
 advance-requires c κs =
     let a = c .before .before .before .before .before .before .args in
     let q = inside-by (a .i) (a .c) (slotOf (a .s)) (now (a .source)) (c .before .before .before .before .form .result) (c .before .before .before .before .form .ensures) (c .before .before .before .passes .result) (c .before .before .before .passes .ensures) (c .before .before .if1 .left) in
     (c .before .before .before .before .before .before .pre, width-by (a .i) (a .c) (slotOf (a .s)) (now (a .source)) (c .before .before .before .before .form .result) (c .before .before .before .before .form .ensures), λ l. let h = q l in omega (arith, h, c .before .before .before .before .before .before .good))
 
--- src/items.rt:132:1
 returns-3 : tie.Need-returns-3
 returns-3 c =
     let a = c .before .before .before .before .before .before .before .args in

@@ -1,6 +1,7 @@
+-- `writer::measure::measure` meets its contract. Assumes nothing.
 use denote.Ref.{now}
-use mathlib.Core.Path.{_≡_, refl, sym, ap, _∙_, subst}
-use Prim.Native.Nat.{ℕ, _≤_}
+use mathlib.Core.Path.{_≡_, sym, ap, _∙_, subst}
+use Prim.Native.Nat.{_≤_}
 use native.Mathlib.Omega.{arith}
 use Rattle.meaning.specs.declared.Cursor.{Cursor}
 use Rattle.meaning.specs.Schema.{schema, trailer}
@@ -12,15 +13,6 @@ use Rattle.writer.proofs.Measuring.{tried-lays, tried-most, spare-lays,
 use borrow.Author.Needs.{needs}
 use Rattle.writer.proofs.measure.measure.Statement.{statement}
 use Rattle.writer.proofs.measure.measure.Tie as tie
-use Rattle.writer.proofs.measure.measure.Reads as reads
-use Rattle.writer.proofs.measure.measure.Lts as lts
-use Rattle.writer.proofs.measure.body.Reads as body-reads
-use Rattle.writer.proofs.measure.spare_zero.Reads as spare-zero-reads
-use Rattle.writer.proofs.measure.trailing.Reads as trailing-reads
-use Rattle.writer.proofs.parts.origin.Reads as origin-reads
-use Rattle.writer.proofs.parts.try_all.Reads as try-all-reads
-use Rattle.writer.proofs.words.from.Reads as from-reads
-use Rattle.writer.proofs.words.word.Reads as word-reads
 
 -- the loop over the fields, and over the trailer
 first-is : (c : tie.After-try-all)
@@ -46,19 +38,15 @@ second-is c =
     tried-lays (now (a .source)) (now (a .ws)) (c .before .before .before .trailing .result) (a .attributes) (a .kind) (trailer (a .kind) (a .attributes)) (c .before .before .from2 .result) (from 48) (c .before .origin2 .result) (origin (c .before .before .before .before .before .try-all .result .at))
     (c .try-all2 .result) (c .before .before .before .trailing .ensures) (c .before .before .from2 .ensures) (c .before .origin2 .ensures) (c .try-all2 .ensures)
 
--- src/measure.rt:88:9
 body-requires : tie.Need-body-requires
 body-requires c κs = search needs
 
--- src/measure.rt:89:43
 from-requires : tie.Need-from-requires
 from-requires c κs = search needs
 
--- src/measure.rt:89:59
 origin-requires : tie.Need-origin-requires
 origin-requires c κs = search needs
 
--- src/measure.rt:89:9
 try-all-requires : tie.Need-try-all-requires
 try-all-requires c κs =
     let b = c .before .before .body .ensures in
@@ -66,26 +54,21 @@ try-all-requires c κs =
     let o = ap (λ (x : Cursor). x .at) (c .origin .ensures) in
     (b .ordered, b .within, omega (arith, t), omega (arith, o), ap (λ (x : Cursor). x .why) (c .origin .ensures))
 
--- src/measure.rt:92:9
 returns : tie.Need-returns
 returns c =
     let a = c .before .before .before .before .before .before .before .args in
     bad-body (schema (a .kind) (a .misc) (a .attributes)) (trailer (a .kind) (a .attributes)) (now (a .source)) (now (a .ws)) (trailer-plain (a .kind) (a .attributes)) (c .before .before .before .before .before .before .before .pre .2)
     (c .before .try-all .result) (first-is (c .before)) (c .if1 .taken)
 
--- src/measure.rt:94:9
 trailing-requires : tie.Need-trailing-requires
 trailing-requires c κs = search needs
 
--- src/measure.rt:95:43
 from-requires-2 : tie.Need-from-requires-2
 from-requires-2 c κs = search needs
 
--- src/measure.rt:95:60
 origin-requires-2 : tie.Need-origin-requires-2
 origin-requires-2 c κs = search needs
 
--- src/measure.rt:95:9
 try-all-requires-2 : tie.Need-try-all-requires-2
 try-all-requires-2 c κs =
     let b = c .before .before .trailing .ensures in
@@ -93,22 +76,18 @@ try-all-requires-2 c κs =
     let o = ap (λ (x : Cursor). x .at) (c .origin2 .ensures) in
     (b .ordered, b .within, omega (arith, t), omega (arith, o, first-most (c .before .before .before .before) (c .before .before .before .if1 .left)), ap (λ (x : Cursor). x .why) (c .origin2 .ensures))
 
--- src/measure.rt:98:9
 returns-2 : tie.Need-returns-2
 returns-2 c =
     let a = c .before .before .before .before .before .before .before .before .before .before .before .before .args in
     bad-tail (schema (a .kind) (a .misc) (a .attributes)) (trailer (a .kind) (a .attributes)) (now (a .source)) (now (a .ws)) (trailer-plain (a .kind) (a .attributes)) (c .before .before .before .before .before .before .before .before .before .before .before .before .pre .2)
     (c .before .before .before .before .before .before .try-all .result) (first-is (c .before .before .before .before .before .before)) (c .before .before .before .before .before .if1 .left) (c .before .try-all2 .result) (second-is (c .before)) (c .if2 .taken)
 
--- src/measure.rt:101:9
 word-requires : tie.Need-word-requires
 word-requires c κs = search needs
 
--- src/measure.rt:104:27
 spare-zero-requires : tie.Need-spare-zero-requires
 spare-zero-requires c κs = let b = c .before .before .before .before .before .before .before .before .before .before .body .ensures in (b .ordered, b .within)
 
--- src/measure.rt:84:1
 returns-3 : tie.Need-returns-3
 returns-3 c =
     let a = c .before .before .before .before .before .before .before .before .before .before .before .before .before .before .before .args in
@@ -118,7 +97,6 @@ returns-3 c =
     (a .kind) (a .misc) (c .before .before .word .result) (c .before .spare-zero .result) (c .before .before .before .before .before .before .before .before .before .before .before .before .before .before .before .pre .0) (c .before .before .before .before .before .before .before .before .before .before .before .before .before .before .before .pre .1) (c .before .before .word .ensures)
     (spare-lays (now (a .ws)) (c .before .before .before .before .before .before .before .before .before .before .before .before .body .result) (a .attributes) (a .kind) is (c .before .spare-zero .result) (c .before .before .before .before .before .before .before .before .before .before .before .before .body .ensures) (c .before .spare-zero .ensures)) (c .if3 .taken)
 
--- src/measure.rt:84:1
 returns-4 : tie.Need-returns-4
 returns-4 c =
     let a = c .before .before .before .before .before .before .before .before .before .before .before .before .before .before .before .args in

@@ -1,27 +1,20 @@
+-- `writer::measure::spare_zero` meets its contract. Assumes nothing.
 use denote.Ref.{now}
 use Rattle.writer.specs.Tries.{itemsFrom}
 use Rattle.writer.proofs.Spare.{spare-is}
 use borrow.Author.Needs.{needs}
 use Rattle.writer.proofs.measure.spare_zero.Statement.{statement}
 use Rattle.writer.proofs.measure.spare_zero.Tie as tie
-use Rattle.writer.proofs.measure.spare_zero.Reads as reads
-use Rattle.writer.proofs.measure.spare_zero.Lts as lts
-use Rattle.writer.proofs.measure.words_end.Reads as words-end-reads
-use Rattle.writer.proofs.measure.zero_between.Reads as zero-between-reads
 
--- src/measure.rt:79:22
 words-end-requires : tie.Need-words-end-requires
 words-end-requires c κs = search needs
 
--- src/measure.rt:79:5
 zero-between-requires : tie.Need-zero-between-requires
 zero-between-requires c κs = search needs
 
--- src/measure.rt:79:45
 zero-between-requires-2 : tie.Need-zero-between-requires-2
 zero-between-requires-2 c κs = search needs
 
--- src/measure.rt:75:1
 returns : tie.Need-returns
 returns c =
     let a = c .before .before .before .before .args in

@@ -1,10 +1,8 @@
+-- `writer::measure::trailing` meets its contract. Assumes nothing.
 use Rattle.writer.proofs.Spare.{trail-lays}
 use Rattle.writer.proofs.measure.trailing.Statement.{statement}
 use Rattle.writer.proofs.measure.trailing.Tie as tie
-use Rattle.writer.proofs.measure.trailing.Reads as reads
-use Rattle.writer.proofs.measure.trailing.Lts as lts
 
--- src/measure.rt:32:1
 returns : tie.Need-returns
 returns c =
     let a = c .args in

@@ -1,3 +1,4 @@
+-- `writer::measure::words_end` meets its contract. Assumes nothing.
 use mathlib.Core.Path.{refl}
 use Prim.Native.Nat.{_-_}
 use native.Mathlib.Omega.{arith}
@@ -5,10 +6,6 @@ use borrow.Author.Needs.{needs}
 use Rattle.writer.proofs.Spare.{Summing, sum-on, sum-end}
 use Rattle.writer.proofs.measure.words_end.Statement.{statement}
 use Rattle.writer.proofs.measure.words_end.Tie as tie
-use Rattle.writer.proofs.measure.words_end.Reads as reads
-use Rattle.writer.proofs.measure.words_end.Lts as lts
-use Rattle.fields.proofs.words_of.Reads as words-of-reads
-use Rattle.writer.proofs.parts.item_at.Reads as item-at-reads
 
 abbrev Inv-loop : tie.InvT-loop
 Inv-loop p first end₀ k₀ to end k = Summing p first k end
@@ -16,38 +13,30 @@ Inv-loop p first end₀ k₀ to end k = Summing p first k end
 abbrev μ-loop : tie.MeasureT-loop
 μ-loop p first end₀ k₀ to end k = to - k
 
--- src/measure.rt:52:5
 loop-holds : tie.Need-loop-holds Inv-loop μ-loop
 loop-holds c = record { same = refl; rows = c .pre .0; few = omega (arith, c .pre .2) }
 
--- src/measure.rt:53:13
 item-at-requires : tie.Need-item-at-requires Inv-loop μ-loop
 item-at-requires c κs = omega (arith, c .loop-test .taken, c .before .before .pre .1)
 
--- src/measure.rt:55:16
 words-of-requires : tie.Need-words-of-requires Inv-loop μ-loop
 words-of-requires c κs = search needs
 
--- src/measure.rt:55:9
 add-end : tie.Need-add-end Inv-loop μ-loop
 add-end c = omega (arith, c .before .before .before .loop .inv .few, c .words-of .ensures .1, c .before .before .loop-test .taken, c .before .before .before .before .pre .1)
 
--- src/measure.rt:56:9
 add-k : tie.Need-add-k Inv-loop μ-loop
 add-k c = omega (arith, c .before .before .loop-test .taken, c .before .before .before .before .pre .1)
 
--- src/measure.rt:52:5
 loop-less : tie.Need-loop-less Inv-loop μ-loop
 loop-less c = omega (arith, c .before .before .loop-test .taken)
 
--- src/measure.rt:52:5
 loop-again : tie.Need-loop-again Inv-loop μ-loop
 loop-again c =
     let a = c .before .before .before .before .args in
     let l = c .before .before .before .loop in
     sum-on (a .p) (a .first) (l .k) (l .end) (l .inv) (c .before .item-at .result) (c .words-of .result) (c .before .item-at .ensures) (c .words-of .ensures .0) (c .words-of .ensures .1) (c .before .before .loop-test .taken) (c .before .before .before .before .pre .1)
 
--- src/measure.rt:45:1
 returns : tie.Need-returns Inv-loop μ-loop
 returns c =
     let a = c .before .before .args in

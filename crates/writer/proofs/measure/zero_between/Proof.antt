@@ -1,3 +1,4 @@
+-- `writer::measure::zero_between` meets its contract. Assumes nothing.
 use denote.Ref.{now}
 use mathlib.Core.Path.{_≡_, refl}
 use Prim.Native.Nat.{_-_}
@@ -6,9 +7,6 @@ use borrow.Author.Needs.{needs}
 use Rattle.writer.proofs.Spare.{zeroLeft, zero-stop, zero-on, zero-end}
 use Rattle.writer.proofs.measure.zero_between.Statement.{statement}
 use Rattle.writer.proofs.measure.zero_between.Tie as tie
-use Rattle.writer.proofs.measure.zero_between.Reads as reads
-use Rattle.writer.proofs.measure.zero_between.Lts as lts
-use Rattle.writer.proofs.words.word.Reads as word-reads
 
 abbrev Inv-loop : tie.InvT-loop
 Inv-loop ws from to k₀ k = zeroLeft ws to k ≡ zeroLeft ws to from
@@ -16,35 +14,28 @@ Inv-loop ws from to k₀ k = zeroLeft ws to k ≡ zeroLeft ws to from
 abbrev μ-loop : tie.MeasureT-loop
 μ-loop ws from to k₀ k = to - k
 
--- src/measure.rt:65:5
 loop-holds : tie.Need-loop-holds Inv-loop μ-loop
 loop-holds c = refl
 
--- src/measure.rt:66:12
 word-requires : tie.Need-word-requires Inv-loop μ-loop
 word-requires c κs = search needs
 
--- src/measure.rt:67:13
 returns : tie.Need-returns Inv-loop μ-loop
 returns c =
     let a = c .before .before .before .before .before .args in
     zero-stop (now (a .ws)) (a .from) (a .to) (c .before .before .before .loop .k) (c .before .word .result) (c .before .before .before .loop .inv) (c .before .before .loop-test .taken) (c .before .word .ensures) (c .if1 .taken)
 
--- src/measure.rt:69:9
 add-k : tie.Need-add-k Inv-loop μ-loop
 add-k c = omega (arith, c .before .before .loop-test .taken, c .before .before .before .before .before .fits)
 
--- src/measure.rt:65:5
 loop-less : tie.Need-loop-less Inv-loop μ-loop
 loop-less c = omega (arith, c .before .before .loop-test .taken)
 
--- src/measure.rt:65:5
 loop-again : tie.Need-loop-again Inv-loop μ-loop
 loop-again c =
     let a = c .before .before .before .before .before .args in
     zero-on (now (a .ws)) (a .from) (a .to) (c .before .before .before .loop .k) (c .before .word .result) (c .before .before .before .loop .inv) (c .before .before .loop-test .taken) (c .before .word .ensures) (c .if1 .left)
 
--- src/measure.rt:61:1
 returns-2 : tie.Need-returns-2 Inv-loop μ-loop
 returns-2 c =
     let a = c .before .before .before .args in

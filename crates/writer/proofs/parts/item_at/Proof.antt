@@ -1,3 +1,4 @@
+-- `writer::parts::item_at` meets its contract. Assumes nothing.
 use mathlib.Core.Path.{ap, _∙_}
 use Prim.Native.Nat.{ℕ}
 use Rattle.writer.specs.Tries.{itemHere}
@@ -5,20 +6,13 @@ use Rattle.table.specs.Rows.{itemOf}
 use borrow.Author.Needs.{needs}
 use Rattle.writer.proofs.parts.item_at.Statement.{statement}
 use Rattle.writer.proofs.parts.item_at.Tie as tie
-use Rattle.writer.proofs.parts.item_at.Reads as reads
-use Rattle.writer.proofs.parts.item_at.Lts as lts
-use Rattle.table.proofs.item_of.Reads as item-of-reads
-use Rattle.table.proofs.row_at.Reads as row-at-reads
 
--- src/parts.rt:23:39
 row-at-requires : tie.Need-row-at-requires
 row-at-requires c κs = search needs
 
--- src/parts.rt:23:5
 item-of-requires : tie.Need-item-of-requires
 item-of-requires c κs = search needs
 
--- src/parts.rt:18:1
 returns : tie.Need-returns
 unfolding itemHere
 returns c =

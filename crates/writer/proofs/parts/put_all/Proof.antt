@@ -1,6 +1,7 @@
+-- `writer::parts::put_all` meets its contract. Assumes nothing.
 use denote.Ref.{now}
-use mathlib.Core.Path.{refl, ap, _∙_}
-use Prim.Native.Nat.{ℕ, _-_, _≤_}
+use mathlib.Core.Path.{refl}
+use Prim.Native.Nat.{_-_}
 use native.Mathlib.Omega.{arith}
 use Rattle.writer.specs.Tellings.{slotOf}
 use Rattle.writer.proofs.Tried.{small-of, inside-source}
@@ -8,14 +9,6 @@ use Rattle.writer.proofs.Putting.{Putting, Ready, ready, put-on, put-en
 use borrow.Author.Needs.{needs}
 use Rattle.writer.proofs.parts.put_all.Statement.{statement}
 use Rattle.writer.proofs.parts.put_all.Tie as tie
-use Rattle.writer.proofs.parts.put_all.Reads as reads
-use Rattle.writer.proofs.parts.put_all.Lts as lts
-use Rattle.writer.proofs.forms.form.Reads as form-reads
-use Rattle.writer.proofs.items.advance.Reads as advance-reads
-use Rattle.writer.proofs.items.put_item.Reads as put-item-reads
-use Rattle.writer.proofs.parts.item_at.Reads as item-at-reads
-use Rattle.writer.proofs.words.after.Reads as after-reads
-use Rattle.writer.proofs.words.given.Reads as given-reads
 
 abbrev Inv-loop : tie.InvT-loop
 Inv-loop ws source p buffer₀ t₀ c₀ k₀ to buffer t c k = Putting source ws p t₀ c₀ buffer₀ k t c buffer
@@ -33,48 +26,38 @@ ready-here c = let a = c .before .before .before .before .before .before .before
     (c .before .before .item-at .result) (slotOf (c .before .given .result)) (c .form .result) (c .before .before .item-at .ensures) (c .before .given .ensures) (c .form .ensures) (c .before .before .before .loop-test .taken) (c .before .before .before .before .before .before .before .before .pre .1)
     (small-of (now (a .source)) (c .before .before .before .before .before .before .shared-slice-known2 .given)) (omega (arith, c .before .given .ok))
 
--- src/parts.rt:78:5
 loop-holds : tie.Need-loop-holds Inv-loop μ-loop
 loop-holds c =
     let p = c .before .before .before .pre in
     record { same = refl; fine = p .4; room = p .5; long = refl; within = record { rows = p .0; words = omega (arith, p .2) }; place = p .3 }
 
--- src/parts.rt:79:13
 item-at-requires : tie.Need-item-at-requires Inv-loop μ-loop
 item-at-requires c κs = omega (arith, c .loop-test .taken, c .before .before .before .before .before .pre .1)
 
--- src/parts.rt:80:13
 given-requires : tie.Need-given-requires Inv-loop μ-loop
 given-requires c κs = omega (arith, c .before .before .loop .inv .within .words, c .before .loop-test .taken, c .before .before .before .before .before .before .pre .1)
 
--- src/parts.rt:81:13
 form-requires : tie.Need-form-requires Inv-loop μ-loop
 form-requires c κs = search needs
 
--- src/parts.rt:83:9
 put-item-requires : tie.Need-put-item-requires Inv-loop μ-loop
 put-item-requires c κs = let r = ready-here (c .before) in (r .width, r .inside, r .room)
 
--- src/parts.rt:84:9
 advance-requires : tie.Need-advance-requires Inv-loop μ-loop
 advance-requires c κs =
     let r = ready-here (c .before .before .before .before) in
     let a = c .before .before .before .before .before .before .before .before .before .before .before .before .args in
     (c .before .before .before .before .before .before .before .before .loop .inv .place, r .width, λ l. let h = inside-source (c .before .before .before .before .form .result) (now (a .source)) (slotOf (c .before .before .before .before .before .given .result)) (r .inside) l in omega (arith, h, c .before .before .before .before .before .before .before .before .before .before .before .before .good))
 
--- src/parts.rt:85:9
 after-requires : tie.Need-after-requires Inv-loop μ-loop
 after-requires c κs = omega (arith, c .before .before .before .before .before .before .before .before .before .loop .inv .within .words, c .before .before .before .before .before .before .before .before .loop-test .taken, c .before .before .before .before .before .before .before .before .before .before .before .before .before .pre .1)
 
--- src/parts.rt:86:9
 add-k : tie.Need-add-k Inv-loop μ-loop
 add-k c = omega (arith, c .before .before .before .before .before .before .before .before .before .loop-test .taken, c .before .before .before .before .before .before .before .before .before .before .before .before .before .before .pre .1)
 
--- src/parts.rt:78:5
 loop-less : tie.Need-loop-less Inv-loop μ-loop
 loop-less c = omega (arith, c .before .before .before .before .before .before .before .before .before .loop-test .taken)
 
--- src/parts.rt:78:5
 loop-again : tie.Need-loop-again Inv-loop μ-loop
 loop-again c =
     let a = c .before .before .before .before .before .before .before .before .before .before .before .before .before .before .args in
@@ -84,11 +67,9 @@ loop-again c =
     (small-of (now (a .source)) (c .before .before .before .before .before .before .before .before .before .before .before .before .shared-slice-known2 .given)) (omega (arith, c .before .before .before .before .before .before .before .given .ok)) _ (c .before .advance .result) (c .after .result)
     (c .before .before .before .before .put-item .ensures) (c .before .advance .ensures) (c .after .ensures)
 
--- src/parts.rt:70:1
 same-length : tie.Need-same-length Inv-loop μ-loop
 same-length c = c .before .loop .inv .long
 
--- src/parts.rt:70:1
 returns : tie.Need-returns Inv-loop μ-loop
 returns c =
     let a = c .before .before .before .before .before .args in

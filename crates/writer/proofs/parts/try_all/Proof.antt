@@ -1,17 +1,12 @@
+-- `writer::parts::try_all` meets its contract. Assumes nothing.
 use denote.Ref.{now}
-use mathlib.Core.Path.{refl, ap, _∙_}
-use Prim.Native.Nat.{ℕ, _-_, _≤_}
+use mathlib.Core.Path.{refl}
+use Prim.Native.Nat.{_-_}
 use native.Mathlib.Omega.{arith}
 use Rattle.writer.specs.Tellings.{slotOf}
 use Rattle.writer.proofs.Turns.{Trying, try-stop, try-on, try-end}
 use Rattle.writer.proofs.parts.try_all.Statement.{statement}
 use Rattle.writer.proofs.parts.try_all.Tie as tie
-use Rattle.writer.proofs.parts.try_all.Reads as reads
-use Rattle.writer.proofs.parts.try_all.Lts as lts
-use Rattle.writer.proofs.items.try_item.Reads as try-item-reads
-use Rattle.writer.proofs.parts.item_at.Reads as item-at-reads
-use Rattle.writer.proofs.words.after.Reads as after-reads
-use Rattle.writer.proofs.words.given.Reads as given-reads
 
 abbrev Inv-loop : tie.InvT-loop
 Inv-loop ws source p t₀ c₀ k₀ to t c k = Trying source ws p t₀ c₀ k t c
@@ -19,23 +14,18 @@ Inv-loop ws source p t₀ c₀ k₀ to t c k = Trying source ws p t₀ c₀ k t 
 abbrev μ-loop : tie.MeasureT-loop
 μ-loop ws source p t₀ c₀ k₀ to t c k = to - k
 
--- src/parts.rt:55:5
 loop-holds : tie.Need-loop-holds Inv-loop μ-loop
 loop-holds c = record { same = refl; within = record { rows = c .before .before .pre .0; words = omega (arith, c .before .before .pre .2) }; place = c .before .before .pre .3; fine = c .before .before .pre .4 }
 
--- src/parts.rt:56:13
 item-at-requires : tie.Need-item-at-requires Inv-loop μ-loop
 item-at-requires c κs = omega (arith, c .loop-test .taken, c .before .before .before .before .pre .1)
 
--- src/parts.rt:57:13
 given-requires : tie.Need-given-requires Inv-loop μ-loop
 given-requires c κs = omega (arith, c .before .before .loop .inv .within .words, c .before .loop-test .taken, c .before .before .before .before .before .pre .1)
 
--- src/parts.rt:58:9
 try-item-requires : tie.Need-try-item-requires Inv-loop μ-loop
 try-item-requires c κs = c .before .before .before .loop .inv .place
 
--- src/parts.rt:61:13
 returns : tie.Need-returns Inv-loop μ-loop
 returns c =
     let a = c .before .before .before .before .before .before .before .before .args in
@@ -43,19 +33,15 @@ returns c =
     try-stop (now (a .source)) (now (a .ws)) (a .p) (a .first) (a .start) (l .k) (l .t) (l .c) (l .inv) (c .before .before .before .item-at .result) (slotOf (c .before .before .given .result)) (c .before .try-item .result)
     (c .before .before .before .item-at .ensures) (c .before .before .given .ensures) (c .before .try-item .ensures) (c .before .before .before .before .loop-test .taken) (c .before .before .before .before .before .before .before .before .pre .1) (c .if1 .taken)
 
--- src/parts.rt:63:9
 after-requires : tie.Need-after-requires Inv-loop μ-loop
 after-requires c κs = omega (arith, c .before .before .before .before .before .loop .inv .within .words, c .before .before .before .before .loop-test .taken, c .before .before .before .before .before .before .before .before .pre .1)
 
--- src/parts.rt:64:9
 add-k : tie.Need-add-k Inv-loop μ-loop
 add-k c = omega (arith, c .before .before .before .before .before .loop-test .taken, c .before .before .before .before .before .before .before .before .before .pre .1)
 
--- src/parts.rt:55:5
 loop-less : tie.Need-loop-less Inv-loop μ-loop
 loop-less c = omega (arith, c .before .before .before .before .before .loop-test .taken)
 
--- src/parts.rt:55:5
 loop-again : tie.Need-loop-again Inv-loop μ-loop
 loop-again c =
     let a = c .before .before .before .before .before .before .before .before .before .args in
@@ -63,7 +49,6 @@ loop-again c =
     try-on (now (a .source)) (now (a .ws)) (a .p) (a .first) (a .start) (l .k) (l .t) (l .c) (l .inv) (c .before .before .before .before .item-at .result) (slotOf (c .before .before .before .given .result)) (c .before .before .try-item .result)
     (c .before .before .before .before .item-at .ensures) (c .before .before .before .given .ensures) (c .before .before .try-item .ensures) (c .before .before .before .before .before .loop-test .taken) (c .before .before .before .before .before .before .before .before .before .pre .1) (c .before .if1 .left) (c .after .result) (c .after .ensures)
 
--- src/parts.rt:47:1
 returns-2 : tie.Need-returns-2 Inv-loop μ-loop
 returns-2 c =
     let a = c .before .before .before .before .args in

@@ -1,15 +1,14 @@
+-- `writer::whole::put_record` meets its contract. Assumes nothing.
 use denote.Ref.{now}
-use mathlib.Core.Path.{_≡_, refl, sym, ap, ap₂, _∙_}
+use mathlib.Core.Path.{_≡_, refl, ap, ap₂, _∙_}
 use mathlib.Core.List.{List, _++_}
-use Prim.Native.Nat.{ℕ, _-_, _+_, _≤_}
+use Prim.Native.Nat.{ℕ, _-_, _+_}
 use native.Mathlib.Omega.{arith}
 use lib.ListN.{length, getD}
 use Rattle.meaning.specs.declared.Item.{Item}
 use Rattle.meaning.specs.Bytes.{spell, put}
 use Rattle.meaning.specs.Schema.{schema, trailer}
 use Rattle.meaning.specs.Records.{origin, room}
-use Rattle.meaning.specs.Values.{means}
-use Rattle.meaning.specs.Writing.{write}
 use Rattle.wire.proofs.Laws.{length-put}
 use Rattle.writer.specs.Tellings.{from}
 use Rattle.writer.specs.Tries.{slotsFrom}
@@ -19,16 +18,6 @@ use Rattle.writer.proofs.Records.{Known, known, all-put, written-lays, 
 use borrow.Author.Needs.{needs}
 use Rattle.writer.proofs.whole.put_record.Statement.{statement}
 use Rattle.writer.proofs.whole.put_record.Tie as tie
-use Rattle.writer.proofs.whole.put_record.Reads as reads
-use Rattle.writer.proofs.whole.put_record.Lts as lts
-use Rattle.record.proofs.trailer_room.Reads as trailer-room-reads
-use Rattle.writer.proofs.measure.body.Reads as body-reads
-use Rattle.writer.proofs.measure.trailing.Reads as trailing-reads
-use Rattle.writer.proofs.parts.origin.Reads as origin-reads
-use Rattle.writer.proofs.parts.put_all.Reads as put-all-reads
-use Rattle.writer.proofs.whole.put_header.Reads as put-header-reads
-use Rattle.writer.proofs.words.from.Reads as from-reads
-use Rattle.writer.proofs.words.word.Reads as word-reads
 
 -- the fields and the trailer of the type that the words tell
 abbrev fieldsOf : tie.Start → List Item
@@ -37,8 +26,8 @@ fieldsOf c = schema (c .args .kind) (c .args .misc) (c .args .attributes)
 abbrev trailerOf : tie.Start → List Item
 trailerOf c = trailer (c .args .kind) (c .args .attributes)
 
-known-here : (c : tie.Start) → Known (fieldsOf c) (trailerOf c) (now (c .args .source)) (now (c .args .ws)) (trailer-plain (c .args .kind) (c .args .attributes)) (c .pre .2) (c .args .end) (c .pre .3) (c .pre .4)
-known-here c = known (fieldsOf c) (trailerOf c) (now (c .args .source)) (now (c .args .ws)) (trailer-plain (c .args .kind) (c .args .attributes)) (c .pre .2) (c .args .end) (c .pre .3) (c .pre .4)
+known-here : (c : tie.Start) → Known (fieldsOf c) (trailerOf c) (now (c .args .source)) (now (c .args .ws)) (trailer-plain (c .args .kind) (c .args .attributes)) (c .pre .3 .2) (c .args .end) (c .pre .0) (c .pre .1)
+known-here c = known (fieldsOf c) (trailerOf c) (now (c .args .source)) (now (c .args .ws)) (trailer-plain (c .args .kind) (c .args .attributes)) (c .pre .3 .2) (c .args .end) (c .pre .0) (c .pre .1)
 
 -- the buffer's length does not change
 first-long : (c : tie.After-put-header) → length (c .put-header .last .1 .1 .1 .0) ≡ length (now (c .before .before .before .before .before .before .args .buffer))
@@ -51,78 +40,64 @@ second-long c = ap length (c .put-all .ensures) ∙ simp length-put (first-long 
 origin-is : (c : tie.After-origin2) → c .origin2 .result ≡ origin (c .before .before .before .before .before .before .before .before .before .before .before .before .before .before .before .before .before .before .before .args .end - room (trailerOf (c .before .before .before .before .before .before .before .before .before .before .before .before .before .before .before .before .before .before .before)))
 origin-is c = c .origin2 .ensures ∙ ap (λ (n : ℕ). origin (c .before .before .before .before .before .before .before .before .before .before .before .before .before .before .before .before .before .before .before .args .end - n)) (c .before .before .before .trailer-room .ensures .0)
 
--- src/whole.rt:32:28
 word-requires : tie.Need-word-requires
 word-requires c κs = search needs
 
--- src/whole.rt:32:5
 put-header-requires : tie.Need-put-header-requires
-put-header-requires c κs = let k = known-here (c .before .before .before .before .before) in omega (arith, k .before, c .before .before .before .before .before .pre .5)
+put-header-requires c κs = let k = known-here (c .before .before .before .before .before) in omega (arith, k .before, c .before .before .before .before .before .pre .2)
 
--- src/whole.rt:33:9
 body-requires : tie.Need-body-requires
 body-requires c κs = search needs
 
--- src/whole.rt:34:35
 from-requires : tie.Need-from-requires
 from-requires c κs = search needs
 
--- src/whole.rt:34:51
 origin-requires : tie.Need-origin-requires
 origin-requires c κs = search needs
 
--- src/whole.rt:34:5
 put-all-requires : tie.Need-put-all-requires
 put-all-requires c κs =
     let s = c .before .before .before .before .before .before .before .before .before .before .before .before in
     let a = s .args in
     let k = known-here s in
     asks-lays (now (a .source)) (now (a .ws)) (c .before .before .before .body .result) (a .attributes) (a .kind) (fieldsOf s) (c .before .before .from .result) (c .before .origin .result) 3 8 _ _ (length (now (a .buffer)))
-    (c .before .before .before .body .ensures) (c .before .before .from .ensures) (c .before .origin .ensures) (omega arith) (omega arith) (k .body-why) (k .body-end) (omega (arith, k .before, s .pre .5))
+    (c .before .before .before .body .ensures) (c .before .before .from .ensures) (c .before .origin .ensures) (omega arith) (omega arith) (k .body-why) (k .body-end) (omega (arith, k .before, s .pre .2))
     (ap length (c .before .before .before .before .before .before .put-header .ensures) ∙ length-put (now (a .buffer)) 0 (spell 4 (a .kind) ++ (spell 2 (a .misc) ++ spell 2 (c .before .before .before .before .before .before .before .before .word .result))))
 
--- src/whole.rt:35:20
 trailer-room-requires : tie.Need-trailer-room-requires
 trailer-room-requires c κs = search needs
 
--- src/whole.rt:35:14
 sub-at : tie.Need-sub-at
 sub-at c = let k = known-here (c .before .before .before .before .before .before .before .before .before .before .before .before .before .before .before .before) in omega (arith, k .before, c .trailer-room .ensures .0)
 
--- src/whole.rt:36:9
 trailing-requires : tie.Need-trailing-requires
 trailing-requires c κs = search needs
 
--- src/whole.rt:37:35
 from-requires-2 : tie.Need-from-requires-2
 from-requires-2 c κs = search needs
 
--- src/whole.rt:37:52
 origin-requires-2 : tie.Need-origin-requires-2
 origin-requires-2 c κs = search needs
 
--- src/whole.rt:37:5
 put-all-requires-2 : tie.Need-put-all-requires-2
 put-all-requires-2 c κs =
     let s = c .before .before .before .before .before .before .before .before .before .before .before .before .before .before .before .before .before .before .before .before in
     let a = s .args in
     let k = known-here s in
     asks-lays (now (a .source)) (now (a .ws)) (c .before .before .before .trailing .result) (a .attributes) (a .kind) (trailerOf s) (c .before .before .from2 .result) (c .before .origin2 .result) 48 (a .end - room (trailerOf s)) _ _ (length (now (a .buffer)))
-    (c .before .before .before .trailing .ensures) (c .before .before .from2 .ensures) (origin-is (c .before)) (omega arith) (omega (arith, k .most)) (k .tail-why) (k .tail-end) (s .pre .5) (second-long (c .before .before .before .before .before .before .before))
+    (c .before .before .before .trailing .ensures) (c .before .before .from2 .ensures) (origin-is (c .before)) (omega arith) (omega (arith, k .most)) (k .tail-why) (k .tail-end) (s .pre .2) (second-long (c .before .before .before .before .before .before .before))
 
--- src/whole.rt:28:1
 same-length : tie.Need-same-length
 same-length c = ap length (c .before .before .put-all2 .ensures) ∙ simp length-put (second-long (c .before .before .before .before .before .before .before .before .before .before))
 
--- src/whole.rt:28:1
 returns : tie.Need-returns
 unfolding toldValue slotsFrom
 returns c =
     let s = c .before .before .before .before .before .before .before .before .before .before .before .before .before .before .before .before .before .before .before .before .before .before .before in
     let a = s .args in
-    all-put (fieldsOf s) (trailerOf s) (now (a .source)) (now (a .ws)) (trailer-plain (a .kind) (a .attributes)) (s .pre .2) (a .end) (s .pre .3) (s .pre .4)
-    (now (a .buffer)) _ _ _ (s .pre .5)
-    (c .before .before .before .before .before .before .before .before .before .before .before .before .before .before .before .before .before .put-header .ensures ∙ ap₂ (λ (x y : ℕ). put (now (a .buffer)) 0 (spell 4 x ++ (spell 2 y ++ spell 2 (c .before .before .before .before .before .before .before .before .before .before .before .before .before .before .before .before .before .before .before .word .result)))) (s .pre .0) (s .pre .1)
+    all-put (fieldsOf s) (trailerOf s) (now (a .source)) (now (a .ws)) (trailer-plain (a .kind) (a .attributes)) (s .pre .3 .2) (a .end) (s .pre .0) (s .pre .1)
+    (now (a .buffer)) _ _ _ (s .pre .2)
+    (c .before .before .before .before .before .before .before .before .before .before .before .before .before .before .before .before .before .put-header .ensures ∙ ap₂ (λ (x y : ℕ). put (now (a .buffer)) 0 (spell 4 x ++ (spell 2 y ++ spell 2 (c .before .before .before .before .before .before .before .before .before .before .before .before .before .before .before .before .before .before .before .word .result)))) (s .pre .3 .0) (s .pre .3 .1)
     ∙ ap (λ (x : ℕ). put (now (a .buffer)) 0 (spell 4 (getD (now (a .ws)) 0 0) ++ (spell 2 (getD (now (a .ws)) 1 0) ++ spell 2 x))) (c .before .before .before .before .before .before .before .before .before .before .before .before .before .before .before .before .before .before .before .word .ensures))
     (written-lays (now (a .source)) (now (a .ws)) (c .before .before .before .before .before .before .before .before .before .before .before .before .before .before .body .result) (a .attributes) (a .kind) (fieldsOf s) (c .before .before .before .before .before .before .before .before .before .before .before .before .before .from .result) (from 3) (c .before .before .before .before .before .before .before .before .before .before .before .before .origin .result) (origin 8) _ _ _
     (c .before .before .before .before .before .before .before .before .before .before .before .before .before .before .body .ensures) (c .before .before .before .before .before .before .before .before .before .before .before .before .before .from .ensures) (c .before .before .before .before .before .before .before .before .before .before .before .before .origin .ensures) refl (c .before .before .before .before .before .before .before .before .before .before .put-all .ensures))

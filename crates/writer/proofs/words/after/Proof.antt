@@ -1,3 +1,4 @@
+-- `writer::words::after` meets its contract. Assumes nothing.
 use denote.Ref.{now}
 use mathlib.Core.Path.{ap}
 use native.Mathlib.Omega.{arith}
@@ -6,35 +7,24 @@ use Rattle.writer.proofs.Laws.{after-is, many-most}
 use borrow.Author.Needs.{needs}
 use Rattle.writer.proofs.words.after.Statement.{statement}
 use Rattle.writer.proofs.words.after.Tie as tie
-use Rattle.writer.proofs.words.after.Reads as reads
-use Rattle.writer.proofs.words.after.Lts as lts
-use Rattle.writer.proofs.words.choose.Reads as choose-reads
-use Rattle.writer.proofs.words.telling.Reads as telling-reads
-use Rattle.writer.proofs.words.word.Reads as word-reads
 
--- src/words.rt:116:9
 telling-requires : tie.Need-telling-requires
 telling-requires c κs = search needs
 
--- src/words.rt:117:9
 word-requires : tie.Need-word-requires
 word-requires c κs = search needs
 
--- src/words.rt:119:13
 add-t8 : tie.Need-add-t8
 add-t8 c =
     let e = ap (λ (k : Telling). k .many) (c .before .before .before .telling .ensures) in
     omega (arith, e, many-most (c .before .before .before .before .before .args .i .shape), c .before .before .before .before .before .pre)
 
--- src/words.rt:120:12
 choose-requires : tie.Need-choose-requires
 choose-requires c κs = search needs
 
--- src/words.rt:121:14
 choose-requires-2 : tie.Need-choose-requires-2
 choose-requires-2 c κs = search needs
 
--- src/words.rt:110:1
 returns : tie.Need-returns
 returns c =
     let a = c .before .before .before .before .before .before .before .before .before .args in

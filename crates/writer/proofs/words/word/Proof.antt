@@ -1,25 +1,20 @@
+-- `writer::words::word` meets its contract. Assumes nothing.
 use denote.Ref.{now}
 use mathlib.Core.Path.{sym}
 use lib.ListN.{List·getD-eq-default}
 use borrow.Author.Needs.{needs}
 use Rattle.writer.proofs.words.word.Statement.{statement}
 use Rattle.writer.proofs.words.word.Tie as tie
-use Rattle.writer.proofs.words.word.Reads as reads
-use Rattle.writer.proofs.words.word.Lts as lts
 
--- src/words.rt:17:23
 mul-result : tie.Need-mul-result
 mul-result c = search needs
 
--- src/words.rt:17:23
 shared-slice-read-result : tie.Need-shared-slice-read-result
 shared-slice-read-result c = search needs
 
--- src/words.rt:14:1
 returns : tie.Need-returns
 returns c = search needs
 
--- src/words.rt:14:1
 returns-2 : tie.Need-returns-2
 returns-2 c = sym (List·getD-eq-default (now (c .before .args .ws)) 0 (c .if1 .left))
 
