@@ -530,6 +530,14 @@ static size_t true_size(void)
     return count;
 }
 
+/* A number at most one above the record's length, or the same below 2^64, where sums wrap. */
+static uint64_t near(uint64_t number, size_t count)
+{
+    uint64_t small = number % (count + 2);
+
+    return number >> 63 ? 0 - small : small;
+}
+
 static void try_record(void)
 {
     size_t count = true_size();
@@ -537,8 +545,8 @@ static void try_record(void)
 
     check(in.bytes, count);
     if (in.control[1] & PLACE_NEAR) {
-        place %= count + 2;
-        bytes %= count + 2;
+        place = near(place, count);
+        bytes = near(bytes, count);
     }
     copy_name(in.bytes, count, place, bytes, in.control[15]);
 #ifndef WITHOUT_VALUES

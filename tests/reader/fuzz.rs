@@ -20,6 +20,7 @@ const CALL: usize = 0;
 const FLAGS: usize = 1;
 const LENGTH: usize = 2;
 const PATCHES: usize = 12;
+const NAME_ROOM: usize = 15;
 
 const DRAIN: u8 = 0;
 const PROGRAM: u8 = 1;
@@ -257,6 +258,7 @@ fn input(call: u8, flags: u8, image: Image) -> Vec<u8> {
     control[FLAGS] = if call == RECORD { flags | PLACE_NEAR } else { flags };
     control[LENGTH] = length_for(image.ring.len());
     control[PATCHES] = u8::from(call == WRITE);
+    control[NAME_ROOM] = 64;
     Input { control, image }.bytes()
 }
 
