@@ -18,7 +18,7 @@ use Rattle.editions.specs.Cutting.{Cut, Cuts, cutting, entries, All}
 use Rattle.editions.specs.Promise.{Beside, Demand3, EntryFair, nothingCut, recordOf}
 use Rattle.editions.specs.InTable.{judge-small}
 use Rattle.editions.specs.OneRecord.{record-fair, editions-rise}
-use Rattle.editions.specs.Put.{part-of}
+use Rattle.laws.specs.Put.{part-of}
 use Rattle.editions.specs.Moves.{run-cutting, cutting-fits}
 use Rattle.editions.specs.Journal.{journal-entry, answer-back, before-answer, after-answer}
 

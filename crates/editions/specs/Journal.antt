@@ -19,7 +19,7 @@ use Rattle.editions.specs.Cutting.{Cut, Cuts, cuttingBy, entries, All, e
 use Rattle.editions.specs.Promise.{nothingCut}
 use Rattle.editions.specs.OneRecord.{check-framed}
 use Rattle.editions.specs.Moves.{run-cutting, cutting-fits, drain-counted}
-use Rattle.editions.specs.Put.{put-start}
+use Rattle.laws.specs.Put.{put-start}
 use Rattle.editions.specs.Runs.{length-entries}
 
 -- entry i is that of record i

@@ -6,7 +6,6 @@ pub mod Examples
 pub mod Outside
 pub mod InTable
 pub mod OneRecord
-pub mod Put
 pub mod Frames
 pub mod Runs
 pub mod Moves

@@ -1,7 +1,7 @@
 -- Demand 3 for one record, once over all pairs of editions. Assumes nothing.
 use mathlib.Core.Path.{_≡_, refl, sym, ap, ap₂, _∙_, subst}
 use mathlib.Core.List.{List, [], _∷_, _++_}
-use mathlib.Core.Bool.{Bool, true, false, cond, not, _&&_, _||_}
+use mathlib.Core.Bool.{Bool, true, false, cond, not, _&&_, _||_, and-comm, or-false as or-nil}
 use mathlib.Core.Logic.{_⊎_, inl, inr}
 use Prim.Native.Nat.{ℕ, zero, suc, _%_, _^_, _<_, _≤_}
 use native.Mathlib.Omega.{arith}
@@ -16,7 +16,7 @@ use Rattle.meaning.specs.Editions.{editions, allowed, known, Thing, knows, outs
 use Rattle.meaning.specs.Records.{layout, kindOf, miscOf, sizeOf, room, fieldsAnswer, judge, checkBy, check}
 use Rattle.laws.specs.Bytes.{apart, and-true}
 use Rattle.editions.specs.Fairness.{within, rising, Words, dependsOf, Fair, framed}
-use Rattle.editions.specs.Outside.{or-false, or-nil, and-swap, outside-append, outside-when, bits-outside, outside-less, known-within}
+use Rattle.editions.specs.Outside.{or-false, outside-append, outside-when, bits-outside, outside-less, known-within}
 use Rattle.editions.specs.InTable.{fields-known}
 
 -- ---- any list of rows
@@ -99,14 +99,14 @@ kind-outside k (suc t) = by (ltb (k .kinds) (suc t)) refl
 sample-outside : (k : Known) (t : ℕ) (a : Attributes) → a .sample < 2 ^ 64
     → (leb (2 ^ k .samples) (a .sample) && hasSampleBits t a) ≡ outside k (when (hasSampleBits t a) (bits sampleBit (a .sample) 0 64))
 sample-outside k t a s =
-    and-swap (leb (2 ^ k .samples) (a .sample)) (hasSampleBits t a)
+    and-comm (leb (2 ^ k .samples) (a .sample)) (hasSampleBits t a)
     ∙ ap (λ (b : Bool). hasSampleBits t a && b) (sym (bits-outside k sampleBit (k .samples) (λ b. refl) (a .sample) (k .samples) 0 64 (omega arith) s))
     ∙ sym (outside-when k (hasSampleBits t a) (bits sampleBit (a .sample) 0 64))
 
 format-outside : (k : Known) (t : ℕ) (a : Attributes) → a .format < 2 ^ 64
     → (leb (2 ^ k .formats) (a .format) && hasReadValues t a) ≡ outside k (when (hasReadValues t a) (bits formatBit (a .format) 0 64))
 format-outside k t a s =
-    and-swap (leb (2 ^ k .formats) (a .format)) (hasReadValues t a)
+    and-comm (leb (2 ^ k .formats) (a .format)) (hasReadValues t a)
     ∙ ap (λ (b : Bool). hasReadValues t a && b) (sym (bits-outside k formatBit (k .formats) (λ b. refl) (a .format) (k .formats) 0 64 (omega arith) s))
     ∙ sym (outside-when k (hasReadValues t a) (bits formatBit (a .format) 0 64))
 

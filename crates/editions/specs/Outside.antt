@@ -1,7 +1,7 @@
 -- Laws of what is known and of what lies outside. Assumes nothing.
 use mathlib.Core.Path.{_≡_, refl, sym, ap, ap₂, _∙_, subst}
 use mathlib.Core.List.{List, [], _∷_, _++_}
-use mathlib.Core.Bool.{Bool, true, false, not, _&&_, _||_}
+use mathlib.Core.Bool.{Bool, true, false, not, _&&_, _||_, or-true, or-assoc}
 use Prim.Native.Nat.{ℕ, zero, suc, _+_, _-_, _/_, _%_, _^_, _<_, _≤_}
 use native.Mathlib.Nat.{div-eq-of-lt, div-eq-of-lt-le, pow-suc}
 use native.Mathlib.Omega.{arith}
@@ -20,20 +20,6 @@ pub or-false : (a b : Bool) → (a || b) ≡ false → (a ≡ false) × (b ≡ f
 or-false true b e = absurd (apart (sym e))
 or-false false b e = (refl, e)
 
-or-assoc : (a b d : Bool) → ((a || b) || d) ≡ (a || (b || d))
-or-assoc true b d = refl
-or-assoc false b d = refl
-
-pub or-nil : (b : Bool) → (b || false) ≡ b
-or-nil true = refl
-or-nil false = refl
-
-pub and-swap : (a b : Bool) → (a && b) ≡ (b && a)
-and-swap true true = refl
-and-swap true false = refl
-and-swap false true = refl
-and-swap false false = refl
-
 -- ---- outside
 pub outside-append : (k : Known) (xs ys : List Thing) → outside k (xs ++ ys) ≡ (outside k xs || outside k ys)
 unfolding outside
@@ -50,10 +36,6 @@ top-bit : (x i : ℕ) → (bit x i || leb (2 ^ suc i) x) ≡ leb (2 ^ i) x
 unfolding bit
 top-bit x i = by (leb (2 ^ suc i) x) (leb (2 ^ i) x) refl refl
   where
-    or-true : (b : Bool) → (b || true) ≡ true
-    or-true true = refl
-    or-true false = refl
-
     by : (s t : Bool) → leb (2 ^ suc i) x ≡ s → leb (2 ^ i) x ≡ t → (eqb (x / 2 ^ i % 2) 1 || s) ≡ t
     by true true e f = or-true (eqb (x / 2 ^ i % 2) 1)
     by true false e f =

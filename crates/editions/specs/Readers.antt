@@ -1,6 +1,6 @@
 -- Demand 3 for the reader of a record's bytes, and for the reader of one record out of the ring. Assumes nothing.
 use mathlib.Core.Path.{_≡_, refl, sym, ap, ap₂, _∙_, subst}
-use mathlib.Core.List.{List, [], _∷_}
+use mathlib.Core.List.{List}
 use mathlib.Core.Bool.{Bool, true, false, cond, _&&_}
 use Prim.Native.Nat.{ℕ, _+_, _%_, _^_, _≤_}
 use lib.ListN.{length}

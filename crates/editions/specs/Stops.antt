@@ -1,7 +1,7 @@
 -- Demand 1: "A stop moves no tail past the record it stopped at; a record refused for its body is passed over; both change only the buffers that
 -- 01 names." And every stop and answer of a drain and of the reader of one record is a number of the table. Assumes nothing.
 use mathlib.Core.Path.{_≡_, refl, ap, _∙_}
-use mathlib.Core.List.{List, [], _∷_}
+use mathlib.Core.List.{List}
 use mathlib.Core.Bool.{Bool, true, false, cond}
 use Prim.Native.Nat.{ℕ, zero, suc, _+_, _-_, _*_, _%_, _^_}
 use native.Mathlib.Omega.{arith}

@@ -1,7 +1,7 @@
 -- The words of an item whose step is accepted: its bytes are there, and its words are those of its shape. Assumes nothing.
 use mathlib.Core.Path.{_≡_, refl, subst}
 use mathlib.Core.List.{List}
-use mathlib.Core.Bool.{Bool, true, false, cond}
+use mathlib.Core.Bool.{true, false}
 use Prim.Native.Nat.{ℕ, _+_, _≤_}
 use native.Mathlib.Omega.{arith}
 use lib.Dec.{leb, ltb}
@@ -16,10 +16,11 @@ use Rattle.meaning.specs.declared.Width.the-variants.{W1, W2, W4, W8}
 use Rattle.meaning.specs.Bytes.{zeroIn}
 use Rattle.meaning.specs.Items.{bytes, span, rule, part, step}
 use Rattle.meaning.specs.Values.{slot, slotShape, slotItem, tell}
-use Rattle.laws.specs.Bytes.{and-true}
+use Rattle.laws.specs.Bytes.{and-true, unbroken}
 use Rattle.fields.specs.declared.Words.{Words}
 use Rattle.fields.specs.Told.{toldOf}
-use Rattle.fields.specs.Walks.{Taken, step-taken}
+use Rattle.laws.specs.Again.{Taken}
+use Rattle.fields.specs.Walks.{step-taken}
 
 positive : (w : Width) → 1 ≤ bytes w
 positive W1 = omega arith
@@ -66,15 +67,11 @@ module _ (xs : List ℕ) (i : Item) (c : Cursor) (h : step xs i c .why ≡ 0) (o
   has-name e =
       let t = took xs i c Name h o e in
       let ys : List ℕ = part Name c (drop (c .at) xs) in
-      let u = and-true (ltb (zeroIn ys) (length ys)) (leb (length ys) (zeroIn ys + 8)) (unbroken _ (t .kept)) in
+      let u = and-true (ltb (zeroIn ys) (length ys)) (leb (length ys) (zeroIn ys + 8)) (unbroken _ 33 (omega arith) (t .kept)) in
       let z = ltb-true (zeroIn ys) (length ys) (u .0) in
       let l : length ys ≡ length (drop (c .at) xs) = t .long in
       let d = length-drop (c .at) xs in
       omega (arith, z, l, d)
-    where
-      unbroken : (b : Bool) → _≡_ {A = ℕ} (cond b 0 33) 0 → b ≡ true
-      unbroken true q = refl
-      unbroken false q = absurd (omega arith)
 
 -- ---- the words of each kind of shape
 

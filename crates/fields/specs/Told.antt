@@ -12,6 +12,7 @@ use Rattle.meaning.specs.declared.Shape.{Shape}
 use Rattle.meaning.specs.declared.Shape.the-variants.{Number, Ignored, Count, Size, Times, Earlier, Registers, Filled, Abi, Limit, Listed, Bytes, Pad, Name}
 use Rattle.meaning.specs.Items.{step}
 use Rattle.meaning.specs.Values.{Slot, slotItem, tell, wordsOf, width, words}
+use Rattle.laws.specs.Words.{tell-length}
 use Rattle.fields.specs.declared.Words.{Words}
 
 -- how many words there are, the first and the second; a word that is not there is 0
@@ -22,24 +23,7 @@ toldOf ws = record { n = length ws; first = getD ws 0 0; second = getD ws 1 0 }
 abbrev pub wordsIn : Words → List ℕ
 wordsIn t = take (t .n) (t .first ∷ t .second ∷ [])
 
--- the number of words is the shape's, whatever they are
-pub tell-length : (sh : Shape) (s : Slot) → length (tell sh s) ≡ wordsOf sh
-unfolding tell
-tell-length (Number w) s = refl
-tell-length (Ignored k) s = refl
-tell-length (Count w) s = refl
-tell-length (Size w) s = refl
-tell-length (Times k) s = refl
-tell-length (Earlier k) s = refl
-tell-length Registers s = refl
-tell-length Filled s = refl
-tell-length (Abi m) s = refl
-tell-length (Limit k) s = refl
-tell-length (Listed k) s = refl
-tell-length (Bytes k) s = refl
-tell-length Pad s = refl
-tell-length Name s = refl
-
+-- a shape has at most two words
 pub words-most : (sh : Shape) → wordsOf sh ≤ 2
 unfolding tell
 words-most (Number w) = omega arith

@@ -1,28 +1,29 @@
 -- What was read can be written, and is written as it was but for the ignored bytes: one step, and one induction over the items.
 -- Assumes nothing.
 use mathlib.Core.Path.{_≡_, refl, sym, ap, ap₂, _∙_, subst}
-use Prim.Native.Nat.{ℕ, zero, suc, _+_, _-_, _*_, _/_, _%_, _^_, _<_, _≤_}
+use Prim.Native.Nat.{ℕ, _+_, _%_, _≤_}
 use native.Mathlib.Nat.{add-zero}
 use native.Mathlib.Omega.{arith}
-use mathlib.Core.Bool.{Bool, true, false, not, _&&_, cond}
+use mathlib.Core.Bool.{Bool, true, false, cond}
 use mathlib.Core.List.{List, [], _∷_, _++_}
-use lib.ListN.{length, take, drop, length-append, length-drop}
+use mathlib.Core.Logic.{⊎-elim, _⊎_, inl, inr}
+use lib.ListN.{length, drop, length-append, length-drop}
 use lib.Seq.{length-take-le}
-use lib.Dec.{leb, eqb, ltb}
+use lib.Dec.{leb, eqb}
 use borrow.Author.Tests.{leb-true, eq-eqb, eqb-true, eqb-false, ne-eqb}
 use Rattle.meaning.specs.declared.Cursor.{Cursor}
 use Rattle.meaning.specs.declared.Item.{Item}
 use Rattle.meaning.specs.declared.Shape.{Shape}
 use Rattle.meaning.specs.declared.Shape.the-variants.{Number, Ignored, Count, Size, Times, Earlier, Registers, Filled, Abi, Limit, Listed, Bytes, Pad, Name}
 use Rattle.meaning.specs.Bytes.{small, keep}
-use Rattle.meaning.specs.Items.{Con, con, cursor, refuse, span, rule, holds, past, part, settle, shapeStep, step, walk, content, contents}
-use Rattle.meaning.specs.Writing.{emit, blank, fitShape, next, fit, write, kept, cleaned, ends, endsLast}
-use Rattle.laws.specs.Bytes.{apart, and-true, true-and, small-take, small-drop, length-keep}
+use Rattle.meaning.specs.Items.{Con, refuse, span, rule, holds, past, part, settle, shapeStep, step, walk, content, contents}
+use Rattle.meaning.specs.Writing.{emit, blank, fitShape, next, fit, write, kept, cleaned, ends}
+use Rattle.laws.specs.Bytes.{apart, true-and, small-take, small-drop, length-keep}
 use Rattle.laws.specs.Items.{Back, back}
 use Rattle.laws.specs.There.{item, next-at}
 
 -- after a refusal nothing changes, so a walk that ends without one met none
-stuck : (xs : List ℕ) (is : List Item) (c : Cursor) → (c .why ≡ 0 → ⊥) → walk xs is c ≡ c
+pub stuck : (xs : List ℕ) (is : List Item) (c : Cursor) → (c .why ≡ 0 → ⊥) → walk xs is c ≡ c
 unfolding walk step
 stuck xs [] c n = refl
 stuck xs (i ∷ is) c n = rw (ne-eqb (c .why) 0 n) (stuck xs is c n)
@@ -42,17 +43,6 @@ fine₁ xs i c h = fine xs (i ∷ []) c h
 pub stepped : (on : Bool) (sh : Shape) (xs : List ℕ) (c : Cursor) → c .why ≡ 0 → step xs (item on sh) c ≡ cond on (shapeStep sh c (drop (c .at) xs)) c
 unfolding step
 stepped on sh xs c z = rw (eq-eqb (c .why) 0 z)
-
--- a step that did not refuse had its bytes, broke no rule, and went past
-judged : (w : ℕ) (c d : Cursor) (u : Bool) → eqb w 0 ≡ u → cond u d (refuse w c) .why ≡ 0 → (w ≡ 0) × (cond u d (refuse w c) ≡ d)
-judged w c d true e h = (eqb-true w 0 e, refl)
-judged w c d false e h = absurd (eqb-false w 0 e h)
-
-passed : (t : Bool) (w : ℕ) (c d : Cursor) → cond t (settle w c d) (refuse 30 c) .why ≡ 0
-    → (t ≡ true) × (w ≡ 0) × (cond t (settle w c d) (refuse 30 c) ≡ d)
-unfolding settle
-passed true w c d h = let j = judged w c d (eqb w 0) refl h in (refl, j .0, j .1)
-passed false w c d h = absurd (omega arith)
 
 span-ends : (sh : Shape) (c : Cursor) (r : ℕ) → ends sh ≡ true → span sh c r ≡ r
 unfolding ends span
@@ -83,15 +73,39 @@ pub past-at : (sh : Shape) (v : Con) (k : ℕ) (c : Cursor) (n : ℕ) → c .at 
 unfolding past
 past-at sh v k c n h = h
 
-pub taken : (sh : Shape) (c : Cursor) (R : List ℕ) → shapeStep sh c R .why ≡ 0
-    → (length (part sh c R) ≤ length R) × (length (part sh c R) ≡ span sh c (length R)) × (rule sh c (part sh c R) ≡ 0)
-    × (shapeStep sh c R ≡ past sh (holds sh c (part sh c R)) (length (part sh c R)) c)
-unfolding shapeStep
-taken sh c R h =
-    let p = passed (leb (span sh c (length R)) (length R)) (rule sh c (part sh c R)) c (past sh (holds sh c (part sh c R)) (length (part sh c R)) c) h in
-    let l = leb-true (span sh c (length R)) (length R) (p .0) in
-    let t = length-part sh c R l in
-    (omega (arith, l, t), t, p .1, p .2)
+-- an item was taken: its bytes are there, and its rule is kept
+pub record Taken (sh : Shape) (c : Cursor) (rest : List ℕ) : Type 0 where
+  pub there : span sh c (length rest) ≤ length rest
+  pub long : length (part sh c rest) ≡ span sh c (length rest)
+  pub kept : rule sh c (part sh c rest) ≡ 0
+  pub is : shapeStep sh c rest ≡ past sh (holds sh c (part sh c rest)) (length (part sh c rest)) c
+
+-- or it was refused, and nothing else changed
+pub record Refused (c d : Cursor) : Type 0 where
+  pub number : ℕ
+  pub some : number ≡ 0 → ⊥
+  pub is : d ≡ refuse number c
+
+pub outcome : (sh : Shape) (c : Cursor) (rest : List ℕ) → Taken sh c rest ⊎ Refused c (shapeStep sh c rest)
+unfolding shapeStep settle part
+outcome sh c rest = go (leb (span sh c (length rest)) (length rest)) (eqb (rule sh c (part sh c rest)) 0) refl refl
+  where
+    go : (t u : Bool) → leb (span sh c (length rest)) (length rest) ≡ t → eqb (rule sh c (part sh c rest)) 0 ≡ u
+        → Taken sh c rest ⊎ Refused c (shapeStep sh c rest)
+    go true true e f =
+        let l = leb-true (span sh c (length rest)) (length rest) e in
+        inl (record {
+          there = l;
+          long = length-take-le (span sh c (length rest)) rest l;
+          kept = eqb-true (rule sh c (part sh c rest)) 0 f;
+          is = rw (e, f);
+        })
+    go true false e f = inr (record { number = rule sh c (part sh c rest); some = eqb-false (rule sh c (part sh c rest)) 0 f; is = rw (e, f) })
+    go false u e f = inr (record { number = 30; some = λ q. omega arith; is = rw e })
+
+-- an item that was not refused was taken
+pub taken : (sh : Shape) (c : Cursor) (rest : List ℕ) → shapeStep sh c rest .why ≡ 0 → Taken sh c rest
+taken sh c rest h = ⊎-elim (λ t. t) (λ r. absurd (r .some (sym (ap (λ (d : Cursor). d .why) (r .is)) ∙ h))) (outcome sh c rest)
 
 -- one item: its content fits, is written as its kept bytes, and leads to the same state, inside the record
 unfoldable pub Undone : Bool → Shape → List ℕ → Cursor → Type 0
@@ -113,12 +127,12 @@ undone true sh xs c s m l z h =
     let e : step xs (item true sh) c ≡ shapeStep sh c R = stepped true sh xs c z in
     let p = taken sh c R (ap (λ (d : Cursor). d .why) (sym e) ∙ h) in
     let r = length-drop (c .at) xs in
-    let t : length ys ≡ span sh c (length R) = p .1 in
-    let q : length ys ≤ length R = p .0 in
+    let t : length ys ≡ span sh c (length R) = p .long in
+    let q : length ys ≤ length R = omega (arith, p .there) in
     let b = back sh c ys (length R) (small-part sh c R (small-drop (c .at) xs s)) (sym t)
-    (λ g. let w = span-ends sh c (length R) g in let k : c .at + length ys ≡ length xs = omega (arith, w, t, r) in ap (λ (j : ℕ). j % 8) k ∙ m) (p .2) in
+    (λ g. let w = span-ends sh c (length R) g in let k : c .at + length ys ≡ length xs = omega (arith, w, t, r) in ap (λ (j : ℕ). j % 8) k ∙ m) (p .kept) in
     let k : length ys ≡ length (emit sh c (holds sh c ys)) = sym (ap length (b .1) ∙ length-keep _ ys) in
-    let f : step xs (item true sh) c ≡ past sh (holds sh c ys) (length ys) c = e ∙ p .3 in
+    let f : step xs (item true sh) c ≡ past sh (holds sh c ys) (length ys) c = e ∙ p .is in
     (b .0, b .1, f ∙ ap (λ (j : ℕ). past sh (holds sh c ys) j c) k, subst (λ (d : Cursor). d .at ≤ length xs) (sym f) (past-at sh (holds sh c ys) (length ys) c (length xs) (omega (arith, q, r))))
 
 -- what was read fits, is written with the ignored bytes as zero, and ends at the same place

@@ -1,18 +1,18 @@
 -- What an answer of 0 says, and what gives it. Assumes nothing.
-use mathlib.Core.Path.{_≡_, refl, sym, ap, ap₂, _∙_, subst}
-use Prim.Native.Nat.{ℕ, zero, suc, _+_, _-_, _*_, _/_, _%_, _^_, _<_, _≤_}
+use mathlib.Core.Path.{_≡_, refl}
+use Prim.Native.Nat.{ℕ, _+_, _-_, _%_, _<_, _≤_}
 use native.Mathlib.Omega.{arith}
-use mathlib.Core.Bool.{Bool, true, false, not, _&&_, cond}
-use mathlib.Core.List.{List, [], _∷_, _++_}
-use lib.ListN.{length, take, drop}
-use lib.Dec.{leb, eqb, ltb}
+use mathlib.Core.Bool.{Bool, true, false, _&&_, cond}
+use mathlib.Core.List.{List}
+use lib.ListN.{length}
+use lib.Dec.{leb, eqb}
 use borrow.Author.Tests.{le-leb, leb-true, eq-eqb, eqb-true, eqb-false}
 use Rattle.meaning.specs.declared.Cursor.{Cursor}
 use Rattle.meaning.specs.declared.Item.{Item}
 use Rattle.meaning.specs.Items.{walk}
 use Rattle.meaning.specs.Refusals.{orElse}
 use Rattle.meaning.specs.Records.{Layout, room, kindOf, miscOf, sizeOf, origin, fieldsOf, closed, fieldsAnswer, judge, checkBy}
-use Rattle.laws.specs.Bytes.{apart, and-true, true-and}
+use Rattle.laws.specs.Bytes.{and-true}
 
 pub tested : (t : Bool) (why rest : ℕ) → 0 < why → cond t rest why ≡ 0 → (t ≡ true) × (rest ≡ 0)
 tested true why rest p h = (refl, h)

@@ -1,14 +1,15 @@
 -- Laws of bytes. Assumes nothing.
-use mathlib.Core.Path.{_≡_, refl, sym, ap, ap₂, _∙_}
+use mathlib.Core.Path.{_≡_, refl, ap}
 use Prim.Native.Nat.{ℕ, zero, suc, _+_, _-_, _*_, _/_, _%_, _^_, _<_, _≤_}
-use native.Mathlib.Nat.{add-zero, pow-suc, sub-self}
+use native.Mathlib.Nat.{pow-suc, sub-self}
 use native.Mathlib.Omega.{arith}
 use mathlib.Core.Bool.{Bool, true, false, not, _&&_, cond}
+use mathlib.Core.Logic.{_⊎_, inl, inr}
 use mathlib.Core.List.{List, [], _∷_, _++_, append-nil}
-use lib.ListN.{length, take, drop, replicate, length-append, length-replicate}
-use lib.Seq.{take-length, length-take-le, take-at, take-all}
+use lib.ListN.{length, take, drop, length-append, length-replicate}
+use lib.Seq.{take-length, take-at, take-all}
 use lib.Dec.{leb, eqb, ltb}
-use borrow.Author.Tests.{leb-true, leb-false, lt-ltb, ltb-true, ne-eqb, eqb-false, not-true}
+use borrow.Author.Tests.{leb-true, leb-false, lt-ltb, ltb-true, not-true}
 use Rattle.meaning.specs.Bytes.{num, spell, zeros, zeroIn, small, nonzero, keep}
 use Rattle.meaning.specs.Items.{Con, con}
 
@@ -25,11 +26,24 @@ true-and a b p q = rw (p, q)
 pub con-of : (v : Con) (a : ℕ) (l : List ℕ) → a ≡ v .num → l ≡ v .list → con a l ≡ v
 con-of v a l p q = λ j. record { num = p j; list = q j }
 
+-- a rule that answers 0 holds
+pub unbroken : (t : Bool) (why : ℕ) → 0 < why → cond t 0 why ≡ 0 → t ≡ true
+unbroken true why p e = refl
+unbroken false why p e = absurd (omega arith)
+
 pub nil-of : (l : List ℕ) → length l ≡ 0 → [] ≡ l
 nil-of [] e = refl
 nil-of (x ∷ l) e = absurd (omega arith)
 
 -- numbers
+-- two numbers are in one of two orders
+pub le-or-lt : (a b : ℕ) → (a ≤ b) ⊎ (b < a)
+le-or-lt a b = by (leb a b) refl
+  where
+    by : (t : Bool) → leb a b ≡ t → (a ≤ b) ⊎ (b < a)
+    by true e = inl (leb-true a b e)
+    by false e = inr (leb-false a b e)
+
 pub length-spell : (k v : ℕ) → length (spell k v) ≡ k
 unfolding spell
 length-spell zero v = refl

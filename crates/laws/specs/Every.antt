@@ -1,5 +1,5 @@
 -- The layouts of every edition and all attributes are sound, so both round trips and the exact 42 hold of them. Assumes nothing.
-use mathlib.Core.Path.{_≡_, refl, sym, ap, _∙_}
+use mathlib.Core.Path.{_≡_, refl}
 use Prim.Native.Nat.{ℕ, zero, suc, _+_, _%_}
 use native.Mathlib.Omega.{arith}
 use mathlib.Core.Bool.{Bool, true, false, not, _&&_, cond}
@@ -11,9 +11,9 @@ use Rattle.meaning.specs.declared.Attributes.{Attributes}
 use Rattle.meaning.specs.declared.Item.{Item}
 use Rattle.meaning.specs.Bytes.{small}
 use Rattle.meaning.specs.Writing.{ends, endsLast}
-use Rattle.meaning.specs.Records.{Layout, layout, Value, fixedShape, fixed, roomShape, room, checkBy, value, writeRecord, fits, cleanedRecord}
+use Rattle.meaning.specs.Records.{layout, Value, fixedShape, fixed, roomShape, room, checkBy, value, writeRecord, fits, cleanedRecord}
 use Rattle.meaning.specs.declared.Known.{Known}
-use Rattle.meaning.specs.Schema.{schemas, schema, trailer}
+use Rattle.meaning.specs.Schema.{schemas, trailer}
 use Rattle.laws.specs.Bytes.{and-true}
 use Rattle.laws.specs.Whole.{Sound, Decodes, record-there, record-again, unfit-iff-none}
 

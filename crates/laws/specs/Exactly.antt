@@ -86,8 +86,8 @@ one-laid true sh is F c z h r =
     let bs : List ℕ = part sh c R in
     let b : Cursor = past sh (holds sh c bs) (length bs) c in
     let e : R ≡ bs ++ drop k R = sym (take-append-drop k R) in
-    let r₁ : Laid is b (drop (b .at) F) = subst (λ (d : Cursor). Laid is d (drop (d .at) F)) (st ∙ p .3) r in
-    selected bs (drop k R) e (p .1) (p .2)
+    let r₁ : Laid is b (drop (b .at) F) = subst (λ (d : Cursor). Laid is d (drop (d .at) F)) (st ∙ p .is) r in
+    selected bs (drop k R) e (p .long) (p .kept)
     (subst (λ (m : List ℕ). Laid is b m) (rest-of F bs (drop k R) (c .at) (b .at) e (past-place sh (holds sh c bs) (length bs) c)) r₁)
 
 pub walk-laid : (is : List Item) (F : List ℕ) (c : Cursor) → walk F is c .why ≡ 0 → walk F is c .at ≡ length F → Laid is c (drop (c .at) F)

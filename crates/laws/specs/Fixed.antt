@@ -1,20 +1,18 @@
 -- Items of a fixed length, as a trailer's: their walk refuses nothing where their room is there. Assumes nothing.
-use mathlib.Core.Path.{_≡_, refl, sym, ap, ap₂, _∙_, subst}
-use Prim.Native.Nat.{ℕ, zero, suc, _+_, _-_, _*_, _/_, _%_, _^_, _<_, _≤_}
+use mathlib.Core.Path.{_≡_, refl, sym, ap₂, _∙_}
+use Prim.Native.Nat.{ℕ, _+_, _≤_}
 use native.Mathlib.Nat.{add-zero}
 use native.Mathlib.Omega.{arith}
-use mathlib.Core.Bool.{Bool, true, false, not, _&&_, cond}
-use mathlib.Core.List.{List, [], _∷_, _++_}
+use mathlib.Core.Bool.{Bool, true, false, cond}
+use mathlib.Core.List.{List, [], _∷_}
 use lib.ListN.{length, take, drop, length-append, length-drop}
 use lib.Seq.{length-take-le}
-use lib.Dec.{leb, eqb, ltb}
 use borrow.Author.Tests.{le-leb, eq-eqb}
 use Rattle.meaning.specs.declared.Cursor.{Cursor}
 use Rattle.meaning.specs.declared.Item.{Item}
 use Rattle.meaning.specs.declared.Shape.{Shape}
 use Rattle.meaning.specs.declared.Shape.the-variants.{Number, Ignored, Count, Size, Times, Earlier, Registers, Filled, Abi, Limit, Listed, Bytes, Pad, Name}
-use Rattle.meaning.specs.Bytes.{small}
-use Rattle.meaning.specs.Items.{Con, con, cursor, refuse, span, rule, holds, past, part, settle, shapeStep, step, walk}
+use Rattle.meaning.specs.Items.{Con, cursor, span, rule, past, part, settle, shapeStep, step, walk}
 use Rattle.meaning.specs.Writing.{emit, blank, fitShape, next, fit, write, ends, endsLast}
 use Rattle.meaning.specs.Records.{fixedShape, fixed, roomShape, room}
 use Rattle.laws.specs.Bytes.{apart, and-true}

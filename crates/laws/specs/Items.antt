@@ -1,21 +1,20 @@
 -- One item, written and read, read and written: a law for each kind of shape, over its own bytes alone. Assumes nothing.
-use mathlib.Core.Path.{_≡_, refl, sym, ap, ap₂, _∙_}
-use Prim.Native.Nat.{ℕ, zero, suc, _+_, _-_, _*_, _/_, _%_, _^_, _<_, _≤_}
+use mathlib.Core.Path.{_≡_, refl, sym, ap, _∙_}
+use Prim.Native.Nat.{ℕ, suc, _+_, _-_, _%_, _^_, _<_}
 use native.Mathlib.Omega.{arith}
-use mathlib.Core.Bool.{Bool, true, false, not, _&&_, cond}
-use mathlib.Core.List.{List, [], _∷_, _++_, append-nil}
-use lib.ListN.{length, take, drop, replicate, length-append, length-replicate}
+use mathlib.Core.Bool.{true, _&&_, cond}
+use mathlib.Core.List.{List, [], _++_}
+use lib.ListN.{length, take, length-append, length-replicate}
 use lib.Seq.{length-take-le, take-at}
 use lib.Dec.{leb, eqb, ltb}
-use borrow.Author.Tests.{lt-ltb, ltb-true, le-leb, leb-true, eq-eqb, eqb-true, ne-eqb, eqb-false}
-use Rattle.meaning.specs.Bytes.{ones}
+use borrow.Author.Tests.{lt-ltb, ltb-true, le-leb, leb-true, eq-eqb, eqb-true}
 use Rattle.meaning.specs.declared.Cursor.{Cursor}
 use Rattle.meaning.specs.declared.Shape.{Shape}
 use Rattle.meaning.specs.declared.Shape.the-variants.{Number, Ignored, Count, Size, Times, Earlier, Registers, Filled, Abi, Limit, Listed, Bytes, Pad, Name}
 use Rattle.meaning.specs.Bytes.{num, spell, zeros, zeroIn, small, nonzero, keep}
 use Rattle.meaning.specs.Items.{Con, con, bytes, span, rule, holds}
 use Rattle.meaning.specs.Writing.{emit, number, blank, listed, fitShape, kept, ends}
-use Rattle.laws.specs.Bytes.{apart, and-true, true-and, con-of, nil-of, length-spell, num-spell, small-spell, spell-num, num-lt, small-append, small-zeros, small-take, small-drop, take-length-by, listed-back, keep-all, length-keep, zero-after, nonzero-before}
+use Rattle.laws.specs.Bytes.{and-true, true-and, con-of, nil-of, length-spell, num-spell, small-spell, spell-num, num-lt, small-append, small-zeros, small-take, take-length-by, listed-back, keep-all, zero-after, nonzero-before, unbroken}
 
 -- an item's bytes, as written, are as many as it takes; they break no rule, and hold what was to be written
 unfoldable pub Wrote : Shape → Cursor → Con → Type 0
@@ -112,10 +111,6 @@ unfolding listed
 listed-fit k ys s e = true-and (eqb (length ys) k) (small ys) (eq-eqb _ _ (sym e)) s
 
 -- a rule that is not broken
-unbroken : (t : Bool) (why : ℕ) → 0 < why → cond t 0 why ≡ 0 → t ≡ true
-unbroken true why p e = refl
-unbroken false why p e = absurd (omega arith)
-
 zeros-back : (k : ℕ) (ys : List ℕ) → k ≡ length ys → zeros k ≡ keep 0 ys
 unfolding keep
 zeros-back k ys e = let g : k ≡ length ys - 0 = omega arith in ap (λ (n : ℕ). zeros n) g

@@ -1,4 +1,6 @@
 pub mod Bytes
+pub mod Put
+pub mod Rings
 pub mod Items
 pub mod There
 pub mod Again

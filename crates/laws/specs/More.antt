@@ -1,15 +1,15 @@
 -- What follows: the size of what is written, that it is clean, and that cleaning keeps the length. Turns of a writer's loops.
 -- Assumes nothing.
-use mathlib.Core.Path.{_≡_, refl, sym, ap, ap₂, _∙_}
-use Prim.Native.Nat.{ℕ, zero, suc, _+_, _-_, _*_, _/_, _%_, _^_, _<_, _≤_}
+use mathlib.Core.Path.{_≡_, sym, ap, _∙_}
+use Prim.Native.Nat.{ℕ, _+_, _%_, _^_, _<_, _≤_}
 use native.Mathlib.Nat.{add-zero}
 use native.Mathlib.Numerals.{add-one}
 use native.Mathlib.Omega.{arith}
-use mathlib.Core.Bool.{Bool, true, false, not, _&&_, cond}
+use mathlib.Core.Bool.{true, false, _&&_, cond}
 use mathlib.Core.List.{List, [], _∷_, _++_}
-use lib.ListN.{length, getD, take, drop, length-append}
+use lib.ListN.{length, getD, drop, length-append}
 use lib.Seq.{drop-cons}
-use lib.Dec.{leb, eqb, ltb}
+use lib.Dec.{eqb, ltb}
 use borrow.Author.Tests.{ltb-true, eqb-true}
 use Rattle.meaning.specs.declared.Cursor.{Cursor}
 use Rattle.meaning.specs.declared.Item.{Item}
@@ -17,7 +17,7 @@ use Rattle.meaning.specs.declared.Shape.{Shape}
 use Rattle.meaning.specs.Bytes.{small}
 use Rattle.meaning.specs.Items.{Con, span}
 use Rattle.meaning.specs.Writing.{emit, blank, fitShape, next, nexts, fit, write, ends}
-use Rattle.meaning.specs.Records.{Layout, Value, origin, checkBy, value, sizeOf, header, fieldBytes, written, writeRecord, fitsBy, fits, cleanedRecord}
+use Rattle.meaning.specs.Records.{Layout, Value, origin, checkBy, value, header, fieldBytes, written, writeRecord, fitsBy, fits, cleanedRecord}
 use Rattle.laws.specs.Bytes.{apart, and-true}
 use Rattle.laws.specs.Items.{Wrote, wrote}
 use Rattle.laws.specs.There.{next-at}

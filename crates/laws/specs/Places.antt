@@ -1,6 +1,6 @@
 -- The reader's numbers, places and counts mean the contents that it read, wherever the places lie. Assumes nothing.
 use mathlib.Core.Path.{_≡_, refl, sym, ap, ap₂, _∙_}
-use Prim.Native.Nat.{ℕ, zero, suc, _+_, _-_, _*_, _<_, _≤_}
+use Prim.Native.Nat.{ℕ, _+_, _-_, _*_}
 use native.Mathlib.Nat.{mul-one}
 use native.Mathlib.Omega.{arith}
 use mathlib.Core.Bool.{Bool, true, false, _&&_, cond}
@@ -13,7 +13,7 @@ use Rattle.meaning.specs.declared.Cursor.{Cursor}
 use Rattle.meaning.specs.declared.Item.{Item}
 use Rattle.meaning.specs.declared.Shape.{Shape}
 use Rattle.meaning.specs.declared.Shape.the-variants.{Number, Ignored, Count, Size, Times, Earlier, Registers, Filled, Abi, Limit, Listed, Bytes, Pad, Name}
-use Rattle.meaning.specs.Bytes.{num, zeroIn}
+use Rattle.meaning.specs.Bytes.{zeroIn}
 use Rattle.meaning.specs.Items.{Con, con, span, holds, part, step, content, contents}
 use Rattle.meaning.specs.Values.{Slot, slot, lists, unit, held, beyond, means, slotShape, slots}
 use Rattle.laws.specs.Bytes.{take-length-by}

@@ -1,19 +1,18 @@
 -- What is written reads back: one step, and one induction over the items. Assumes nothing.
 use mathlib.Core.Path.{_≡_, refl, sym, ap, ap₂, _∙_}
-use Prim.Native.Nat.{ℕ, zero, suc, _+_, _-_, _*_, _/_, _%_, _^_, _<_, _≤_}
+use Prim.Native.Nat.{ℕ, _+_}
 use native.Mathlib.Nat.{add-zero}
 use native.Mathlib.Omega.{arith}
-use mathlib.Core.Bool.{Bool, true, false, not, _&&_, cond}
-use mathlib.Core.List.{List, [], _∷_, _++_, append-nil}
+use mathlib.Core.Bool.{Bool, true, false, cond}
+use mathlib.Core.List.{List, [], _∷_, _++_}
 use lib.ListN.{length, take, drop, length-append}
 use lib.Seq.{take-at, drop-at, drop-drop}
-use lib.Dec.{leb, eqb, ltb}
 use borrow.Author.Tests.{le-leb, eq-eqb}
 use Rattle.meaning.specs.declared.Cursor.{Cursor}
 use Rattle.meaning.specs.declared.Item.{Item}
 use Rattle.meaning.specs.declared.Shape.{Shape}
 use Rattle.meaning.specs.Bytes.{small}
-use Rattle.meaning.specs.Items.{Con, con, span, rule, holds, past, part, settle, shapeStep, step, walk, content, contents}
+use Rattle.meaning.specs.Items.{Con, span, holds, past, part, settle, shapeStep, step, walk, content, contents}
 use Rattle.meaning.specs.Writing.{emit, blank, fitShape, next, fit, write, ends, endsLast}
 use Rattle.laws.specs.Bytes.{apart, and-true, small-append}
 use Rattle.laws.specs.Items.{Wrote, wrote, blank-is}

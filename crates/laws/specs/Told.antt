@@ -7,7 +7,7 @@ use mathlib.Core.List.{List, [], _∷_, _++_, append-assoc}
 use lib.ListN.{length, take, drop, getD, length-append, length-replicate}
 use lib.Seq.{take-length, length-take-le, take-at, drop-at, drop-drop, take-append-add, drop-append-add, take-all}
 use lib.Dec.{leb, eqb}
-use borrow.Author.Tests.{le-leb, leb-true}
+use borrow.Author.Tests.{leb-true}
 use Rattle.meaning.specs.declared.Attributes.{Attributes}
 use Rattle.meaning.specs.declared.Cursor.{Cursor}
 use Rattle.meaning.specs.declared.Item.{Item}
@@ -18,6 +18,7 @@ use Rattle.meaning.specs.Schema.{schemas, trailer, trails}
 use Rattle.meaning.specs.Records.{Layout, layout, room, kindOf, miscOf, sizeOf, origin, fieldsOf, checkBy, bodyOf, tailOf, value}
 use Rattle.meaning.specs.Values.{tell, width, words, wordsBy, recordWords, means, slotsTold, anyBeyond, meant, spareBy, spare, slotItem}
 use Rattle.laws.specs.Bytes.{apart, and-true, true-and}
+use Rattle.laws.specs.Put.{put-fits}
 use Rattle.laws.specs.Fixed.{fixed-run}
 use Rattle.laws.specs.Answers.{fields-zero, check-zero}
 use Rattle.laws.specs.Whole.{Sound}
@@ -60,10 +61,6 @@ drop-over n xs ys h =
     let e : n ≡ length xs + (n - length xs) = omega arith in
     ap (λ (k : ℕ). drop k (xs ++ ys)) e ∙ drop-append-add xs ys (n - length xs)
 
-put-in : (d : List ℕ) (at : ℕ) (s : List ℕ) → at + length s ≤ length d → put d at s ≡ take at d ++ s ++ drop (at + length s) d
-unfolding put
-put-in d at s h = rw (le-leb (at + length s) (length d) h)
-
 -- ---- the words in their places
 
 module _ (k m s : ℕ) (W T : List ℕ) (wide : length W ≤ 45) (few : length T ≤ 8) where
@@ -72,7 +69,7 @@ module _ (k m s : ℕ) (W T : List ℕ) (wide : length W ≤ 45) (few : length T
 
   first-put : put (k ∷ m ∷ s ∷ zeros 53) 3 W ≡ k ∷ m ∷ s ∷ (W ++ zeros (53 - length W))
   first-put =
-      put-in (k ∷ m ∷ s ∷ zeros 53) 3 W (omega arith)
+      put-fits (k ∷ m ∷ s ∷ zeros 53) 3 W (omega arith)
       ∙ ap (λ (l : List ℕ). k ∷ m ∷ s ∷ (W ++ l)) (sym (drop-drop (length W) 3 (k ∷ m ∷ s ∷ zeros 53)) ∙ drop-zeros (length W) 53)
 
   second-put : put (k ∷ m ∷ s ∷ (W ++ zeros (53 - length W))) 48 T ≡ laid
@@ -89,7 +86,7 @@ module _ (k m s : ℕ) (W T : List ℕ) (wide : length W ≤ 45) (few : length T
       sym (drop-drop (length T) 48 d)
       ∙ ap (λ (l : List ℕ). drop (length T) l) (drop-over 45 W Z wide ∙ drop-zeros (45 - w) (53 - w) ∙ ap (λ (n : ℕ). zeros n) n₁)
       ∙ drop-zeros (length T) 8 in
-      put-in d 48 T (omega (arith, lX, lZ))
+      put-fits d 48 T (omega (arith, lX, lZ))
       ∙ ap₂ (λ (a b : List ℕ). (k ∷ m ∷ s ∷ a) ++ T ++ b) front back
       ∙ append-assoc (k ∷ m ∷ s ∷ (W ++ zeros (45 - w))) T (zeros (8 - length T))
       ∙ ap (λ (l : List ℕ). k ∷ m ∷ s ∷ l) (append-assoc W (zeros (45 - w)) (T ++ zeros (8 - length T)))

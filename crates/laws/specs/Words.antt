@@ -1,7 +1,7 @@
 -- The words of a record that decodes tell the writer what the reader read: the same numbers, and places and counts of the same bytes, all of
 -- them inside the record. Assumes nothing.
 use mathlib.Core.Path.{_≡_, refl, sym, ap, ap₂, _∙_, subst}
-use Prim.Native.Nat.{ℕ, zero, suc, _+_, _-_, _*_, _<_, _≤_}
+use Prim.Native.Nat.{ℕ, zero, suc, _+_, _*_, _≤_}
 use native.Mathlib.Nat.{mul-one}
 use native.Mathlib.Omega.{arith}
 use mathlib.Core.Bool.{Bool, true, false, _&&_, cond}
@@ -17,7 +17,7 @@ use Rattle.meaning.specs.declared.Shape.the-variants.{Number, Ignored, Count, S
 use Rattle.meaning.specs.Bytes.{num, zeroIn}
 use Rattle.meaning.specs.Items.{Con, con, span, rule, holds, counted, before, past, part, shapeStep, step, walk, content, contents}
 use Rattle.meaning.specs.Values.{Slot, slot, lists, unit, held, beyond, anyBeyond, means, slotShape, slotItem, tell, wordsOf, words, slotTold, slotOff, lastTold, beforeTold, slotsTold}
-use Rattle.laws.specs.Bytes.{apart, and-true, take-length-by}
+use Rattle.laws.specs.Bytes.{apart, and-true, take-length-by, unbroken}
 use Rattle.laws.specs.There.{item}
 use Rattle.laws.specs.Again.{fine, fine₁, stepped, taken, past-at}
 
@@ -93,10 +93,6 @@ agree-off Pad s n old c g = g
 agree-off Name s n old c g = g
 
 -- a rule that is not broken
-unbroken : (t : Bool) (why : ℕ) → 0 < why → cond t 0 why ≡ 0 → t ≡ true
-unbroken true why p e = refl
-unbroken false why p e = absurd (omega arith)
-
 kept-on : (s : Seen) (n old : ℕ) (c : Cursor) (k : ℕ) → Agree s n old c → Agree s n old (record { at = c .at + k; n = c .n; old = c .old; why = c .why })
 kept-on s n old c k g = record { last = g .last; earlier = g .earlier; most = g .most }
 
@@ -234,14 +230,14 @@ one-told true sh src F m c s n old rest e l z h g a =
     let R : List ℕ = drop (c .at) F in
     let st : step F (item true sh) c ≡ shapeStep sh c R = stepped true sh F c z in
     let p = taken sh c R (ap (λ (d : Cursor). d .why) (sym st) ∙ h) in
-    let f : step F (item true sh) c ≡ past sh (holds sh c (part sh c R)) (length (part sh c R)) c = st ∙ p .3 in
+    let f : step F (item true sh) c ≡ past sh (holds sh c (part sh c R)) (length (part sh c R)) c = st ∙ p .is in
     let d = length-drop (c .at) F in
-    let q : length (part sh c R) ≤ length R = p .0 in
-    let t = shape-told sh src F m c s n old rest e l (p .0) (p .1) (p .2) g a in
+    let q : length (part sh c R) ≤ length R = omega (arith, p .there, p .long) in
+    let t = shape-told sh src F m c s n old rest e l q (p .long) (p .kept) g a in
     record {
       means = t .0;
       inside = t .1;
-      agree = subst (λ (x : Cursor). Agree (seen true sh s) (lastTold sh n (getD (tell sh (slotShape sh c (part sh c R)) ++ rest) 0 0)) (beforeTold sh n old) x) (sym f) (agree-on sh s n old c (part sh c R) rest (p .2) g);
+      agree = subst (λ (x : Cursor). Agree (seen true sh s) (lastTold sh n (getD (tell sh (slotShape sh c (part sh c R)) ++ rest) 0 0)) (beforeTold sh n old) x) (sym f) (agree-on sh s n old c (part sh c R) rest (p .kept) g);
       within = subst (λ (x : Cursor). x .at ≤ length F) (sym f) (past-at sh (holds sh c (part sh c R)) (length (part sh c R)) c (length F) (omega (arith, q, d, l)));
     }
 one-told false sh src F m c s n old rest e l z h g a =

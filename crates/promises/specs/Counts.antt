@@ -1,18 +1,17 @@
 -- "Trailer, read values and registers share one fact over the count": eight bytes for each word that is chosen. Assumes nothing.
-use mathlib.Core.Path.{_≡_, refl, sym, ap, _∙_}
-use mathlib.Core.Bool.{Bool, true, false, cond, not, _&&_}
+use mathlib.Core.Path.{_≡_, refl, ap, _∙_}
+use mathlib.Core.Bool.{Bool, true, false, cond}
 use mathlib.Core.List.{List, [], _∷_, map}
-use Prim.Native.Nat.{ℕ, zero, suc, _+_, _*_, _/_, _%_, _<_}
+use Prim.Native.Nat.{ℕ, zero, suc, _+_, _*_, _/_, _%_}
 use native.Mathlib.Nat.{mod-lt}
 use native.Mathlib.Omega.{arith}
 use lib.Dec.{eqb}
 use borrow.Author.Tests.{eqb-true, eqb-false}
 use Rattle.meaning.specs.declared.Attributes.{Attributes}
-use Rattle.meaning.specs.declared.Item.{Item}
 use Rattle.meaning.specs.declared.Shape.the-variants.{Number, Registers}
 use Rattle.meaning.specs.declared.Width.the-variants.{W8}
 use Rattle.meaning.specs.Bytes.{bit, ones}
-use Rattle.meaning.specs.Items.{cursor, span, counted}
+use Rattle.meaning.specs.Items.{cursor, span}
 use Rattle.meaning.specs.Schema.{item, trails, trailer, readValues}
 use Rattle.meaning.specs.Records.{roomShape, room}
 

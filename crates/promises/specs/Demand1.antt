@@ -26,8 +26,9 @@ use Rattle.editions.specs.Cutting.{Cut, begin, cuttingBy, entries, total, Chain
 use Rattle.editions.specs.Promise.{Counted, nothingCut}
 use Rattle.editions.specs.Numbers.{recordNumbers, checkNumbers, stopNumbers, writeNumbers}
 use Rattle.editions.specs.InTable.{judge-in, judge-small, check-in, write-in}
-use Rattle.editions.specs.Put.{part-of}
-use Rattle.editions.specs.Frames.{frame-going, frame-stop, going-framed}
+use Rattle.laws.specs.Put.{part-of}
+use Rattle.laws.specs.Rings.{frame-stop}
+use Rattle.editions.specs.Frames.{frame-going, going-framed}
 use Rattle.editions.specs.Runs.{run-stop}
 use Rattle.editions.specs.Moves.{drain-counted}
 use Rattle.editions.specs.Journal.{answer-back, drain-cutting, drain-entry, drain-rest, drain-checked}

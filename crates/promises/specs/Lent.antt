@@ -1,9 +1,9 @@
 -- Demand 1, the reader that fills lent words: as record check answers; then 40 if there are fewer words than a value has. Refused: the words are
 -- unchanged. Accepted: the value, the rest unchanged. Assumes nothing.
 use mathlib.Core.Path.{_≡_, refl, ap, _∙_}
-use mathlib.Core.List.{List, [], _∷_}
-use mathlib.Core.Bool.{Bool, true, false, cond}
-use Prim.Native.Nat.{ℕ, _≤_}
+use mathlib.Core.List.{List, _∷_}
+use mathlib.Core.Bool.{true, cond}
+use Prim.Native.Nat.{ℕ}
 use native.Mathlib.Omega.{arith}
 use borrow.Author.Tests.{leb-true, eq-eqb, ne-eqb}
 use lib.Dec.{leb, eqb}

@@ -6,7 +6,6 @@
 use mathlib.Core.Path.{_≡_, sym, _∙_}
 use mathlib.Core.List.{List, map}
 use Prim.Native.Nat.{ℕ}
-use lib.ListN.{length}
 use lib.Seq.{slice}
 use contract.Lifetimes.{Lfts}
 use denote.Ref.{now, ptr}
@@ -21,8 +20,6 @@ use prog.Routine.{Routine}
 use prog.Wp.{Heap}
 use borrow.Fn.Kinds.{PK, RK, Out, Dens, resT, endedOf}
 use Rattle.meaning.specs.declared.Attributes.{Attributes}
-use Rattle.meaning.specs.Editions.{editions}
-use Rattle.meaning.specs.Values.{writeAnswer, writeBuffer}
 use Rattle.table.specs.Rows.{rows, itemOf}
 use Rattle.wire.proofs as wire
 use Rattle.fields.proofs as fields
