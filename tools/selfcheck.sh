@@ -12,14 +12,14 @@ for d in crates/*/; do
   name=$(basename "$d")
   grep -qE "^$name:" crates.txt || say "crate $name is not listed in crates.txt"
 done
-# the exports and the functions of the crates above `fields` refuse instead of asking
+# entry points refuse instead of asking: the exports, and the functions that stand at the top of these crates
 asks=$(awk '
   FNR == 1 { pub = 0 }
   /^(#\[no_mangle\] *)?pub (extern "C" )?fn|^pub extern/ { pub = 1; name = $0 }
   /^fn / { pub = 0 }
   /^{/ { pub = 0 }
   pub && /requires/ { print FILENAME ": " name; pub = 0 }
-' crates/{names,ring,drain,writer,ollskuvan}/src/*.rt 2>/dev/null)
+' crates/{names,ring,writer,ollskuvan}/src/lib.rt 2>/dev/null)
 [ -n "$asks" ] && say "a requires on an entry point: $asks"
 [ "$bad" -eq 0 ] && echo "selfcheck: layout, holes, list of crates, entry points: all fine"
 exit "$bad"

@@ -97,7 +97,7 @@ module _ (e : ℕ) (a : Attributes) (ring : List ℕ) (head tail : ℕ) (scratch
       let w = frame-going (allowed editions e) ring head tail 1 16 (length scratch) g in
       let h = w .header in
       ap (λ (s : List ℕ). shown ring s next) (one-taken editions e a ring head tail scratch g .1)
-      ∙ shown-record ring scratch next g (omega (arith, h)) (omega (arith, w .size-far, w .far)) (going-room (allowed editions e) ring head tail 1 16 (length scratch) g .1)
+      ∙ shown-record ring scratch next g (omega (arith, h)) (omega (arith, w .size-near, w .near)) (going-room (allowed editions e) ring head tail 1 16 (length scratch) g .1)
 
   -- "After a copy the scratch begins with the record and its other bytes are unchanged; that holds too if the body is then refused"
   pub one-scratch-copied : next .go ≡ true → whole ring (next .place) (next .size) ≡ false
@@ -108,7 +108,7 @@ module _ (e : ℕ) (a : Attributes) (ring : List ℕ) (head tail : ℕ) (scratch
       let m = going-room (allowed editions e) ring head tail 1 16 (length scratch) g .1 c in
       let l = going-framed (allowed editions e) ring head tail 1 16 (length scratch) next w .0 in
       let q : scratch-then ≡ put scratch 0 bytes = one-taken editions e a ring head tail scratch g .1
-      ∙ scratch-crosses ring (next .place) (next .size) scratch (omega (arith, h)) (omega (arith, w .size-far, w .far)) c in
+      ∙ scratch-crosses ring (next .place) (next .size) scratch (omega (arith, h)) (omega (arith, w .size-near, w .near)) c in
       rw q (put-holds scratch bytes (next .size) l m)
 
   -- "In all other cases the scratch is unchanged"

@@ -1,7 +1,7 @@
 -- A number is given for its own reason: the row of document 01's table that has it holds. Assumes nothing.
 use mathlib.Core.Path.{_≡_, refl, sym, ap, _∙_, subst}
 use mathlib.Core.List.{List, [], _∷_, _++_}
-use mathlib.Core.Bool.{Bool, true, false, cond, _&&_, _||_}
+use mathlib.Core.Bool.{Bool, true, false, cond, _&&_, _||_, or-true}
 use Prim.Native.Nat.{ℕ, _+_, _%_}
 use borrow.Author.Tests.{eq-eqb}
 use lib.Dec.{eqb}
@@ -22,10 +22,6 @@ abbrev pub stopRows : Bool → List ℕ → ℕ → ℕ → ℕ → ℕ → ℕ 
 stopRows ok ring head tail left journal scratch =
     ringRows ok ring head tail left journal
     ++ sizeRows ring (tail % length ring) (numberAt 2 ring (tail % length ring + 6)) (distance head tail) scratch
-
-or-true : (b : Bool) → (b || true) ≡ true
-or-true true = refl
-or-true false = refl
 
 stopped-append : (rs ss : List Refusal) (f : Frame) → stopped (rs ++ ss) f ≡ stopped rs (stopped ss f)
 unfolding stopped
