@@ -45,7 +45,7 @@ pub extern "C" fn ollskuvan_drain(
 {
     let a = attributes(sample, format, all, user, interrupt);
     let e = edition as u64;
-    drain::drain(ring, head, tail, e, a, budget, scratch, journal)
+    rapid::drain(ring, head, tail, e, a, budget, scratch, journal)
 }
 
 // The parameter is not named `record`, which is a word of the proofs' language.

@@ -122,3 +122,23 @@ module _ (xs : List ℕ) (ls bs cs : List Item) (at : ℕ) where
 
   pub all-three : (p q r : Place) → Ends xs ls at p → p .why ≡ 0 → Ends xs bs (p .at) q → q .why ≡ 0 → Ends xs cs (q .at) r → Ends xs (ls ++ (bs ++ cs)) at r
   all-three p q r h z g y f = (leaves-then xs ls (bs ++ cs) at p r (h .0) z (leaves-then xs bs cs (p .at) q r (g .0) y (f .0)), f .1)
+
+-- two of them
+module _ (xs : List ℕ) (ls bs : List Item) (at : ℕ) where
+  pub one-refuses : (p : Place) → Ends xs ls at p → (p .why ≡ 0 → ⊥) → Ends xs (ls ++ bs) at p
+  one-refuses p h z = (leaves-stuck xs ls bs at p (h .0) z, h .1)
+
+  pub both-end : (p q : Place) → Ends xs ls at p → p .why ≡ 0 → Ends xs bs (p .at) q → Ends xs (ls ++ bs) at q
+  both-end p q h z g = (leaves-then xs ls bs at p q (h .0) z (g .0), g .1)
+
+-- four stretches, the last up to the end
+pub all-closed : (xs : List ℕ) (ls bs cs ds : List Item) (at : ℕ) (p q r : Place) → Ends xs ls at p → p .why ≡ 0 → Ends xs bs (p .at) q → q .why ≡ 0
+    → Ends xs cs (q .at) r → r .why ≡ 0 → Leaves xs ds (r .at) (place (length xs) 0)
+    → closed (length xs) (walk xs (ls ++ (bs ++ (cs ++ ds))) (cursor at 0 0 0)) ≡ 0
+unfolding closedAt
+all-closed xs ls bs cs ds at p q r hp zp hq zq hr zr hl =
+    sym
+    (leaves-closed xs (ls ++ (bs ++ (cs ++ ds))) at (place (length xs) 0) (length xs)
+    (leaves-then xs ls (bs ++ (cs ++ ds)) at p (place (length xs) 0) (hp .0) zp
+    (leaves-then xs bs (cs ++ ds) (p .at) q (place (length xs) 0) (hq .0) zq (leaves-then xs cs ds (q .at) r (place (length xs) 0) (hr .0) zr hl))))
+    ∙ rw (eq-eqb (length xs) (length xs) refl)

@@ -1,4 +1,5 @@
-// The fast way through a record: what the attributes fix is computed once, and a record is judged by bounds in known order.
+// The fast way through a record: what the attributes fix is computed once, and a record is accepted by bounds in known order. What is not
+// accepted here is judged elsewhere.
 pub mod blocks;
 pub mod plan;
 pub mod quick;

@@ -1,185 +1,202 @@
 // The plan of a drain: what edition and attributes alone decide, made once.
 ghost use mathlib.Core.Path.{_≡_};
-ghost use mathlib.Core.Bool.{true, cond, not, _||_};
-ghost use mathlib.Core.List.{map};
-ghost use Prim.Native.Nat.{ℕ, _+_, _*_, _≤_, _<_};
-ghost use lib.ListN.{getD};
-ghost use lib.Seq.{slice};
-ghost use Rattle.meaning.specs.declared.Known.{Known};
+ghost use mathlib.Core.Bool.{true, false, cond, _||_};
+ghost use Prim.Native.Nat.{_+_, _*_, _%_, _≤_, _<_};
+ghost use Rattle.meaning.specs.Bytes.{bit};
 ghost use Rattle.meaning.specs.Editions.{unread};
-ghost use Rattle.meaning.specs.Records.{fixedShape, roomShape, room};
-ghost use Rattle.table.specs.Rows.{rows, itemOf};
-ghost use Rattle.swift.specs.Steady.{steady};
-ghost use Rattle.swift.specs.Plan.{nameStarts, Wanted, Facts};
+ghost use Rattle.meaning.specs.Schema.{readValues, sampleLast, trailer};
+ghost use Rattle.meaning.specs.Records.{room};
+ghost use Rattle.swift.specs.Plan.{front, groups, listed, late, Marked, Marks, Facts};
 use meaning::Attributes;
-use meaning::Item;
 use meaning::Known;
-use meaning::Shape;
 
-// Are all items so far of one width or off, and how many bytes are they?
-pub struct Measure {
-    pub steady: bool,
-    pub room: usize,
-}
-
-// The bytes of a shape of one width; 9 for any other, and for a wider one than the layouts have.
-fn width(shape: Shape) -> usize
-    ensures { λ r. ⌜ (r ≤ 9) × (r ≤ 8 → (fixedShape shape ≡ true) × (roomShape shape ≡ r)) ⌝ }
-{
-    match shape {
-        Shape::Number(w) => fields::width_of(w),
-        Shape::Ignored(k) => if k <= 8 { k } else { 9 },
-        _ => 9,
-    }
-}
-
-fn with_item(m: Measure, i: Item) -> Measure
-    requires { ⌜ m .room ≤ 10000 ⌝ }
-    ensures { λ r. ⌜ r .room ≤ m .room + 8 ⌝ }
-    ensures { λ r. ⌜ (r .steady ≡ true → (m .steady ≡ true) × ((fixedShape (i .shape) || not (i .on)) ≡ true) × (r .room ≡ m .room + cond (i .on) (roomShape (i .shape)) 0)) ⌝ }
-{
-    if !i.on {
-        return m;
-    }
-    let shape = i.shape;
-    let k = width(shape);
-    if k <= 8 {
-        return Measure {
-            steady: m.steady,
-            room: m.room + k,
-        };
-    }
-    Measure {
-        steady: false,
-        room: m.room,
-    }
-}
-
-// The rows from `from` up to `to`, as the fields of a type.
-fn measured(a: Attributes, kind: u64, from: usize, to: usize) -> Measure
-    requires { ⌜ from ≤ to ⌝ }
-    requires { ⌜ to ≤ 129 ⌝ }
-    ensures { λ r. ⌜ r .room ≤ 1032 ⌝ }
-    ensures { λ r. ⌜ (r .steady ≡ true → (steady (map (itemOf a 0 kind) (slice from to rows)) ≡ true) × (r .room ≡ room (map (itemOf a 0 kind) (slice from to rows)))) ⌝ }
-{
-    let mut m = Measure {
-        steady: true,
-        room: 0,
-    };
-    let mut k = from;
-    while k < to {
-        m = with_item(m, table::item_of(a, 0, kind, table::row_at(k)));
-        k += 1;
-    }
-    m
-}
-
-// The size at which a record of a type is accepted unread.
-fn want(known: Known, a: Attributes, kind: u64) -> u64
-    ensures { λ r. ⌜ (r < 65536 → Wanted known a kind r) ⌝ }
-{
-    if record::unread(known, a, kind, 0) != 0 {
-        return 65536;
-    }
-    let p = table::part_of(kind);
-    let from = p.from;
-    let to = p.to;
-    let m = measured(a, kind, from, to);
-    if !m.steady {
-        return 65536;
-    }
-    (8 + m.room + record::trailer_room(kind, a)) as u64
-}
-
-const NAME_STARTS: [u64; 32] = [
-    0,
-    40,
-    0,
-    16,
-    0,
-    0,
-    0,
-    0,
-    0,
-    0,
-    72,
-    0,
-    0,
-    0,
-    0,
-    0,
-    0,
+// By type: the bytes of header and fields, where all are of one width; 65,536 and the place where a name starts; or 65,536.
+const BASES: [u64; 21] = [
+    65536,
+    65576,
     24,
-    0,
+    65552,
+    32,
+    32,
+    32,
+    32,
+    65536,
+    65536,
+    65608,
+    32,
     16,
-    0,
-    0,
-    0,
-    0,
-    0,
-    0,
-    0,
-    0,
-    0,
-    0,
-    0,
-    0,
+    16,
+    8,
+    16,
+    65536,
+    65560,
+    65536,
+    65552,
+    65536,
 ];
 
-// Where the name of a record of a type starts, where the edition reads the type.
-fn start(known: Known, a: Attributes, kind: usize) -> u64
-    requires { ⌜ kind < 32 ⌝ }
-    ensures { λ r. ⌜ ((r ≡ 0 → ⊥) → (unread known a kind 0 ≡ 0) × (r ≡ getD nameStarts kind 0)) ⌝ }
+fn eight(x: u64, b: u64) -> u64
+    requires { ⌜ b < 64 ⌝ }
+    ensures { λ r. ⌜ (r ≡ cond (bit x b) 8 0) × (r ≤ 8) × (r % 8 ≡ 0) ⌝ }
 {
-    if record::unread(known, a, kind as u64, 0) != 0 {
-        return 0;
-    }
-    NAME_STARTS[kind]
+    if wire::has_bit(x, b) { 8 } else { 0 }
 }
 
-pub fn sizes(known: Known, a: Attributes) -> [u64; 32]
-    ensures { λ r. ⌜ ((kind : ℕ) → kind < 32 → getD r kind 0 < 65536 → Wanted known a kind (getD r kind 0)) ⌝ }
+// Read values of a group.
+fn groups(a: Attributes) -> bool
+    ensures { λ r. ⌜ r ≡ groups a ⌝ }
+{
+    wire::has_bit(a.sample, 4) & wire::has_bit(a.format, 3)
+}
+
+// Callchain, raw, branches, user registers, user stack.
+fn listed(a: Attributes) -> bool
+    ensures { λ r. ⌜ r ≡ listed a ⌝ }
+{
+    let x = a.sample;
+    wire::has_bit(x, 5)
+        | (wire::has_bit(x, 10)
+            | (wire::has_bit(x, 11) | (wire::has_bit(x, 12) | wire::has_bit(x, 13))))
+}
+
+// Interrupt registers, aux.
+fn late(a: Attributes) -> bool
+    ensures { λ r. ⌜ r ≡ late a ⌝ }
+{
+    wire::has_bit(a.sample, 18) | wire::has_bit(a.sample, 20)
+}
+
+// The bytes of the read values, where there is no group.
+fn read_room(a: Attributes) -> u64
+    ensures { λ r. ⌜ (bit (a .format) 3 ≡ false → r ≡ room (readValues a true)) × (r ≤ 32) × (r % 8 ≡ 0) ⌝ }
+{
+    let x = a.format;
+    8 + (eight(x, 0) + (eight(x, 1) + eight(x, 2)))
+}
+
+// Those of a SAMPLE.
+fn reads(a: Attributes) -> u64
+    ensures { λ r. ⌜ (groups a ≡ false → r ≡ room (readValues a (bit (a .sample) 4))) × (r ≤ 32) × (r % 8 ≡ 0) ⌝ }
+{
+    if wire::has_bit(a.sample, 4) {
+        read_room(a)
+    } else {
+        0
+    }
+}
+
+// The bytes of a SAMPLE's first fields, with its read values.
+fn first_room(a: Attributes) -> u64
+    ensures { λ r. ⌜ (groups a ≡ false → r ≡ room (front a)) × (r ≤ 104) × (r % 8 ≡ 0) ⌝ }
+{
+    let x = a.sample;
+    let low = eight(x, 16) + (eight(x, 0) + (eight(x, 1) + (eight(x, 2) + eight(x, 3))));
+    let high = eight(x, 6) + (eight(x, 9) + (eight(x, 7) + eight(x, 8)));
+    low + (high + reads(a))
+}
+
+// Weight, by either of two bits.
+fn weight(a: Attributes) -> u64
+    ensures { λ r. ⌜ (r ≡ cond (bit (a .sample) 14 || bit (a .sample) 24) 8 0) × (r ≤ 8) × (r % 8 ≡ 0) ⌝ }
+{
+    if wire::has_bit(a.sample, 14) | wire::has_bit(a.sample, 24) {
+        8
+    } else {
+        0
+    }
+}
+
+// The bytes of its last fields.
+fn last_room(a: Attributes) -> u64
+    ensures { λ r. ⌜ (late a ≡ false → r ≡ room (sampleLast a)) × (r ≤ 56) × (r % 8 ≡ 0) ⌝ }
+{
+    let x = a.sample;
+    let low = eight(x, 15) + (eight(x, 17) + eight(x, 19));
+    let high = eight(x, 21) + (eight(x, 22) + eight(x, 23));
+    weight(a) + (low + high)
+}
+
+// SAMPLE
+fn sample_mark(known: Known, a: Attributes) -> u64
+    ensures { λ r. ⌜ Marked known a 9 r ⌝ }
+{
+    if record::unread(known, a, 9, 0) != 0 {
+        return 65536;
+    }
+    if groups(a) | late(a) {
+        return 65536;
+    }
+    if listed(a) {
+        return 65537;
+    }
+    8 + (first_room(a) + last_room(a))
+}
+
+// READ
+fn read_mark(known: Known, a: Attributes, trail: u64) -> u64
+    requires { ⌜ trail ≡ room (trailer 1 a) ⌝ }
+    requires { ⌜ trail ≤ 48 ⌝ }
+    ensures { λ r. ⌜ Marked known a 8 r ⌝ }
+{
+    if record::unread(known, a, 8, 0) != 0 {
+        return 65536;
+    }
+    if wire::has_bit(a.format, 3) {
+        return 65536;
+    }
+    16 + (read_room(a) + trail)
+}
+
+// Any other type, where the edition knows the sample bits of the trailer.
+fn type_mark(known: Known, a: Attributes, trail: u64, kind: usize) -> u64
+    requires { ⌜ 1 ≤ kind ⌝ }
+    requires { ⌜ kind < 21 ⌝ }
+    requires { ⌜ unread known a 1 0 ≡ 0 ⌝ }
+    requires { ⌜ trail ≡ room (trailer 1 a) ⌝ }
+    requires { ⌜ trail ≤ 48 ⌝ }
+    ensures { λ r. ⌜ Marked known a kind r ⌝ }
+{
+    if known.kinds < kind as u64 {
+        return 65536;
+    }
+    let b = BASES[kind];
+    if b < 65536 { b + trail } else { b }
+}
+
+// All types but READ and SAMPLE.
+fn type_marks(known: Known, a: Attributes, trail: u64) -> [u64; 32]
+    requires { ⌜ trail ≡ room (trailer 1 a) ⌝ }
+    requires { ⌜ trail ≤ 48 ⌝ }
+    ensures { λ r. ⌜ Marks known a r ⌝ }
 {
     let mut p = [65536u64; 32];
-    let mut k: usize = 0;
-    while k < 32 {
-        p[k] = want(known, a, k as u64);
+    if record::unread(known, a, 1, 0) != 0 {
+        return p;
+    }
+    let mut k: usize = 1;
+    while k < 21 {
+        p[k] = type_mark(known, a, trail, k);
         k += 1;
     }
     p
 }
 
-pub fn starts(known: Known, a: Attributes) -> [u64; 32]
-    ensures { λ r. ⌜ ((kind : ℕ) → kind < 32 → (getD r kind 0 ≡ 0 → ⊥) → (unread known a kind 0 ≡ 0) × (getD r kind 0 ≡ getD nameStarts kind 0)) ⌝ }
+pub fn marks(known: Known, a: Attributes) -> [u64; 32]
+    ensures { λ r. ⌜ Marks known a r ⌝ }
 {
-    let mut p = [0u64; 32];
-    let mut k: usize = 0;
-    while k < 32 {
-        p[k] = start(known, a, k);
-        k += 1;
-    }
+    let trail = record::trailer_room(1, a) as u64;
+    let mut p = type_marks(known, a, trail);
+    p[8] = read_mark(known, a, trail);
+    p[9] = sample_mark(known, a);
     p
 }
 
-// The trailer's bytes; the sums of a SAMPLE's first and last fields; the bytes of its registers; 1 where it may be walked in stretches.
-pub fn facts(known: Known, a: Attributes) -> [u64; 8]
-    ensures { λ r. ⌜ Facts known a r ⌝ }
+pub fn facts(a: Attributes) -> [u64; 8]
+    ensures { λ r. ⌜ Facts a r ⌝ }
 {
-    let first = measured(a, 9, 36, 54);
-    let last = measured(a, 9, 66, 77);
-    let readable = record::unread(known, a, 9, 0) == 0;
-    let ok = readable & (first.steady & last.steady);
-    let stride: u64 = if ok { 1 } else { 0 };
-    let wide = wire::count_ones(a.user) * 8;
-    let trailer = record::trailer_room(1, a);
-    [
-        trailer as u64,
-        first.room as u64,
-        last.room as u64,
-        wide as u64,
-        stride,
-        0,
-        0,
-        0,
-    ]
+    let trail = record::trailer_room(1, a) as u64;
+    let first = first_room(a);
+    let last = last_room(a);
+    let wide = (wire::count_ones(a.user) * 8) as u64;
+    [trail, first, last, wide, 0, 0, 0, 0]
 }
