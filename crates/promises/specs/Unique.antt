@@ -29,6 +29,7 @@ use Rattle.names.proofs as names
 use Rattle.ring.proofs as ring
 use Rattle.reader.proofs as reader
 use Rattle.drain.proofs as drains
+use Rattle.rapid.proofs as rapid
 use Rattle.ollskuvan.proofs as ollskuvan
 use Rattle.writer.proofs as writer
 
@@ -351,6 +352,17 @@ drain-journal κs a x y s t p q = same (p .1 .0) (q .1 .0)
 
 pub drain-scratch : Seen drains.drain.Kinds.ps drains.drain.Kinds.r drains.drain.Reads.Learnt (λ κs x s. now (s .1 .1 .1 .1 .1 .1 .0))
 drain-scratch κs a x y s t p q = same (p .1 .1) (q .1 .1)
+
+-- ---- rapid: the fast drain, under the same contract
+
+pub rapid-told : Result rapid.drain.Kinds.ps rapid.drain.Kinds.r rapid.drain.Reads.Learnt
+rapid-told κs a x y s t p q = same (p .0) (q .0)
+
+pub rapid-journal : Seen rapid.drain.Kinds.ps rapid.drain.Kinds.r rapid.drain.Reads.Learnt (λ κs x s. now (s .1 .1 .1 .1 .1 .1 .1 .0))
+rapid-journal κs a x y s t p q = same (p .1 .0) (q .1 .0)
+
+pub rapid-scratch : Seen rapid.drain.Kinds.ps rapid.drain.Kinds.r rapid.drain.Reads.Learnt (λ κs x s. now (s .1 .1 .1 .1 .1 .1 .0))
+rapid-scratch κs a x y s t p q = same (p .1 .1) (q .1 .1)
 
 -- ---- ollskuvan: what C calls
 
