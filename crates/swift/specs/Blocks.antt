@@ -1,25 +1,25 @@
 -- The lists of a SAMPLE, each as one straight piece: a count and its elements, raw, registers, stack. Assumes nothing.
 use mathlib.Core.Path.{_≡_, refl, sym, ap, _∙_, subst}
 use mathlib.Core.Bool.{Bool, true, false, cond, not}
-use mathlib.Core.List.{List, [], _∷_}
-use Prim.Native.Nat.{ℕ, _+_, _-_, _*_, _%_, _<_, _≤_}
+use mathlib.Core.List.{List, [], _∷_, _++_}
+use Prim.Native.Nat.{ℕ, zero, suc, _+_, _-_, _*_, _%_, _<_, _≤_}
 use native.Mathlib.Nat.{mul-one}
 use native.Mathlib.Omega.{arith}
-use lib.ListN.{length, take, drop}
+use lib.ListN.{length, take, drop, length-drop}
 use lib.Dec.{leb, eqb}
 use borrow.Author.Tests.{le-leb, lt-leb, leb-true, leb-false, eq-eqb, ne-eqb}
 use Rattle.meaning.specs.declared.Cursor.{Cursor}
 use Rattle.meaning.specs.declared.Item.{Item}
 use Rattle.meaning.specs.declared.Shape.{Shape}
-use Rattle.meaning.specs.declared.Shape.the-variants.{Number, Count, Size, Times, Registers, Filled, Abi, Bytes}
+use Rattle.meaning.specs.declared.Shape.the-variants.{Number, Ignored, Count, Size, Times, Earlier, Registers, Filled, Abi, Limit, Listed, Bytes, Pad, Name}
 use Rattle.meaning.specs.declared.Width.{Width}
-use Rattle.meaning.specs.declared.Width.the-variants.{W4, W8}
+use Rattle.meaning.specs.declared.Width.the-variants.{W1, W2, W4, W8}
 use Rattle.meaning.specs.Bytes.{num, numberAt, ones}
-use Rattle.meaning.specs.Items.{cursor, bytes, span, rule, holds, counted, before, step, walk}
+use Rattle.meaning.specs.Items.{cursor, refuse, bytes, span, rule, holds, counted, before, shapeStep, step, walk}
 use Rattle.meaning.specs.Schema.{item, keptWord}
 use Rattle.fields.proofs.Laws.{shape-out, shape-bad, shape-in}
 use Rattle.swift.specs.declared.Place.{Place}
-use Rattle.swift.specs.Seen.{place, seal, Leaves, stuck}
+use Rattle.swift.specs.Seen.{place, seal, Leaves, stuck, walk-append}
 
 -- ---- one item that is on, from a cursor that was not refused
 

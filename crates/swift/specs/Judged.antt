@@ -1,22 +1,23 @@
 -- What the judge answers for a record whose items are of one width, ends with a name, or is a SAMPLE that was walked in stretches. Assumes nothing.
-use mathlib.Core.Path.{_≡_, refl, sym, ap, _∙_}
-use mathlib.Core.Bool.{Bool, true, false, cond, _&&_}
+use mathlib.Core.Path.{_≡_, refl, sym, ap, _∙_, subst}
+use mathlib.Core.Bool.{Bool, true, false, cond, not, _&&_, _||_}
 use mathlib.Core.List.{List, [], _∷_, _++_}
-use Prim.Native.Nat.{ℕ, _+_, _-_, _≤_}
+use Prim.Native.Nat.{ℕ, zero, suc, _+_, _-_, _<_, _≤_}
 use native.Mathlib.Omega.{arith}
-use lib.ListN.{length, drop}
+use lib.ListN.{length, take, drop, length-drop}
 use lib.Seq.{length-take-le, take-all}
 use lib.Dec.{leb, ltb, eqb}
-use borrow.Author.Tests.{le-leb, leb-true, leb-false, ltb-true, ltb-false, eq-eqb}
+use borrow.Author.Tests.{le-leb, lt-leb, leb-true, leb-false, lt-ltb, ltb-true, ltb-false, eq-eqb}
 use Rattle.meaning.specs.declared.Attributes.{Attributes}
 use Rattle.meaning.specs.declared.Cursor.{Cursor}
 use Rattle.meaning.specs.declared.Item.{Item}
 use Rattle.meaning.specs.declared.Shape.the-variants.{Ignored, Limit, Listed, Name}
 use Rattle.meaning.specs.Bytes.{num, numberAt, zeroIn}
-use Rattle.meaning.specs.Items.{cursor, shapeStep, step, walk}
-use Rattle.meaning.specs.Schema.{always, trailer}
+use Rattle.meaning.specs.Refusals.{orElse}
+use Rattle.meaning.specs.Items.{cursor, refuse, shapeStep, step, walk}
+use Rattle.meaning.specs.Schema.{item, always, sample, trailer}
 use Rattle.meaning.specs.Records.{Layout, kindOf, miscOf, roomShape, room, origin, fieldsOf, closed, fieldsAnswer, judge}
-use Rattle.laws.specs.Bytes.{apart}
+use Rattle.laws.specs.Bytes.{apart, and-true}
 use Rattle.laws.specs.Words.{front}
 use Rattle.fields.proofs.Laws.{name-in, name-none, name-early, limit-in, as-listed}
 use Rattle.swift.specs.Seen.{walk-append}

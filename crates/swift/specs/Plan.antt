@@ -2,7 +2,7 @@
 use mathlib.Core.Path.{_≡_, refl, sym, ap, _∙_, subst}
 use mathlib.Core.Bool.{Bool, true, false, cond, not, _&&_, _||_}
 use mathlib.Core.List.{List, [], _∷_, _++_}
-use Prim.Native.Nat.{ℕ, zero, suc, _+_, _*_, _%_, _^_, _<_, _≤_}
+use Prim.Native.Nat.{ℕ, zero, suc, _+_, _-_, _*_, _%_, _^_, _<_, _≤_}
 use native.Mathlib.Omega.{arith}
 use lib.ListN.{length, drop, getD, set, replicate, length-set}
 use lib.Seq.{getD-set-same, getD-set-other}
@@ -16,11 +16,13 @@ use Rattle.meaning.specs.declared.Width.the-variants.{W4, W8}
 use Rattle.meaning.specs.declared.Shape.{Shape}
 use Rattle.meaning.specs.Bytes.{bit, ones, numberAt}
 use Rattle.meaning.specs.Refusals.{first}
-use Rattle.meaning.specs.Items.{walk}
+use Rattle.meaning.specs.declared.Cursor.{Cursor}
+use Rattle.meaning.specs.Items.{step, walk}
 use Rattle.meaning.specs.Editions.{unread}
-use Rattle.meaning.specs.Schema.{item, always, sampleFirst, readValues, sampleLast, sample, mmap2, schemas, schema, trailer, u32, u64, u16, tasks, threeWords}
-use Rattle.meaning.specs.Records.{layout, kindOf, miscOf, fixedShape, roomShape, room, origin, fieldsOf, closed, judge}
-use Rattle.laws.specs.Bytes.{apart, and-true}
+use Rattle.meaning.specs.Schema.{item, always, sampleFirst, readValues, sampleLast, sample, mmap2, schemas, schema, trailer, u32, u64, u16, tasks, threeWords, thread}
+use Rattle.meaning.specs.Records.{Layout, layout, kindOf, miscOf, fixedShape, roomShape, room, origin, fieldsOf, closed, judge}
+use Rattle.laws.specs.Bytes.{apart, and-true, true-and}
+use Rattle.laws.specs.Whole.{Sound}
 use Rattle.laws.specs.Every.{sound}
 use Rattle.swift.specs.Steady.{steady}
 use Rattle.swift.specs.Blocks.{countedList, branchList, rawBytes, registerList, stackBytes}
@@ -426,6 +428,9 @@ pub wanted : (k : Known) (a : Attributes) (kind n : ℕ) → n ≤ 60000 → Wan
 wanted k a kind n l w = record { fixed = λ h. w; stretched = λ h. absurd (omega (arith, h)); named = λ h. absurd (omega (arith, h)) }
 
 module _ (k : Known) (a : Attributes) (kind : ℕ) (u : unread k a 1 0 ≡ 0) (l : 1 ≤ kind) (i : kind < 21) (m : kind ≤ k .kinds) where
+  base : ℕ
+  base = getD bases kind 0
+
   not8 : (getD bases kind 0 ≡ 65536 → ⊥) → kind ≡ 8 → ⊥
   not8 x e = x (ap (λ (n : ℕ). getD bases n 0) e)
 

@@ -2,9 +2,9 @@
 use mathlib.Core.Path.{_≡_, refl, sym, ap, _∙_, subst}
 use mathlib.Core.Bool.{Bool, true, false, cond}
 use mathlib.Core.List.{List, [], _∷_, _++_}
-use Prim.Native.Nat.{ℕ, _+_, _≤_}
-use lib.ListN.{length}
-use lib.Dec.{eqb}
+use Prim.Native.Nat.{ℕ, zero, suc, _+_, _-_, _<_, _≤_}
+use lib.ListN.{length, drop}
+use lib.Dec.{leb, eqb}
 use borrow.Author.Tests.{eq-eqb, ne-eqb}
 use Rattle.meaning.specs.declared.Cursor.{Cursor}
 use Rattle.meaning.specs.declared.Item.{Item}
@@ -105,6 +105,12 @@ going xs is at k l h = (h, λ q. l)
 -- a stretch that is on or off, once it is known which
 pub as-known : (f : Bool → List Item) (xs : List ℕ) (at : ℕ) (p : Place) (b on : Bool) → on ≡ b → Ends xs (f b) at p → Ends xs (f on) at p
 as-known f xs at p b on e h = subst (λ (t : Bool). Ends xs (f t) at p) (sym e) h
+
+-- a refusal stands at the end
+pub closed-refused : (xs : List ℕ) (is : List Item) (at : ℕ) (p : Place) (end : ℕ) → Leaves xs is at p → (p .why ≡ 0 → ⊥) → p .why ≡ closed end (walk xs is (cursor at 0 0 0))
+unfolding closedAt
+closed-refused xs is at p end h z =
+    let e : p .why ≡ closedAt end p = rw (ne-eqb (p .why) 0 z) in e ∙ leaves-closed xs is at p end h
 
 -- three stretches, one after the other, each by what its piece of code returned
 module _ (xs : List ℕ) (ls bs cs : List Item) (at : ℕ) where

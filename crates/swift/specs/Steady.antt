@@ -1,22 +1,23 @@
 -- Items of one width, or off: their walk is one bound check of their sum. Assumes nothing.
 use mathlib.Core.Path.{_≡_, refl, sym, ap, _∙_}
 use mathlib.Core.Bool.{Bool, true, false, cond, not, _&&_, _||_}
-use mathlib.Core.List.{List, [], _∷_}
+use mathlib.Core.List.{List, [], _∷_, _++_}
 use mathlib.Core.Logic.{_⊎_, inl, inr, ⊎-elim}
-use Prim.Native.Nat.{ℕ, _+_, _<_, _≤_}
+use Prim.Native.Nat.{ℕ, zero, suc, _+_, _-_, _<_, _≤_}
 use native.Mathlib.Nat.{add-zero, add-assoc}
 use native.Mathlib.Omega.{arith}
-use lib.ListN.{length, drop}
-use lib.Dec.{leb}
-use borrow.Author.Tests.{leb-true, leb-false}
+use lib.ListN.{length, take, drop, length-drop}
+use lib.Dec.{leb, eqb}
+use borrow.Author.Tests.{leb-true, leb-false, eq-eqb, ne-eqb}
 use Rattle.meaning.specs.declared.Cursor.{Cursor}
 use Rattle.meaning.specs.declared.Item.{Item}
 use Rattle.meaning.specs.declared.Shape.{Shape}
 use Rattle.meaning.specs.declared.Shape.the-variants.{Number, Ignored, Count, Size, Times, Earlier, Registers, Filled, Abi, Limit, Listed, Bytes, Pad, Name}
-use Rattle.meaning.specs.Items.{cursor, bytes, span, rule, holds, counted, before, shapeStep, step, walk}
+use Rattle.meaning.specs.Items.{cursor, refuse, bytes, span, rule, holds, counted, before, shapeStep, step, walk}
 use Rattle.meaning.specs.Records.{fixedShape, roomShape, room}
 use Rattle.laws.specs.Bytes.{apart, and-true}
 use Rattle.fields.proofs.Laws.{shape-out, shape-in}
+use Rattle.swift.specs.declared.Place.{Place}
 use Rattle.swift.specs.Seen.{place, seal, Leaves, stuck}
 
 -- every item is of one width or off; `room` is then their sum

@@ -3,7 +3,7 @@ ghost use mathlib.Core.Path.{_≡_};
 ghost use mathlib.Core.Bool.{true};
 ghost use Prim.Native.Nat.{_+_, _-_, _*_, _%_, _≤_, _<_};
 ghost use lib.ListN.{length};
-ghost use Rattle.meaning.specs.Bytes.{ones};
+ghost use Rattle.meaning.specs.Bytes.{bit, ones};
 ghost use Rattle.meaning.specs.Items.{walk};
 ghost use Rattle.meaning.specs.Records.{room, origin, fieldsOf, closed};
 ghost use Rattle.meaning.specs.Schema.{sample, sampleLast};

@@ -1,14 +1,17 @@
 -- `blocks::counted` meets its contract. Assumes nothing.
-use mathlib.Core.Path.{_≡_, ap, subst}
-use mathlib.Core.Bool.{Bool, true, false}
+use mathlib.Core.Path.{_≡_, refl, sym, ap, _∙_, subst}
+use mathlib.Core.Bool.{Bool, true, false, not}
 use mathlib.Core.List.{List}
-use Prim.Native.Nat.{ℕ, _+_, _*_, _≤_}
+use Prim.Native.Nat.{ℕ, _+_, _-_, _*_, _%_, _<_, _≤_}
 use native.Mathlib.Omega.{arith}
+use lib.ListN.{length}
 use denote.Ref.{now}
 use borrow.Author.Needs.{needs}
-use borrow.Author.Tests.{not-true, not-false}
+use borrow.Author.Tests.{not-true, not-false, eq-eqb, ne-eqb}
+use Rattle.meaning.specs.declared.Item.{Item}
 use Rattle.meaning.specs.Bytes.{numberAt}
-use Rattle.swift.specs.Seen.{place, Leaves, refusing, going, as-known}
+use Rattle.swift.specs.declared.Place.{Place}
+use Rattle.swift.specs.Seen.{place, Leaves, Ends, refusing, going, as-known}
 use native.Mathlib.Nat.{mul-le-mul, le-mul-of-pos-right}
 use Rattle.swift.specs.Blocks.{countedList, two-off, counted-short, counted-long, counted-in}
 use Rattle.swift.proofs.blocks.counted.Statement.{statement}

@@ -1,13 +1,17 @@
 -- `blocks::raw` meets its contract. Assumes nothing.
-use mathlib.Core.Path.{sym, ap, _∙_, subst}
-use mathlib.Core.Bool.{true, false}
+use mathlib.Core.Path.{_≡_, refl, sym, ap, _∙_, subst}
+use mathlib.Core.Bool.{Bool, true, false, not}
 use mathlib.Core.List.{List}
-use Prim.Native.Nat.{ℕ, _+_, _%_}
+use Prim.Native.Nat.{ℕ, _+_, _-_, _*_, _%_, _<_, _≤_}
 use native.Mathlib.Omega.{arith}
+use lib.ListN.{length}
 use denote.Ref.{now}
 use borrow.Author.Needs.{needs}
-use borrow.Author.Tests.{not-true, not-false}
-use Rattle.swift.specs.Seen.{place, Leaves, refusing, going, as-known}
+use borrow.Author.Tests.{not-true, not-false, eq-eqb, ne-eqb}
+use Rattle.meaning.specs.declared.Item.{Item}
+use Rattle.meaning.specs.Bytes.{numberAt}
+use Rattle.swift.specs.declared.Place.{Place}
+use Rattle.swift.specs.Seen.{place, Leaves, Ends, refusing, going, as-known}
 use Rattle.swift.specs.Blocks.{rawBytes, two-off, raw-short, raw-bad, raw-long, raw-in}
 use Rattle.swift.proofs.blocks.raw.Statement.{statement}
 use Rattle.swift.proofs.blocks.raw.Tie as tie

@@ -1,6 +1,12 @@
 -- `plan::sample_mark` meets its contract. Assumes nothing.
-use mathlib.Core.Path.{_≡_, sym, _∙_}
-use mathlib.Core.Bool.{false}
+use mathlib.Core.Path.{_≡_, refl, sym, ap, _∙_, subst}
+use mathlib.Core.Bool.{Bool, true, false, cond, not, _&&_, _||_}
+use mathlib.Core.List.{List}
+use mathlib.Core.Logic.{⊎-elim}
+use Prim.Native.Nat.{ℕ, _+_, _-_, _*_, _%_, _<_, _≤_}
+use native.Mathlib.Omega.{arith}
+use lib.ListN.{length, getD}
+use denote.Ref.{now}
 use Rattle.swift.specs.Plan.{groups, listed, late, or-no, unmarked, sample-stretched, sample-marked}
 use borrow.Author.Needs.{needs}
 use Rattle.swift.proofs.plan.sample_mark.Statement.{statement}

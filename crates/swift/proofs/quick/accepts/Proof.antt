@@ -1,9 +1,15 @@
 -- `quick::accepts` meets its contract. Assumes nothing.
-use mathlib.Core.Path.{sym, _∙_}
+use mathlib.Core.Path.{_≡_, refl, sym, ap, _∙_, subst}
+use mathlib.Core.Bool.{Bool, true, false, cond, not, _&&_, _||_}
+use mathlib.Core.List.{List}
+use mathlib.Core.Logic.{⊎-elim}
+use Prim.Native.Nat.{ℕ, _+_, _-_, _*_, _%_, _<_, _≤_}
 use native.Mathlib.Omega.{arith}
+use lib.ListN.{length, getD}
 use denote.Ref.{now}
 use Rattle.laws.specs.Bytes.{apart}
-use Rattle.swift.specs.Plan.{front-steady, last-steady, stride-judges}
+use Rattle.meaning.specs.Records.{kindOf}
+use Rattle.swift.specs.Plan.{Named, front-steady, last-steady, stride-judges}
 use borrow.Author.Needs.{needs}
 use Rattle.swift.proofs.quick.accepts.Statement.{statement}
 use Rattle.swift.proofs.quick.accepts.Tie as tie

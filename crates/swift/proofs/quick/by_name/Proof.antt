@@ -1,13 +1,17 @@
 -- `quick::by_name` meets its contract. Assumes nothing.
-use mathlib.Core.Path.{sym, ap, _∙_}
-use Prim.Native.Nat.{ℕ}
+use mathlib.Core.Path.{_≡_, refl, sym, ap, _∙_, subst}
+use mathlib.Core.Bool.{Bool, true, false, cond, not, _&&_, _||_}
+use mathlib.Core.List.{List}
+use mathlib.Core.Logic.{⊎-elim}
+use Prim.Native.Nat.{ℕ, _+_, _-_, _*_, _%_, _<_, _≤_}
 use native.Mathlib.Omega.{arith}
-use lib.ListN.{getD}
+use lib.ListN.{length, getD}
 use denote.Ref.{now}
-use borrow.Author.Tests.{not-false}
+use borrow.Author.Tests.{not-true, not-false}
 use Rattle.laws.specs.Bytes.{apart}
 use Rattle.meaning.specs.Editions.{unread}
-use Rattle.swift.specs.Plan.{nameStarts, named-eights, start-names}
+use Rattle.meaning.specs.Records.{kindOf}
+use Rattle.swift.specs.Plan.{nameStarts, Named, named-eights, start-names}
 use Rattle.swift.proofs.quick.by_name.Statement.{statement}
 use Rattle.swift.proofs.quick.by_name.Tie as tie
 

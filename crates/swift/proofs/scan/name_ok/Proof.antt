@@ -1,10 +1,13 @@
 use borrow.Author.Needs.{needs}
 use native.Mathlib.Omega.{arith}
-use mathlib.Core.Path.{_≡_, refl, subst}
-use Prim.Native.Nat.{ℕ, _+_, _-_, _%_, _≤_}
-use lib.ListN.{length}
+use mathlib.Core.Path.{_≡_, refl, sym, ap, ap₂, _∙_, subst}
+use mathlib.Core.Bool.{Bool, true, false, _||_}
+use Prim.Native.Nat.{ℕ, _+_, _-_, _%_, _≤_, _<_}
+use lib.ListN.{length, drop, getD}
 use denote.Ref.{now}
-use Rattle.swift.specs.ScanLaws.{Scanned, scan-on, scan-hit, scan-last, scan-short}
+use Rattle.meaning.specs.Bytes.{zeroIn}
+use Rattle.swift.specs.Scan.{hasZero, nameOk}
+use Rattle.swift.specs.ScanLaws.{zero-join, zero-none, zero-some, name-yes, name-none, name-early, Scanned, scan-on, scan-hit, scan-last, scan-short}
 use mathlib.Core.Logic.{⊎-elim}
 use Rattle.swift.proofs.scan.name_ok.Statement.{statement}
 use Rattle.swift.proofs.scan.name_ok.Tie as tie

@@ -1,8 +1,13 @@
 use borrow.Author.Needs.{needs}
-use mathlib.Core.Path.{sym, ap₂, _∙_}
-use mathlib.Core.Bool.{_||_}
+use native.Mathlib.Omega.{arith}
+use mathlib.Core.Path.{_≡_, refl, sym, ap, ap₂, _∙_}
+use mathlib.Core.Bool.{Bool, true, false, _||_}
+use Prim.Native.Nat.{ℕ, _+_, _-_, _%_, _≤_, _<_}
+use lib.ListN.{length, drop, getD}
 use denote.Ref.{now}
-use Rattle.swift.specs.ScanLaws.{zero-join}
+use Rattle.meaning.specs.Bytes.{zeroIn}
+use Rattle.swift.specs.Scan.{hasZero, nameOk}
+use Rattle.swift.specs.ScanLaws.{zero-join, zero-none, zero-some, name-yes, name-none, name-early, four}
 use Rattle.swift.proofs.scan.zero8.Statement.{statement}
 use Rattle.swift.proofs.scan.zero8.Tie as tie
 

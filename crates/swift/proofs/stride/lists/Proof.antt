@@ -1,9 +1,13 @@
 -- `stride::lists` meets its contract. Assumes nothing.
-use mathlib.Core.Path.{sym}
-use mathlib.Core.Bool.{Bool}
+use mathlib.Core.Path.{_≡_, refl, sym, ap, _∙_, subst}
+use mathlib.Core.Bool.{Bool, true, false, not}
+use mathlib.Core.List.{List}
+use Prim.Native.Nat.{ℕ, _+_, _-_, _*_, _%_, _<_, _≤_}
 use native.Mathlib.Omega.{arith}
+use lib.ListN.{length}
 use denote.Ref.{now}
 use borrow.Author.Needs.{needs}
+use Rattle.swift.specs.declared.Place.{Place}
 use Rattle.swift.specs.Seen.{Ends, as-known, first-refuses, second-refuses, all-three}
 use Rattle.meaning.specs.Bytes.{bit}
 use Rattle.swift.specs.Blocks.{countedList, rawBytes, branchList, branches-as}
