@@ -1,5 +1,6 @@
 # Two commands: `make run` drains a shipped ring, `make test` proves and tests everything (the gate).
-# Needed: the Rattle toolchain (rt), and Debian's packages gcc, make, rustc, pkg-config and valgrind (a part whose tool is missing is skipped with a word).
+# Both look first for what they need (tools/needs.sh): the Rattle toolchain (rt); for the tests Debian's packages, by
+# the line that `tools/needs.sh line` prints and README.md shows.
 .DELETE_ON_ERROR:
 .PHONY: help run test lib clean
 
@@ -7,7 +8,7 @@ RING ?= rings/switches.img
 LIB = target/staticlib/libollskuvan.a
 
 help:
-	@echo "make run       build ringdump and drain a shipped ring (RING=$(RING))"
+	@echo "make run       prove and build ringdump, and drain a shipped ring (RING=$(RING))"
 	@echo "make test      prove every crate, try every must-fail edit, run all tests (the gate)"
 	@echo "make lib       build $(LIB) for C"
 	@echo "make report    the report of the shipped kiln rings, and its picture"
@@ -17,22 +18,28 @@ help:
 
 # the journal of a ring that a live kernel wrote: an entry a line, then why the drain stopped and at which tail
 run:
-	@rt check ringdump >/dev/null || { rt check ringdump | tail -n 20; exit 1; }
 	@test -f "$(RING)" || { echo "no such ring image: $(RING)" >&2; exit 1; }
+	@tools/needs.sh run
+	@test -x target/bin/ringdump || echo "$(PROVES_FIRST)" >&2
+	@tools/prove.sh check ringdump
 	@target/bin/ringdump < "$(RING)"
 
-lib:
-	@rt staticlib ollskuvan | tail -n 1
+PROVES_FIRST = proving ringdump and what it stands on, before it is built: some four minutes of one core, once
 
 test:
+	@tools/needs.sh test
 	@bash tools/gate.sh
+
+lib:
+	@tools/needs.sh run
+	@tools/prove.sh staticlib ollskuvan && echo "$(LIB)"
 
 clean:
 	rm -rf target
 
 # what needs the library builds it first
 $(LIB):
-	@rt staticlib ollskuvan | tail -n 1
+	@$(MAKE) -s lib
 
 examples bench bench-short bench-instructions install outside-tests: $(LIB)
 
@@ -42,3 +49,4 @@ soak: $(LIB)
 	tests/run.sh soak $(MINUTES)
 
 include tests/Makefile.inc examples/Makefile.inc bench/Makefile.inc packaging/Makefile.inc
+include tool/Makefile.inc

@@ -5,10 +5,13 @@
  *   bench time [ROUNDS]            the three workloads, interleaved
  *   bench sizes [ROUNDS]           the cost of a record in rings of 64 bytes to 1 MiB
  *   bench values [ROUNDS]          the cost of ollskuvan_read and ollskuvan_write
- *   bench once DRAIN WORKLOAD      one drain, for callgrind; prints the number of records
+ *   bench kinds [DRAIN]            every kind of ring: that the drains agree; with a name, two drains of each for callgrind
+ *   bench check WHOSE NUMBER       record check of each record of a workload, for callgrind: careful or ours
+ *   bench once DRAIN WORKLOAD [BUDGET]   one drain, for callgrind; prints the number of records
  *   bench list                     the names that `once` takes
  */
 #include "bench.h"
+#include "kinds.h"
 
 #include <errno.h>
 #include <stdlib.h>
@@ -68,7 +71,7 @@ static int list_names(void)
     return 0;
 }
 
-static int run_once(const char *drain, const char *workload)
+static int run_once(const char *drain, const char *workload, uint64_t budget)
 {
     struct made_ring ring = { .bytes = grab(MADE_RING_MAX) };
     bool known = false;
@@ -91,6 +94,8 @@ static int run_once(const char *drain, const char *workload)
         free(ring.bytes);
         return 2;
     }
+    if (budget != 0)
+        ring.budget = budget;
     uint8_t *scratch = grab(ring.scratch_length), *journal = grab(ring.journal_length);
     struct ollskuvan_drained done = run_drain(found->drain, &ring, scratch, journal);
     printf("records %llu bytes %llu stop %u\n", (unsigned long long)done.taken, (unsigned long long)done.bytes, done.stop);
@@ -118,7 +123,7 @@ static uint64_t number(const char *text, uint64_t least, uint64_t most)
 static int usage(void)
 {
     fprintf(stderr, "usage: bench compare [RINGS [SEED]] | time [ROUNDS] | sizes [ROUNDS] | values [ROUNDS]\n"
-                    "       bench once DRAIN WORKLOAD | list\n");
+                    "       bench once DRAIN WORKLOAD [BUDGET] | kinds [DRAIN] | list\n");
     return 2;
 }
 
@@ -127,8 +132,12 @@ int main(int argc, char **argv)
     const char *mode = argc > 1 ? argv[1] : "";
     if (strcmp(mode, "compare") == 0 && argc <= 4)
         return compare(argc > 2 ? number(argv[2], 1, UINT64_MAX) : 20000, argc > 3 ? number(argv[3], 0, UINT64_MAX) : 1);
-    if (strcmp(mode, "once") == 0 && argc == 4)
-        return run_once(argv[2], argv[3]);
+    if (strcmp(mode, "once") == 0 && (argc == 4 || argc == 5))
+        return run_once(argv[2], argv[3], argc > 4 ? number(argv[4], 1, UINT64_MAX) : 0);
+    if (strcmp(mode, "check") == 0 && argc == 4)
+        return run_checks(argv[2], (enum made_workload)number(argv[3], 0, MADE_WORKLOADS - 1));
+    if (strcmp(mode, "kinds") == 0 && argc <= 3)
+        return argc > 2 ? run_kinds(argv[2]) : compare_kinds();
     if (strcmp(mode, "list") == 0 && argc == 2)
         return list_names();
     if (argc > 3)

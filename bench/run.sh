@@ -3,17 +3,18 @@
 #
 #   bench/run.sh                 all of it: the comparison, times, ring sizes, values, instructions
 #   bench/run.sh --short         the comparison alone: fails only if careful C and ollskuvan_drain differ (the gate)
-#   bench/run.sh --time | --sizes | --values | --instructions    one part, after a short comparison
+#   bench/run.sh --time | --sizes | --values | --instructions | --kinds    one part, after a short comparison
 #   bench/run.sh --sanitize      the comparison with address and undefined-behaviour sanitizers on the C side
 #
 # Options before the part: --library FILE (an archive other than target/staticlib/libollskuvan.a),
 # --standin (the independent reader of tests/reader in its place: to try the bench itself, it says nothing of the library),
-# --rings N, --seed N (the comparison), --rounds N (the times).
+# --rings N, --seed N (the comparison), --rounds N (the times). RUSTC names another rustc.
 set -u
 cd "$(dirname "$0")/.." || exit 2
 out=target/bench
 library=target/staticlib/libollskuvan.a
 rings=20000 seed=1 rounds= part=all link=
+rustc=${RUSTC:-rustc}
 
 die() { echo "bench/run.sh: $*" >&2; exit 2; }
 
@@ -24,7 +25,7 @@ while [ $# -gt 0 ]; do
     --rings) [ $# -gt 1 ] || die "--rings needs a number"; rings=$2; shift ;;
     --seed) [ $# -gt 1 ] || die "--seed needs a number"; seed=$2; shift ;;
     --rounds) [ $# -gt 1 ] || die "--rounds needs a number"; rounds=$2; shift ;;
-    --short | --time | --sizes | --values | --instructions | --sanitize) part=${1#--} ;;
+    --short | --time | --sizes | --values | --instructions | --kinds | --sanitize) part=${1#--} ;;
     -h | --help) sed -n '2,13p' "$0" | sed 's/^# \{0,1\}//'; exit 0 ;;
     *) die "unknown argument: $1 (see --help)" ;;
   esac
@@ -33,8 +34,8 @@ done
 mkdir -p "$out" || exit 2
 
 if [ "$library" = standin ]; then
-  command -v rustc >/dev/null || die "the stand-in needs rustc"
-  rustc --edition 2021 -C opt-level=3 -C panic=abort --crate-type staticlib -o "$out/libstandin.a" tests/reader/standin.rs ||
+  command -v "$rustc" >/dev/null || die "the stand-in needs rustc"
+  "$rustc" --edition 2021 -C opt-level=3 -C panic=abort --crate-type staticlib -o "$out/libstandin.a" tests/reader/standin.rs ||
     die "the stand-in does not build"
   library=$out/libstandin.a
   link="-lpthread -ldl -lm"
@@ -46,7 +47,7 @@ fi
 debian=/usr/share/cargo/registry
 build_other() {
   local c crate
-  command -v rustc >/dev/null || { echo "rustc is missing"; return 1; }
+  command -v "$rustc" >/dev/null || { echo "$rustc is missing"; return 1; }
   for c in bitflags byteorder memchr linux-perf-event-reader; do
     crate=$(ls -d "$debian/$c"-[0-9]* 2>/dev/null | tail -n 1)
     [ -n "$crate" ] || { echo "no $c in $debian (Debian's librust-linux-perf-event-reader-dev)"; return 1; }
@@ -58,10 +59,10 @@ build_other() {
       *) set -- --edition 2021 --extern "bitflags=$out/other/libbitflags.rlib" --extern "byteorder=$out/other/libbyteorder.rlib" \
         --extern "memchr=$out/other/libmemchr.rlib" ;;
     esac
-    rustc "$@" -C opt-level=3 -C codegen-units=1 --crate-type rlib --crate-name "${c//-/_}" --cap-lints allow \
+    "$rustc" "$@" -C opt-level=3 -C codegen-units=1 --crate-type rlib --crate-name "${c//-/_}" --cap-lints allow \
       -o "$out/other/lib${c//-/_}.rlib" "$crate/src/lib.rs" 2>"$out/other/log" || { echo "$c does not build with this rustc"; return 1; }
   done
-  rustc --edition 2021 -C opt-level=3 -C codegen-units=1 -C lto=fat -C panic=abort --crate-type cdylib -L "$out/other" \
+  "$rustc" --edition 2021 -C opt-level=3 -C codegen-units=1 -C lto=fat -C panic=abort --crate-type cdylib -L "$out/other" \
     --extern "linux_perf_event_reader=$out/other/liblinux_perf_event_reader.rlib" --extern "byteorder=$out/other/libbyteorder.rlib" \
     -o "$out/other/libother.so" bench/other.rs 2>"$out/other/log" || { echo "bench/other.rs does not build"; return 1; }
 }
@@ -90,15 +91,15 @@ if [ "$part" = sanitize ]; then
   program=$out/bench-sanitized
 fi
 # shellcheck disable=SC2086 # the flags are words
-gcc $flags -o "$program" bench/bench.c bench/compare.c bench/timing.c bench/made.c bench/careful.c bench/floor.c "$library" $link ||
+gcc $flags -o "$program" bench/bench.c bench/compare.c bench/timing.c bench/made.c bench/kinds.c bench/careful.c bench/careful_check.c bench/floor.c "$library" $link ||
   die "the bench does not build"
 
 # instructions of one drain under callgrind, which repeat exactly
-instructions() {
-  local drain workload name log
+instructions() { # [BUDGET]
+  local drain workload name log budget=${1:-}
   command -v valgrind >/dev/null || { echo "bench: instructions skipped: valgrind is missing"; return 0; }
   log=$out/callgrind.log
-  printf '\ninstructions a record, by callgrind (the last column: a call on an empty ring, fat samples\x27 attributes)\n'
+  printf '\ninstructions a record, by callgrind%s (the last column: a call on an empty ring, fat samples\x27 attributes)\n' "${budget:+, budget $budget}"
   printf '%-14s' ''
   "$program" list | sed -n 's/^workload //p' | while read -r workload; do printf '%16s' "$workload"; done
   printf '\n'
@@ -110,7 +111,7 @@ instructions() {
     esac
     printf '%-14s' "$drain"
     while read -r workload; do
-      valgrind --tool=callgrind --toggle-collect="$name" --callgrind-out-file=/dev/null "$program" once "$drain" "$workload" \
+      valgrind --tool=callgrind --toggle-collect="$name" --callgrind-out-file=/dev/null "$program" once "$drain" "$workload" $budget \
         >"$log" 2>&1 </dev/null || { cat "$log"; die "callgrind failed"; }
       awk '/^records/ { n = $2 } /Collected/ { c = $NF } END { printf "%16.1f", (n > 0 ? c / n : c) }' "$log"
     done < <("$program" list | sed -n 's/^workload //p')
@@ -118,13 +119,47 @@ instructions() {
   done
 }
 
+# instructions of one record check
+checks() {
+  local whose name which log=$out/callgrind.log
+  command -v valgrind >/dev/null || return 0
+  printf '\ninstructions of a record check, by callgrind (side-band, small, fat)\n'
+  for whose in careful ours; do
+    name=careful_check
+    [ "$whose" = ours ] && name=ollskuvan_check
+    printf '%-14s' "$whose"
+    for which in 0 1 2; do
+      valgrind --tool=callgrind --toggle-collect="$name" --callgrind-out-file=/dev/null "$program" check "$whose" "$which" >"$log" 2>&1 </dev/null ||
+        { cat "$log"; die "callgrind failed"; }
+      awk '/^records/ { n = $2 } /Collected/ { c = $NF } END { printf "%16.1f", c / n }' "$log"
+    done
+    printf '\n'
+  done
+}
+
+# instructions of a record more, on every kind of ring: the slowest against careful C
+kinds() {
+  local drain name
+  command -v valgrind >/dev/null || { echo "bench: kinds skipped: valgrind is missing"; return 0; }
+  rm -f "$out"/kinds.*
+  for drain in careful ours; do
+    name=careful_drain
+    [ "$drain" = ours ] && name=ollskuvan_drain
+    valgrind --tool=callgrind --toggle-collect="$name" --dump-after="$name" --callgrind-out-file="$out/kinds.$drain" \
+      "$program" kinds "$drain" >"$out/kinds.$drain.names" 2>"$out/kinds.$drain.log" </dev/null || { cat "$out/kinds.$drain.log"; die "callgrind failed"; }
+  done
+  python3 bench/kinds.py "$out"
+}
+
 case "$part" in
-  short) "$program" compare "$rings" "$seed" || exit 1 ;;
+  short) "$program" kinds || exit 1; "$program" compare "$rings" "$seed" || exit 1 ;;
   sanitize) "$program" compare "$rings" "$seed" || exit 1 ;;
   *)
+    "$program" kinds || die "no times: the drains differ, or a kind is missing"
     "$program" compare "$rings" "$seed" || die "no times: the drains differ"
     case "$part" in all | time) "$program" time $rounds || exit 1 ;; esac
     case "$part" in all | sizes) "$program" sizes $rounds || exit 1 ;; esac
     case "$part" in all | values) "$program" values $rounds || exit 1 ;; esac
-    case "$part" in all | instructions) instructions || exit 1 ;; esac ;;
+    case "$part" in all | instructions) instructions && instructions 1 && checks || exit 1 ;; esac
+    case "$part" in all | kinds) kinds || exit 1 ;; esac ;;
 esac

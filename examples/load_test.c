@@ -26,8 +26,10 @@
 #include <time.h>
 #include <unistd.h>
 
+#include "bytes.h"
+#include "messages.h"
 #include "ollskuvan.h"
-#include "words.h"
+#include "text.h"
 
 enum { BUDGET_MAX = 1024, HANG_SECONDS = 120, KERNEL_SAYS_NO = 3 };
 
@@ -52,7 +54,7 @@ struct test {
 
 static void die(const char *what)
 {
-    fprintf(stderr, "load_test: %s: %s\n", what, strerror(errno));
+    complain("%s: %s", what, strerror(errno));
     exit(1);
 }
 
@@ -116,49 +118,37 @@ static uint64_t cpu_ns(void)
     return (uint64_t)now.tv_sec * 1000000000u + (uint64_t)now.tv_nsec;
 }
 
-static uint64_t number(const uint8_t *at, size_t bytes)
-{
-    uint64_t x = 0;
-    for (size_t i = bytes; i-- > 0;)
-        x = x << 8 | at[i];
-    return x;
-}
-
 static void fail(const char *what, uint32_t answer, uint64_t tail)
 {
     fprintf(stderr, "load_test: %s %u at tail %llu\n", what, answer, (unsigned long long)tail);
     exit(1);
 }
 
-/* What a LOST record says. Of one drain at most one record crosses the ring's
- * end (the budget is small against the ring), so the scratch still holds it. */
-static void count_lost(struct test *t, uint64_t tail, size_t size)
+/* What a LOST record says. */
+static void count_lost(struct test *t, uint64_t head, uint64_t tail)
 {
     uint64_t fields[OLLSKUVAN_FIELDS];
-    size_t place = (size_t)(tail % t->length);
-    const uint8_t *record = size <= t->length - place ? t->ring + place : t->scratch;
-    uint32_t answer = ollskuvan_read(record, size, t->attr.sample_type, t->attr.read_format, 1, 0, 0, OLLSKUVAN_EDITION_3,
-        fields, OLLSKUVAN_FIELDS);
-    if (answer != OLLSKUVAN_OK)
-        fail("a LOST record is refused with", answer, tail);
+    struct ollskuvan_one one = ollskuvan_read_one(t->ring, t->length, head, tail, t->attr.sample_type,
+        t->attr.read_format, 1, 0, 0, OLLSKUVAN_EDITION_3, t->scratch, sizeof t->scratch, fields, OLLSKUVAN_FIELDS);
+    if (one.size == 0 || one.answer != OLLSKUVAN_OK)
+        fail("a LOST record is refused with", one.answer, tail);
     t->losts++;
     t->lost += fields[OLLSKUVAN_LOST_LOST];
 }
 
-static void count_entries(struct test *t, const struct ollskuvan_drained *done)
+static void count_entries(struct test *t, uint64_t head, const struct ollskuvan_drained *done)
 {
     for (uint64_t i = 0; i < done->taken; i++) {
-        const uint8_t *entry = t->journal + i * OLLSKUVAN_JOURNAL_ENTRY, *next = entry + OLLSKUVAN_JOURNAL_ENTRY;
-        uint32_t kind = (uint32_t)number(entry + OLLSKUVAN_JOURNAL_KIND, 2);
-        uint32_t answer = (uint32_t)number(entry + OLLSKUVAN_JOURNAL_ANSWER, 2);
-        uint64_t tail = number(entry + OLLSKUVAN_JOURNAL_TAIL, 8);
-        uint64_t end = i + 1 < done->taken ? number(next + OLLSKUVAN_JOURNAL_TAIL, 8) : done->tail;
+        const uint8_t *entry = t->journal + i * OLLSKUVAN_JOURNAL_ENTRY;
+        uint32_t kind = (uint32_t)little(entry + OLLSKUVAN_JOURNAL_KIND, 2);
+        uint32_t answer = (uint32_t)little(entry + OLLSKUVAN_JOURNAL_ANSWER, 2);
+        uint64_t tail = little(entry + OLLSKUVAN_JOURNAL_TAIL, 8);
         if (answer != OLLSKUVAN_OK)
             fail("the kernel's own record is refused with", answer, tail);
         if (kind == OLLSKUVAN_TYPE_COMM)
             t->names++;
         else if (kind == OLLSKUVAN_TYPE_LOST)
-            count_lost(t, tail, (size_t)(end - tail));
+            count_lost(t, head, tail);
         else
             t->others++;
     }
@@ -174,7 +164,7 @@ static bool drain_some(struct test *t)
         1, 0, 0, OLLSKUVAN_EDITION_3, t->budget, t->scratch, sizeof t->scratch, t->journal, sizeof t->journal);
     uint64_t took = cpu_ns() - began;
     if (done.stop != OLLSKUVAN_STOP_NOTHING && done.stop != OLLSKUVAN_STOP_BUDGET) {
-        fprintf(stderr, "load_test: %s\n", stop_in_words(done.stop));
+        fprintf(stderr, "load_test: %s\n", ollskuvan_stop_text(done.stop));
         fail("a sound ring stops with", done.stop, done.tail);
     }
     if (done.taken > t->budget)
@@ -182,7 +172,7 @@ static bool drain_some(struct test *t)
     t->longest_ns = took > t->longest_ns ? took : t->longest_ns;
     t->fullest = head - tail > t->fullest ? head - tail : t->fullest;
     t->drains++;
-    count_entries(t, &done);
+    count_entries(t, head, &done);
     __atomic_thread_fence(__ATOMIC_SEQ_CST);
     __atomic_store_n(&t->page->data_tail, done.tail, __ATOMIC_RELAXED);
     return done.stop == OLLSKUVAN_STOP_BUDGET;
@@ -208,14 +198,15 @@ static int judge(const struct test *t)
 {
     uint64_t own;
     bool known = kernel_lost(t, &own), sum = t->names + t->lost == t->produced;
-    printf("%llu name changes: %llu taken, %llu lost (told by %llu LOST records): %s\n", (unsigned long long)t->produced,
-        (unsigned long long)t->names, (unsigned long long)t->lost, (unsigned long long)t->losts, sum ? "they add up" : "THEY DO NOT ADD UP");
+    printf("%llu name changes: %llu taken, %llu lost (told by %llu LOST %s): %s\n", (unsigned long long)t->produced,
+        (unsigned long long)t->names, (unsigned long long)t->lost, (unsigned long long)t->losts, plural(t->losts, "record", "records"),
+        sum ? "they add up" : "THEY DO NOT ADD UP");
     if (t->others != 0)
         printf("%llu RECORDS THAT NOBODY ASKED FOR\n", (unsigned long long)t->others);
     if (known)
         printf("the kernel's own count of lost records: %llu%s\n", (unsigned long long)own, own == t->lost ? ", the same" : ", ANOTHER");
-    printf("%llu drains of at most %llu records; the ring held up to %llu of %zu bytes; the longest drain took %.1f us of processor time\n",
-        (unsigned long long)t->drains, (unsigned long long)t->budget, (unsigned long long)t->fullest, t->length,
+    printf("%llu drains of at most %llu %s; the ring held up to %llu of %zu bytes; the longest drain took %.1f us of processor time\n",
+        (unsigned long long)t->drains, (unsigned long long)t->budget, plural(t->budget, "record", "records"), (unsigned long long)t->fullest, t->length,
         (double)t->longest_ns / 1000);
     bool bounded = t->longest_ns <= t->budget * 1000000; /* a millisecond a record: far above any real cost */
     if (!bounded)
@@ -240,6 +231,7 @@ static uint64_t argument(const char *text, uint64_t most)
 int main(int argc, char **argv)
 {
     static struct test t;
+    called_as(argv[0]);
     const struct timespec nap = { 0, 1000000 };
     if (argc > 3) {
         fprintf(stderr, "usage: load_test [RECORDS [BUDGET]]\n");
@@ -270,5 +262,6 @@ int main(int argc, char **argv)
     empty(&t);
     sem_post(&t.leave);
     pthread_join(t.thread, NULL);
-    return judge(&t);
+    int status = judge(&t);
+    return output_written() ? status : 1;
 }

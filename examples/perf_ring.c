@@ -13,6 +13,7 @@
 #include <time.h>
 #include <unistd.h>
 
+#include "bytes.h"
 #include "ollskuvan.h"
 
 static bool refuse(char why[WHY_ROOM], const char *format, ...) __attribute__((format(printf, 2, 3)));
@@ -42,14 +43,16 @@ static int paranoid(void)
     return level;
 }
 
-static bool refuse_open(char why[WHY_ROOM], const char *what, int error)
+static enum perf_answer refuse_open(char why[WHY_ROOM], const char *what, int error)
 {
     if (error == EACCES || error == EPERM)
-        return refuse(why, "the kernel does not allow %s (%s; kernel.perf_event_paranoid is %d): run as root, or with CAP_PERFMON",
-            what, strerror(error), paranoid());
-    if (error == ENOSYS)
-        return refuse(why, "this kernel has no perf events");
-    return refuse(why, "perf_event_open of %s: %s", what, strerror(error));
+        refuse(why, "the kernel does not allow %s (%s; kernel.perf_event_paranoid is %d): run as root, or with CAP_PERFMON", what,
+            strerror(error), paranoid());
+    else if (error == ENOSYS || error == ENOENT)
+        refuse(why, "this kernel has no perf events (%s)", strerror(error));
+    else
+        refuse(why, "perf_event_open of %s: %s", what, strerror(error));
+    return error == EACCES || error == EPERM || error == ENOSYS || error == ENOENT ? PERF_NOT_ALLOWED : PERF_FAILED;
 }
 
 static int open_event(struct perf_event_attr *attr, pid_t pid, int cpu)
@@ -71,11 +74,8 @@ static void common(struct perf_event_attr *attr)
     attr->clockid = CLOCK_MONOTONIC;
 }
 
-static void with_names(struct perf_event_attr *attr)
+static void with_mappings(struct perf_event_attr *attr)
 {
-    attr->comm = 1;
-    attr->comm_exec = 1;
-    attr->task = 1;
     attr->mmap = 1;
     attr->mmap2 = 1;
     attr->build_id = 1; /* since Linux 5.12 */
@@ -99,16 +99,21 @@ static int open_or_without_build_id(struct perf_event_attr *attr, pid_t pid, int
     return fd;
 }
 
-static bool map_ring(struct perf_ring *ring, size_t pages, char why[WHY_ROOM])
+static enum perf_answer map_ring(struct perf_ring *ring, size_t pages, char why[WHY_ROOM])
 {
     long page = sysconf(_SC_PAGESIZE);
-    if (page <= 0)
-        return refuse(why, "the page size is not known");
+    if (page <= 0 || pages > OLLSKUVAN_RING_MAX / (size_t)page) {
+        refuse(why, "a ring has at most %u bytes: %zu pages of %ld are too many", OLLSKUVAN_RING_MAX, pages, page);
+        return PERF_FAILED;
+    }
     ring->mapped_length = (pages + 1) * (size_t)page;
     void *base = mmap(NULL, ring->mapped_length, PROT_READ | PROT_WRITE, MAP_SHARED, ring->fd, 0);
-    if (base == MAP_FAILED)
-        return refuse(why, "mapping a ring of %zu pages: %s%s", pages, strerror(errno),
-            errno == EPERM ? " (kernel.perf_event_mlock_kb, or run as root)" : "");
+    if (base == MAP_FAILED) {
+        int error = errno;
+        refuse(why, "mapping a ring of %zu pages: %s%s", pages, strerror(error),
+            error == EPERM ? " (fewer --pages, more kernel.perf_event_mlock_kb, or run as root)" : "");
+        return error == EPERM ? PERF_NOT_ALLOWED : PERF_FAILED;
+    }
     ring->mapped = base;
     const struct perf_event_mmap_page *control = base;
     uint64_t offset = control->data_offset, size = control->data_size;
@@ -118,16 +123,36 @@ static bool map_ring(struct perf_ring *ring, size_t pages, char why[WHY_ROOM])
     }
     ring->bytes = (const uint8_t *)base + offset;
     ring->length = (size_t)size;
-    return true;
+    return PERF_OPEN;
 }
 
-static bool open_events(struct perf_ring *ring, const struct perf_want *want, char why[WHY_ROOM])
+/* Mappings of the program, into the cpu's ring. */
+static enum perf_answer open_program_events(struct perf_ring *ring, const struct perf_want *want, char why[WHY_ROOM])
+{
+    struct perf_event_attr attr;
+    common(&attr);
+    with_mappings(&attr);
+    attr.sample_type = ring->attributes.sample_type;
+    attr.inherit = 1;
+    ring->program_fd = open_or_without_build_id(&attr, want->program, want->cpu);
+    if (ring->program_fd < 0)
+        return refuse_open(why, "the mappings of a program", errno);
+    if (ioctl(ring->program_fd, PERF_EVENT_IOC_SET_OUTPUT, ring->fd) == 0)
+        return PERF_OPEN;
+    refuse(why, "the program's events do not go into the cpu's ring: %s", strerror(errno));
+    return PERF_FAILED;
+}
+
+static enum perf_answer open_events(struct perf_ring *ring, const struct perf_want *want, char why[WHY_ROOM])
 {
     struct perf_event_attr attr;
     common(&attr);
     attr.context_switch = 1;
+    attr.comm = 1;
+    attr.comm_exec = 1;
+    attr.task = 1;
     if (want->program == 0)
-        with_names(&attr);
+        with_mappings(&attr);
     if (want->clock)
         with_clock(&attr);
     ring->fd = open_or_without_build_id(&attr, -1, want->cpu);
@@ -136,32 +161,17 @@ static bool open_events(struct perf_ring *ring, const struct perf_want *want, ch
     ring->attributes = (struct ring_attributes){
         .sample_type = attr.sample_type, .read_format = attr.read_format, .sample_id_all = 1, .edition = want->edition,
     };
-    if (!map_ring(ring, want->pages, why))
-        return false;
-    if (want->program == 0)
-        return true;
-    uint64_t sample_type = attr.sample_type;
-    common(&attr);
-    with_names(&attr);
-    attr.sample_type = sample_type;
-    attr.inherit = 1;
-    ring->program_fd = open_or_without_build_id(&attr, want->program, want->cpu);
-    if (ring->program_fd < 0)
-        return refuse_open(why, "names and mappings of a program", errno);
-    if (ioctl(ring->program_fd, PERF_EVENT_IOC_SET_OUTPUT, ring->fd) != 0)
-        return refuse(why, "the program's events do not go into the cpu's ring: %s", strerror(errno));
-    return true;
+    enum perf_answer answer = map_ring(ring, want->pages, why);
+    return answer == PERF_OPEN && want->program != 0 ? open_program_events(ring, want, why) : answer;
 }
 
-bool perf_ring_open(struct perf_ring *ring, const struct perf_want *want, char why[WHY_ROOM])
+enum perf_answer perf_ring_open(struct perf_ring *ring, const struct perf_want *want, char why[WHY_ROOM])
 {
     *ring = (struct perf_ring){ .cpu = want->cpu, .fd = -1, .program_fd = -1 };
-    if (want->pages == 0 || (want->pages & (want->pages - 1)) != 0)
-        return refuse(why, "a ring has 1, 2, 4, 8 .. pages, not %zu", want->pages);
-    if (open_events(ring, want, why))
-        return true;
-    perf_ring_close(ring);
-    return false;
+    enum perf_answer answer = open_events(ring, want, why);
+    if (answer != PERF_OPEN)
+        perf_ring_close(ring);
+    return answer;
 }
 
 static bool switch_events(const struct perf_ring *ring, unsigned long request, const char *what, char why[WHY_ROOM])
@@ -215,6 +225,12 @@ void perf_ring_give_back(const struct perf_ring *ring, uint64_t tail)
     __atomic_store_n(&control->data_tail, tail, __ATOMIC_RELAXED);
 }
 
+bool ring_is_full(size_t length, uint64_t head, uint64_t tail)
+{
+    /* a switch of a cpu with a whole trailer has 72 bytes, the LOST that may have to go before it 80 */
+    return head - tail > length || length - (head - tail) < 72 + 80;
+}
+
 size_t cpus_online(int *cpus, size_t most)
 {
     FILE *file = fopen("/sys/devices/system/cpu/online", "r"); /* "0-3,6" */
@@ -238,42 +254,40 @@ size_t cpus_online(int *cpus, size_t most)
 
 /* ---- images ---- */
 
-static uint64_t get64(const uint8_t *at)
+/* The whole file, at most `most` bytes. */
+static bool read_all(const char *path, uint8_t *all, size_t most, size_t *length, char why[WHY_ROOM])
 {
-    uint64_t x = 0;
-    for (int i = 7; i >= 0; i--)
-        x = x << 8 | at[i];
-    return x;
-}
-
-static void put64(uint8_t *at, uint64_t x)
-{
-    for (int i = 0; i < 8; i++)
-        at[i] = (uint8_t)(x >> 8 * i);
+    bool standard = strcmp(path, "-") == 0;
+    FILE *file = standard ? stdin : fopen(path, "rb");
+    if (file == NULL)
+        return refuse(why, "%s", strerror(errno));
+    errno = 0;
+    *length = fread(all, 1, most, file);
+    bool failed = ferror(file) != 0;
+    int error = errno;
+    if (!standard)
+        fclose(file);
+    return failed ? refuse(why, "it cannot be read: %s", strerror(error)) : true;
 }
 
 bool ring_image_load(const char *path, struct ring_image *image, char why[WHY_ROOM])
 {
     enum { MOST = IMAGE_HEADER + OLLSKUVAN_RING_MAX };
-    FILE *file = fopen(path, "rb");
-    if (file == NULL)
-        return refuse(why, "%s", strerror(errno));
+    size_t length = 0;
     uint8_t *all = malloc(MOST + 1); /* one more, so that a longer file is seen */
-    size_t length = all != NULL ? fread(all, 1, MOST + 1, file) : 0;
-    bool failed = ferror(file) != 0;
-    fclose(file);
     if (all == NULL)
         return refuse(why, "out of memory");
-    if (failed || length < IMAGE_HEADER || length > MOST) {
+    bool fits = read_all(path, all, MOST + 1, &length, why);
+    if (fits && (length < IMAGE_HEADER || length > MOST))
+        fits = refuse(why, "no ring image: it has %s", length > MOST ? "a ring of more than 1,048,576 bytes" : "fewer than 50 bytes");
+    if (!fits) {
         free(all);
-        if (failed)
-            return refuse(why, "it cannot be read");
-        return refuse(why, "no ring image: it has %s", length > MOST ? "a ring of more than 1,048,576 bytes" : "fewer than 50 bytes");
+        return false;
     }
     *image = (struct ring_image){
-        .head = get64(all), .tail = get64(all + 8),
-        .attributes = { .sample_type = get64(all + 16), .read_format = get64(all + 24), .user_mask = get64(all + 32),
-            .interrupt_mask = get64(all + 40), .edition = all[48], .sample_id_all = all[49] },
+        .head = little(all, 8), .tail = little(all + 8, 8),
+        .attributes = { .sample_type = little(all + 16, 8), .read_format = little(all + 24, 8), .user_mask = little(all + 32, 8),
+            .interrupt_mask = little(all + 40, 8), .edition = all[48], .sample_id_all = all[49] },
         .length = length - IMAGE_HEADER,
     };
     memmove(all, all + IMAGE_HEADER, image->length);
@@ -285,12 +299,12 @@ bool ring_image_save(const char *path, const struct ring_attributes *attributes,
     const uint8_t *bytes, size_t length, char why[WHY_ROOM])
 {
     uint8_t header[IMAGE_HEADER];
-    put64(header, head);
-    put64(header + 8, tail);
-    put64(header + 16, attributes->sample_type);
-    put64(header + 24, attributes->read_format);
-    put64(header + 32, attributes->user_mask);
-    put64(header + 40, attributes->interrupt_mask);
+    put_little(header, 8, head);
+    put_little(header + 8, 8, tail);
+    put_little(header + 16, 8, attributes->sample_type);
+    put_little(header + 24, 8, attributes->read_format);
+    put_little(header + 32, 8, attributes->user_mask);
+    put_little(header + 40, 8, attributes->interrupt_mask);
     header[48] = (uint8_t)attributes->edition;
     header[49] = attributes->sample_id_all != 0;
     FILE *file = fopen(path, "wb");

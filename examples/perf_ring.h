@@ -22,7 +22,7 @@ struct ring_attributes {
 struct perf_want {
     int cpu;
     size_t pages;  /* a power of two; 4 pages are the longest ring that ringdump takes */
-    pid_t program; /* names, forks and mappings of this process and its children alone; 0: of everyone */
+    pid_t program; /* mappings of this process and its children alone; 0: of everyone. Names, forks and ends are everyone's */
     bool clock;    /* samples of the cpu clock, 1,000 a second, beside the switches */
     uint32_t edition;
 };
@@ -41,10 +41,16 @@ struct perf_ring {
 /* Room for the reason of a failure. */
 enum { WHY_ROOM = 256 };
 
+enum perf_answer {
+    PERF_OPEN,
+    PERF_NOT_ALLOWED, /* the kernel has no perf events, or not for us */
+    PERF_FAILED,
+};
+
 /* Opens the events, disabled, and maps the ring. The switches of the whole cpu
- * and what is wanted of the program go into one ring. False: nothing is open,
- * and why says in words what the kernel refused. */
-bool perf_ring_open(struct perf_ring *ring, const struct perf_want *want, char why[WHY_ROOM]);
+ * and the program's mappings go into one ring. If it is not open, nothing
+ * is, and why says in words what the kernel refused. */
+enum perf_answer perf_ring_open(struct perf_ring *ring, const struct perf_want *want, char why[WHY_ROOM]);
 bool perf_ring_start(const struct perf_ring *ring, char why[WHY_ROOM]);
 bool perf_ring_stop(const struct perf_ring *ring, char why[WHY_ROOM]);
 void perf_ring_close(struct perf_ring *ring);
@@ -55,6 +61,11 @@ uint64_t perf_ring_head(const struct perf_ring *ring);
 uint64_t perf_ring_tail(const struct perf_ring *ring);
 /* All reads are done before the kernel sees the new tail. */
 void perf_ring_give_back(const struct perf_ring *ring, uint64_t tail);
+
+/* Whether the next switch might have found no room between these two: the kernel
+ * tells of what it dropped only with the next record that finds room, so after
+ * the last record of a full ring anything may have happened. */
+bool ring_is_full(size_t length, uint64_t head, uint64_t tail);
 
 /* The cpus that are online, in order. Returns their number, or 0 if it cannot
  * be told. At most `most` are stored. */
@@ -73,6 +84,7 @@ enum { IMAGE_HEADER = 50 };
 /* ringdump takes no longer ring. */
 enum { RINGDUMP_RING_MAX = 16384 };
 
+/* Of a file, or of standard input: "-". */
 bool ring_image_load(const char *path, struct ring_image *image, char why[WHY_ROOM]);
 bool ring_image_save(const char *path, const struct ring_attributes *attributes, uint64_t head, uint64_t tail,
     const uint8_t *bytes, size_t length, char why[WHY_ROOM]);

@@ -1,8 +1,13 @@
+#define _GNU_SOURCE
 #include "picture.h"
 
 #include <math.h>
 #include <stdlib.h>
 #include <string.h>
+
+#include "memory.h"
+#include "order.h"
+#include "svg.h"
 
 /* ---- sizes, in pixels ---- */
 
@@ -10,22 +15,32 @@ enum {
     WIDTH = 1200,
     LEFT = 130,  /* room for the lanes' labels */
     RIGHT = 60,  /* room for a mark's number at the end */
-    TOP = 96,
     STRIP = 20,  /* above a lane: the marks */
     LANE = 42,
     GAP = 12,
     LEGEND_ROW = 22,
     LEGEND_COLUMNS = 3,
     MARK = 14,   /* marks that are closer than this are one mark with a number */
+    SENTENCE = 130, /* signs on a line above the lanes */
+    CPUS_DRAWN = 64,
 };
 
 #define PLOT (WIDTH - LEFT - RIGHT)
 
-static const char watched_colour[] = "#ff922b", others_colour[] = "#d9d9d9", idle_colour[] = "#ffffff";
+/* Slices that are thinner than this are drawn together. */
+static const double thin = 1.0;
+
+static const char watched_colour[] = "#ff922b", others_colour[] = "#d9d9d9", idle_colour[] = "#ffffff", slept_colour[] = "#e7f5ff",
+    sample_colour[] = "#868e96";
 static const char *const colours[] = {
     "#a6c8e4", "#b7dba0", "#d3bfe0", "#f4e19a", "#9fd3dc", "#e3cdb5", "#a5d6c9", "#dfe3a0", "#c4c9ee", "#e0b7cf",
 };
 enum { COLOURS = sizeof colours / sizeof colours[0] };
+
+/* What was drawn, for the legend. */
+struct drawn {
+    bool threads[COLOURS], watched, others, idle, unknown, waited, slept, sample, mapped, lost, told;
+};
 
 struct ranked {
     const struct thread *thread;
@@ -41,70 +56,21 @@ struct canvas {
     size_t cpu_count;
     struct ranked *ranked; /* the threads with a colour come first */
     size_t ranked_count;
+    const struct event **points; /* samples, mappings and losses, by cpu and time */
+    size_t point_count;
+    struct drawn drawn;
     int y; /* where the next part starts */
 };
-
-static void *must(void *memory)
-{
-    if (memory == NULL) {
-        fprintf(stderr, "out of memory\n");
-        exit(1);
-    }
-    return memory;
-}
 
 static double x_of(const struct canvas *c, uint64_t time)
 {
     return LEFT + (double)(time - c->story->first_time) * c->ns_to_px;
 }
 
-/* A text in an element: the three signs that XML keeps for itself are written otherwise. */
-static void put_text(FILE *out, const char *text)
+/* ms since the first record, as the axis shows it */
+static const char *moment(const struct canvas *c, char out[MS_ROOM], uint64_t time)
 {
-    for (; *text != '\0'; text++) {
-        if (*text == '&')
-            fputs("&amp;", out);
-        else if (*text == '<')
-            fputs("&lt;", out);
-        else if (*text == '>')
-            fputs("&gt;", out);
-        else
-            fputc(*text, out);
-    }
-}
-
-static void label(const struct canvas *c, double x, double y, const char *style, const char *text)
-{
-    fprintf(c->out, "<text x=\"%.1f\" y=\"%.1f\" class=\"%s\">", x, y, style);
-    put_text(c->out, text);
-    fputs("</text>\n", c->out);
-}
-
-static void box(const struct canvas *c, double x, double y, double width, double height, const char *fill)
-{
-    fprintf(c->out, "<rect x=\"%.2f\" y=\"%.1f\" width=\"%.2f\" height=\"%.1f\" fill=\"%s\"/>\n", x, y, width, height, fill);
-}
-
-/* Only if it fits: a label is never cut, and never runs into its neighbour. */
-static bool label_in(const struct canvas *c, double x, double width, double y, const char *text)
-{
-    double needed = 6.8 * (double)strlen(text) + 6;
-    if (width < needed)
-        return false;
-    label(c, x + width / 2, y, "in", text);
-    return true;
-}
-
-/* The whole of it, else the name or the number alone, else nothing: the colour tells. */
-static void label_who(const struct canvas *c, double x, double width, double y, const struct whom *who)
-{
-    char text[WHO_ROOM];
-    who_in_words(text, who);
-    if (label_in(c, x, width, y, text))
-        return;
-    if (who->name == NULL || !plain_text(text, sizeof text, who->name, 30))
-        snprintf(text, sizeof text, "%u", who->tid);
-    label_in(c, x, width, y, text);
+    return ms_in_words(out, time - c->story->first_time);
 }
 
 static struct whom as_whom(const struct thread *thread)
@@ -122,37 +88,140 @@ static int by_weight(const void *left, const void *right)
     return l->thread->tid < r->thread->tid ? -1 : l->thread->tid > r->thread->tid;
 }
 
+/* How many samples each thread has. To be freed. */
+static uint64_t *count_samples(const struct canvas *c)
+{
+    uint64_t *samples = must(calloc(c->story->thread_count + 1, sizeof *samples));
+    for (size_t i = 0; i < c->point_count; i++)
+        if (c->points[i]->kind == EVENT_SAMPLE && c->points[i]->who.known)
+            samples[story_thread(c->story, c->points[i]->who.tid) - c->story->threads]++;
+    return samples;
+}
+
 static void rank_threads(struct canvas *c)
 {
     const struct story *story = c->story;
-    uint64_t *weights = must(calloc(story->thread_count + 1, sizeof *weights));
+    uint64_t *samples = count_samples(c);
     c->ranked = must(calloc(story->thread_count + 1, sizeof *c->ranked));
-    for (size_t i = 0; i < story->event_count; i++) {
-        const struct event *e = &story->events[i];
-        if (e->kind == EVENT_SAMPLE && e->timed && e->on_cpu && e->who.known)
-            weights[story_thread(story, e->who.tid) - story->threads]++;
-    }
     for (size_t i = 0; i < story->thread_count; i++) {
         const struct thread *thread = &story->threads[i];
         bool watched = thread == c->verdict->thread;
-        if (thread->tid != 0 && thread->tid != TID_ENDED && !watched && (thread->ran != 0 || weights[i] != 0))
-            c->ranked[c->ranked_count++] = (struct ranked){ thread, thread->ran + weights[i] };
+        if (thread->tid != 0 && thread->tid != TID_ENDED && !watched && (thread->ran != 0 || samples[i] != 0))
+            c->ranked[c->ranked_count++] = (struct ranked){ thread, thread->ran + samples[i] };
     }
-    free(weights);
+    free(samples);
     if (c->ranked_count > 1)
         qsort(c->ranked, c->ranked_count, sizeof *c->ranked, by_weight);
 }
 
-static const char *colour_of(const struct canvas *c, uint32_t tid)
+/* The colour of a thread, which is then drawn. */
+static const char *colour_of(struct canvas *c, uint32_t tid)
 {
-    if (tid == 0)
+    if (tid == 0) {
+        c->drawn.idle = true;
         return idle_colour;
-    if (c->verdict->thread != NULL && c->verdict->thread->tid == tid)
+    }
+    if (c->verdict->thread != NULL && c->verdict->thread->tid == tid) {
+        c->drawn.watched = true;
         return watched_colour;
+    }
     for (size_t i = 0; i < c->ranked_count && i < COLOURS; i++)
-        if (c->ranked[i].thread->tid == tid)
+        if (c->ranked[i].thread->tid == tid) {
+            c->drawn.threads[i] = true;
             return colours[i];
+        }
+    c->drawn.others = true;
     return others_colour;
+}
+
+/* ---- slices ---- */
+
+/* Only if it fits: a label is never cut, and never runs into its neighbour. */
+static bool label_in(const struct canvas *c, double x, double width, double y, const char *text)
+{
+    double needed = 6.8 * (double)strlen(text) + 6;
+    if (width < needed)
+        return false;
+    svg_label(c->out, x + width / 2, y, "in", text);
+    return true;
+}
+
+/* The whole of it, else the name or the number alone, else nothing: colour and title tell. */
+static void label_who(const struct canvas *c, double x, double width, double y, const struct whom *who)
+{
+    char text[WHO_ROOM];
+    if (who->tid == 0 || label_in(c, x, width, y, who_in_words(text, who)))
+        return;
+    if (who->name == NULL || !plain_text(text, sizeof text, who->name, 30))
+        snprintf(text, sizeof text, "%u", who->tid);
+    label_in(c, x, width, y, text);
+}
+
+/* Never thinner than half a pixel. */
+static double slice_width(double from, double to)
+{
+    return to - from > 0.5 ? to - from : 0.5;
+}
+
+static void draw_unknown(struct canvas *c, double from, double to, int y)
+{
+    if (to - from < 0.5)
+        return;
+    svg_box(c->out, from, y, to - from, LANE, SVG_UNKNOWN, "not known: no record tells");
+    c->drawn.unknown = true;
+}
+
+static void draw_run(struct canvas *c, const struct run *run, int y)
+{
+    char title[WHO_ROOM + 4 * MS_ROOM], who[WHO_ROOM], ms[MS_ROOM], from[MS_ROOM], to[MS_ROOM];
+    double x = x_of(c, run->from), width = slice_width(x, x_of(c, run->to));
+    snprintf(title, sizeof title, "%s: %s ms on cpu %u, from %s to %s", who_in_words(who, &run->who), ms_in_words(ms, run->to - run->from),
+        run->cpu, moment(c, from, run->from), moment(c, to, run->to));
+    svg_box(c->out, x, y, width, LANE, colour_of(c, run->who.tid), title);
+    label_who(c, x, width, y + LANE / 2 + 4, &run->who);
+}
+
+/* Many thin runs: one slice in the colour of the one that ran most in it. */
+static void draw_many(struct canvas *c, uint32_t cpu, size_t runs, uint64_t from, uint64_t to, int y)
+{
+    char title[WHO_ROOM + 6 * MS_ROOM], who[WHO_ROOM], most[MS_ROOM], begin[MS_ROOM], end[MS_ROOM];
+    struct account a = account_of(c->story, cpu, TID_ENDED, from, to);
+    static const struct whom idle = { .known = true };
+    const struct whom *top = a.shown != 0 && a.top[0].ran >= a.idle ? &a.top[0].who : &idle;
+    uint64_t ran = top == &idle ? a.idle : a.top[0].ran;
+    double x = x_of(c, from);
+    snprintf(title, sizeof title, "%zu runs of %zu %s, from %s to %s; most: %s, %s ms", runs, a.count + (a.idle != 0),
+        plural(a.count + (a.idle != 0), "thread", "threads"), moment(c, begin, from), moment(c, end, to), who_in_words(who, top), ms_in_words(most, ran));
+    svg_box(c->out, x, y, slice_width(x, x_of(c, to)), LANE, colour_of(c, top->tid), title);
+}
+
+/* How many runs from this one on are drawn as one slice. */
+static size_t runs_in_slice(const struct canvas *c, const struct run *runs, size_t count)
+{
+    double begin = x_of(c, runs[0].from);
+    size_t i = 1;
+    if (x_of(c, runs[0].to) - begin >= thin)
+        return 1;
+    while (i < count && x_of(c, runs[i].to) - begin < 2 * thin && x_of(c, runs[i].from) - x_of(c, runs[i - 1].to) < 0.5)
+        i++;
+    return i;
+}
+
+static void draw_runs(struct canvas *c, uint32_t cpu, int y)
+{
+    size_t count, step;
+    const struct run *runs = story_runs_of(c->story, cpu, &count);
+    double known_to = LEFT;
+    for (size_t i = 0; i < count; i += step) {
+        step = runs_in_slice(c, runs + i, count - i);
+        draw_unknown(c, known_to, x_of(c, runs[i].from), y);
+        if (step == 1)
+            draw_run(c, &runs[i], y);
+        else
+            draw_many(c, cpu, step, runs[i].from, runs[i + step - 1].to, y);
+        known_to = x_of(c, runs[i + step - 1].to);
+    }
+    draw_unknown(c, known_to, LEFT + PLOT, y);
 }
 
 /* ---- lanes ---- */
@@ -163,31 +232,34 @@ static int by_number(const void *left, const void *right)
     return l < r ? -1 : l > r;
 }
 
-static void find_cpus(struct canvas *c)
+/* In order, each once. Returns how many are left. */
+static size_t order_cpus(uint32_t *cpus, size_t count)
 {
-    size_t room = 0;
-    for (size_t i = 0; i < c->story->event_count; i++) {
-        const struct event *e = &c->story->events[i];
-        size_t k = 0;
-        if (!e->timed || !e->on_cpu)
-            continue;
-        while (k < c->cpu_count && c->cpus[k] != e->cpu)
-            k++;
-        if (k < c->cpu_count)
-            continue;
-        if (c->cpu_count == room) {
-            room = room == 0 ? 16 : 2 * room;
-            c->cpus = must(realloc(c->cpus, room * sizeof *c->cpus));
-        }
-        c->cpus[c->cpu_count++] = e->cpu;
-    }
-    if (c->cpu_count > 1)
-        qsort(c->cpus, c->cpu_count, sizeof *c->cpus, by_number);
+    size_t kept = 0;
+    if (count > 1)
+        qsort(cpus, count, sizeof *cpus, by_number);
+    for (size_t i = 0; i < count; i++)
+        if (kept == 0 || cpus[kept - 1] != cpus[i])
+            cpus[kept++] = cpus[i];
+    return kept;
 }
 
-static void lane_ground(const struct canvas *c, int y)
+/* The cpus of all timed records. */
+static void find_cpus(struct canvas *c)
 {
-    box(c, LEFT, y, PLOT, LANE, "url(#unknown)");
+    size_t count = 0;
+    c->cpus = must(malloc((c->story->event_count + 1) * sizeof *c->cpus));
+    for (size_t i = 0; i < c->story->event_count; i++) {
+        const struct event *e = &c->story->events[i];
+        if (e->timed && e->on_cpu)
+            c->cpus[count++] = e->cpu;
+    }
+    c->cpu_count = order_cpus(c->cpus, count);
+}
+
+static size_t lanes_of_cpus(const struct canvas *c)
+{
+    return c->cpu_count < CPUS_DRAWN ? c->cpu_count : CPUS_DRAWN;
 }
 
 static void lane_frame(const struct canvas *c, int y)
@@ -195,59 +267,58 @@ static void lane_frame(const struct canvas *c, int y)
     fprintf(c->out, "<rect x=\"%d\" y=\"%d\" width=\"%d\" height=\"%d\" class=\"frame\"/>\n", LEFT, y, PLOT, LANE);
 }
 
-/* Runs too short to see are joined with their neighbour of the same colour, or
- * left out beside one of another. */
-static void draw_runs(const struct canvas *c, uint32_t cpu, int y)
+/* ---- samples and marks ---- */
+
+static int by_cpu_then_time(const void *left, const void *right)
 {
-    size_t count;
-    const struct run *runs = story_runs_of(c->story, cpu, &count);
-    const char *fill = NULL;
-    double from = 0, to = 0;
-    struct whom who = { 0 };
-    bool alone = true;
-    for (size_t i = 0; i <= count; i++) {
-        double x0 = i < count ? x_of(c, runs[i].from) : WIDTH, x1 = i < count ? x_of(c, runs[i].to) : WIDTH;
-        const char *next = i < count ? colour_of(c, runs[i].who.tid) : NULL;
-        if (fill != NULL && next == fill && x0 - to < 0.3) {
-            to = x1;
-            alone = alone && runs[i].who.tid == who.tid;
-            continue;
-        }
-        if (fill != NULL && next != NULL && x1 - to < 0.2 && x0 - to < 0.2 && next != watched_colour)
-            continue;
-        if (fill != NULL) {
-            double width = to - from > 0.5 ? to - from : 0.5;
-            box(c, from, y, width, LANE, fill);
-            if (alone && who.tid != 0)
-                label_who(c, from, width, y + LANE / 2 + 4, &who);
-        }
-        if (i < count) {
-            fill = next;
-            from = x0;
-            to = x1;
-            who = runs[i].who;
-            alone = true;
-        }
-    }
+    const struct event *l = *(const struct event *const *)left, *r = *(const struct event *const *)right;
+    if (l->cpu != r->cpu)
+        return l->cpu < r->cpu ? -1 : 1;
+    return l < r ? -1 : l > r; /* the events lie by time */
 }
 
-static void draw_samples(const struct canvas *c, uint32_t cpu, int y)
+static void find_points(struct canvas *c)
 {
-    double last = -10;
+    c->points = must(malloc((c->story->event_count + 1) * sizeof *c->points));
     for (size_t i = 0; i < c->story->event_count; i++) {
         const struct event *e = &c->story->events[i];
-        if (e->kind != EVENT_SAMPLE || !e->timed || !e->on_cpu || e->cpu != cpu)
-            continue;
-        double x = x_of(c, e->time);
-        if (x - last < 1.5)
-            continue; /* too close to be seen apart */
-        last = x;
-        fprintf(c->out, "<line x1=\"%.2f\" y1=\"%d\" x2=\"%.2f\" y2=\"%d\" stroke=\"%s\" stroke-width=\"1.5\"/>\n", x, y + 8, x,
-            y + LANE - 8, e->who.known && e->who.tid != 0 ? colour_of(c, e->who.tid) : "#868e96");
+        if (e->timed && e->on_cpu && (e->kind == EVENT_SAMPLE || e->kind == EVENT_MAPPED || e->kind == EVENT_LOST))
+            c->points[c->point_count++] = e;
     }
+    if (c->point_count > 1)
+        qsort(c->points, c->point_count, sizeof *c->points, by_cpu_then_time);
 }
 
-/* ---- marks ---- */
+struct point_search {
+    const struct event **points;
+    uint32_t cpu;
+};
+
+static bool lies_on_lower_cpu(const void *context, size_t place)
+{
+    const struct point_search *s = context;
+    return s->points[place]->cpu < s->cpu;
+}
+
+/* The first point of this cpu or a later one. */
+static size_t first_point(const struct canvas *c, uint32_t cpu)
+{
+    return first_not(c->point_count, lies_on_lower_cpu, &(struct point_search){ c->points, cpu });
+}
+
+static void draw_samples(struct canvas *c, uint32_t cpu, int y)
+{
+    double last = -10;
+    for (size_t i = first_point(c, cpu); i < c->point_count && c->points[i]->cpu == cpu; i++) {
+        const struct event *e = c->points[i];
+        double x = x_of(c, e->time);
+        if (e->kind != EVENT_SAMPLE || x - last < 1.5)
+            continue; /* too close to be seen apart */
+        last = x;
+        c->drawn.sample = true;
+        svg_box(c->out, x - 0.75, y + 8, 1.5, LANE - 16, e->who.known && e->who.tid != 0 ? colour_of(c, e->who.tid) : sample_colour, "a sample");
+    }
+}
 
 static void draw_mark(const struct canvas *c, enum event_kind kind, double x, int y, unsigned long long count)
 {
@@ -259,7 +330,7 @@ static void draw_mark(const struct canvas *c, enum event_kind kind, double x, in
             y - 9);
     if (count > 1) {
         snprintf(text, sizeof text, "%llu", count);
-        label(c, x + 7, y - 1, kind == EVENT_MAPPED ? "mapped" : "lost", text);
+        svg_label(c->out, x + 7, y - 1, kind == EVENT_MAPPED ? "mapped" : "lost", text);
     }
 }
 
@@ -270,32 +341,28 @@ static double mark_room(unsigned long long count)
     return MARK + 7.0 * digits;
 }
 
-/* Mapped: how many at one place. Lost: how many records. Marks that would touch are joined. */
-static void draw_marks(const struct canvas *c, uint32_t cpu, int y)
+/* The marks of one kind. Mapped: how many at one place. Lost: how many records. Marks that would touch are joined. */
+static bool draw_marks(const struct canvas *c, enum event_kind kind, uint32_t cpu, int y)
 {
-    struct { bool open; double x; unsigned long long count; } mark[2] = { { 0 }, { 0 } };
-    static const enum event_kind kinds[2] = { EVENT_MAPPED, EVENT_LOST };
-    for (size_t i = 0; i <= c->story->event_count; i++) {
-        const struct event *e = i < c->story->event_count ? &c->story->events[i] : NULL;
-        if (e != NULL && (!e->timed || !e->on_cpu || e->cpu != cpu || (e->kind != EVENT_MAPPED && e->kind != EVENT_LOST)))
+    unsigned long long count = 0;
+    double at = 0;
+    bool open = false;
+    for (size_t i = first_point(c, cpu); i < c->point_count && c->points[i]->cpu == cpu; i++) {
+        const struct event *e = c->points[i];
+        if (e->kind != kind)
             continue;
-        for (unsigned k = 0; k < 2; k++) {
-            bool mine = e != NULL && e->kind == kinds[k];
-            if (mark[k].open && (e == NULL || (mine && x_of(c, e->time) - mark[k].x > mark_room(mark[k].count)))) {
-                /* mapped in the upper half of the strip's row, lost in the lower: they may share a moment */
-                draw_mark(c, kinds[k], mark[k].x, k == 0 ? y - 2 : y + LANE + 11, mark[k].count);
-                mark[k].open = false;
-            }
-            if (!mine)
-                continue;
-            if (!mark[k].open) {
-                mark[k].open = true;
-                mark[k].x = x_of(c, e->time);
-                mark[k].count = 0;
-            }
-            mark[k].count += e->kind == EVENT_LOST ? e->number : 1;
+        double x = x_of(c, e->time);
+        if (open && x - at > mark_room(count)) {
+            draw_mark(c, kind, at, y, count);
+            open = false;
         }
+        at = open ? at : x;
+        count = (open ? count : 0) + (kind == EVENT_LOST ? e->number : 1);
+        open = true;
     }
+    if (open)
+        draw_mark(c, kind, at, y, count);
+    return open;
 }
 
 static void draw_cpu(struct canvas *c, uint32_t cpu)
@@ -303,56 +370,157 @@ static void draw_cpu(struct canvas *c, uint32_t cpu)
     char text[32];
     int y = c->y + STRIP;
     snprintf(text, sizeof text, "cpu %u", cpu);
-    label(c, LEFT - 12, y + LANE / 2 + 5, "lane", text);
-    lane_ground(c, y);
+    svg_label(c->out, LEFT - 12, y + LANE / 2 + 5, "lane", text);
     draw_runs(c, cpu, y);
     draw_samples(c, cpu, y);
     lane_frame(c, y);
-    draw_marks(c, cpu, y);
+    /* mapped above the lane, lost below it: they may share a moment */
+    c->drawn.mapped = draw_marks(c, EVENT_MAPPED, cpu, y - 2) || c->drawn.mapped;
+    c->drawn.lost = draw_marks(c, EVENT_LOST, cpu, y + LANE + 11) || c->drawn.lost;
     c->y = y + LANE + GAP;
 }
 
 /* ---- the watched thread ---- */
 
-static void draw_waits(const struct canvas *c, int y)
+/* What it did for a time: it ran, or it waited. */
+struct piece {
+    const struct run *run;
+    const struct wait *wait;
+    uint64_t from, to;
+};
+
+static int by_begin(const void *left, const void *right)
 {
-    for (size_t i = 0; i < c->story->wait_count; i++) {
-        const struct wait *w = &c->story->waits[i];
-        if (w->who.tid != c->verdict->thread->tid || w->unsure)
-            continue;
-        char text[48];
-        double x = x_of(c, w->from), width = x_of(c, w->to) - x;
-        box(c, x, y, width > 0.5 ? width : 0.5, LANE, w->preempted ? "url(#waited)" : "#e7f5ff");
-        snprintf(text, sizeof text, "%s %.1f ms", w->preempted ? "waited" : "slept", (double)(w->to - w->from) / 1e6);
+    const struct piece *l = left, *r = right;
+    return l->from < r->from ? -1 : l->from > r->from;
+}
+
+static size_t add_runs(const struct story *s, uint32_t tid, struct piece *list)
+{
+    size_t count = 0;
+    for (size_t i = 0; i < s->run_count; i++)
+        if (s->runs[i].who.tid == tid)
+            list[count++] = (struct piece){ .run = &s->runs[i], .from = s->runs[i].from, .to = s->runs[i].to };
+    return count;
+}
+
+static size_t add_waits(const struct story *s, uint32_t tid, struct piece *list)
+{
+    size_t count = 0;
+    for (size_t i = 0; i < s->wait_count; i++)
+        if (s->waits[i].who.tid == tid && !s->waits[i].unsure)
+            list[count++] = (struct piece){ .wait = &s->waits[i], .from = s->waits[i].from, .to = s->waits[i].to };
+    return count;
+}
+
+static struct piece *find_pieces(const struct canvas *c, size_t *count)
+{
+    const struct story *s = c->story;
+    struct piece *list = must(malloc((s->run_count + s->wait_count + 1) * sizeof *list));
+    *count = add_runs(s, c->verdict->thread->tid, list);
+    *count += add_waits(s, c->verdict->thread->tid, list + *count);
+    if (*count > 1)
+        qsort(list, *count, sizeof *list, by_begin);
+    return list;
+}
+
+static const char *fill_of(struct canvas *c, const struct piece *p)
+{
+    if (p->run != NULL)
+        return colour_of(c, p->run->who.tid);
+    if (p->wait->preempted) {
+        c->drawn.waited = true;
+        return SVG_WAITED;
+    }
+    c->drawn.slept = true;
+    return slept_colour;
+}
+
+static void draw_piece(struct canvas *c, const struct piece *p, int y)
+{
+    char title[6 * MS_ROOM], text[2 * MS_ROOM], ms[MS_ROOM], from[MS_ROOM], to[MS_ROOM];
+    const char *did = p->run != NULL ? "ran" : p->wait->preempted ? "waited" : "slept";
+    double x = x_of(c, p->from), width = slice_width(x, x_of(c, p->to));
+    snprintf(title, sizeof title, "%s %s ms, from %s to %s", did, ms_in_words(ms, p->to - p->from), moment(c, from, p->from), moment(c, to, p->to));
+    svg_box(c->out, x, y, width, LANE, fill_of(c, p), title);
+    snprintf(text, sizeof text, "%s %s ms", did, short_ms(ms, p->to - p->from));
+    if (p->wait != NULL)
         label_in(c, x, width, y + LANE / 2 + 4, text);
-    }
 }
 
-static void draw_own_runs(const struct canvas *c, int y)
+/* Many thin ones: one slice that looks as what it did longest in it. */
+static void draw_pieces_as_one(struct canvas *c, const struct piece *list, size_t count, int y)
 {
-    for (size_t i = 0; i < c->story->run_count; i++) {
-        const struct run *run = &c->story->runs[i];
-        if (run->who.tid != c->verdict->thread->tid)
-            continue;
-        double x = x_of(c, run->from), width = x_of(c, run->to) - x;
-        box(c, x, y, width > 0.5 ? width : 0.5, LANE, watched_colour);
+    uint64_t sums[3] = { 0 }; /* ran, waited, slept */
+    const struct piece *any[3] = { NULL };
+    char title[8 * MS_ROOM], ran[MS_ROOM], waited[MS_ROOM], slept[MS_ROOM];
+    double x = x_of(c, list[0].from), width = slice_width(x, x_of(c, list[count - 1].to));
+    for (size_t i = 0; i < count; i++) {
+        size_t k = list[i].run != NULL ? 0 : list[i].wait->preempted ? 1 : 2;
+        sums[k] += list[i].to - list[i].from;
+        any[k] = &list[i];
     }
+    size_t most = sums[1] >= sums[0] && sums[1] >= sums[2] ? 1 : sums[0] >= sums[2] ? 0 : 2;
+    snprintf(title, sizeof title, "ran %s ms, waited %s ms, slept %s ms", ms_in_words(ran, sums[0]), ms_in_words(waited, sums[1]),
+        ms_in_words(slept, sums[2]));
+    if (any[most] != NULL)
+        svg_box(c->out, x, y, width, LANE, fill_of(c, any[most]), title);
 }
 
-static void draw_watched(struct canvas *c)
+static size_t pieces_in_slice(const struct canvas *c, const struct piece *list, size_t count)
+{
+    double begin = x_of(c, list[0].from);
+    size_t i = 1;
+    if (x_of(c, list[0].to) - begin >= thin)
+        return 1;
+    while (i < count && x_of(c, list[i].to) - begin < 2 * thin)
+        i++;
+    return i;
+}
+
+static void draw_pieces(struct canvas *c, int y)
+{
+    size_t count, step;
+    struct piece *list = find_pieces(c, &count);
+    double known_to = LEFT;
+    for (size_t i = 0; i < count; i += step) {
+        step = pieces_in_slice(c, list + i, count - i);
+        draw_unknown(c, known_to, x_of(c, list[i].from), y);
+        if (step == 1)
+            draw_piece(c, &list[i], y);
+        else
+            draw_pieces_as_one(c, list + i, step, y);
+        known_to = x_of(c, list[i + step - 1].to);
+    }
+    draw_unknown(c, known_to, LEFT + PLOT, y);
+    free(list);
+}
+
+/* What the verdict tells of: a frame in the watched thread's lane, and lines through those of the cpus. */
+static void draw_told(struct canvas *c, int top, int y)
+{
+    if (!is_late(c->verdict))
+        return;
+    double from = x_of(c, c->verdict->late_from), to = x_of(c, c->verdict->worst->to);
+    svg_line(c->out, from, top, from, y, "told");
+    svg_line(c->out, to, top, to, y, "told");
+    fprintf(c->out, "<rect x=\"%.2f\" y=\"%d\" width=\"%.2f\" height=\"%d\" class=\"outline\"/>\n", from, y, slice_width(from, to), LANE);
+    c->drawn.told = true;
+}
+
+static void draw_watched(struct canvas *c, int top)
 {
     char name[40], numbers[32];
     const struct thread *thread = c->verdict->thread;
     int y = c->y + STRIP;
     bool named = thread->name != NULL && plain_text(name, sizeof name, thread->name, 15);
     snprintf(numbers, sizeof numbers, "%u/%u", thread->pid, thread->tid);
-    label(c, LEFT - 12, y + LANE / 2 - (named ? 3 : -5), "lane", named ? name : numbers);
+    svg_label(c->out, LEFT - 12, y + LANE / 2 - (named ? 3 : -5), "lane", named ? name : numbers);
     if (named)
-        label(c, LEFT - 12, y + LANE / 2 + 14, "small", numbers);
-    lane_ground(c, y);
-    draw_waits(c, y);
-    draw_own_runs(c, y);
+        svg_label(c->out, LEFT - 12, y + LANE / 2 + 14, "small", numbers);
+    draw_pieces(c, y);
     lane_frame(c, y);
+    draw_told(c, top, y);
     c->y = y + LANE + GAP;
 }
 
@@ -370,174 +538,215 @@ static void draw_grid(const struct canvas *c, double ms, double step, int top, i
 {
     for (int i = 0; i * step <= ms * 1.0001; i++) {
         double x = LEFT + i * step * 1e6 * c->ns_to_px;
-        fprintf(c->out, "<line x1=\"%.1f\" y1=\"%d\" x2=\"%.1f\" y2=\"%d\" class=\"grid\"/>\n", x, top, x, bottom);
+        svg_line(c->out, x, top, x, bottom, "grid");
     }
 }
 
 static void draw_axis(struct canvas *c, double ms, double step)
 {
     int y = c->y + 6, places = step >= 1 ? 0 : step >= 0.1 ? 1 : step >= 0.01 ? 2 : 3;
-    fprintf(c->out, "<line x1=\"%d\" y1=\"%d\" x2=\"%d\" y2=\"%d\" class=\"axis\"/>\n", LEFT, y, WIDTH - RIGHT, y);
+    svg_line(c->out, LEFT, y, WIDTH - RIGHT, y, "axis");
     for (int i = 0; i * step <= ms * 1.0001; i++) {
         char text[32];
         double x = LEFT + i * step * 1e6 * c->ns_to_px;
-        fprintf(c->out, "<line x1=\"%.1f\" y1=\"%d\" x2=\"%.1f\" y2=\"%d\" class=\"axis\"/>\n", x, y, x, y + 6);
+        svg_line(c->out, x, y, x, y + 6, "axis");
         snprintf(text, sizeof text, "%.*f", places, i * step);
-        label(c, x, y + 21, "tick", text);
+        svg_label(c->out, x, y + 21, "tick", text);
     }
-    label(c, LEFT - 24, y + 21, "small", "ms");
+    svg_label(c->out, LEFT - 24, y + 21, "small", "ms");
     c->y = y + 34;
 }
 
-/* ---- legend ---- */
+/* ---- legend: what was drawn, and nothing else ---- */
 
 struct place {
     int column, row;
 };
 
-static void next_place(struct place *place)
+/* The text, beside its sign at *x, *y. */
+static void legend_text(const struct canvas *c, struct place *place, const char *text, int *x, int *y)
 {
-    if (++place->column == LEGEND_COLUMNS) {
-        place->column = 0;
-        place->row++;
-    }
+    *x = LEFT + place->column * (PLOT / LEGEND_COLUMNS);
+    *y = c->y + place->row * LEGEND_ROW;
+    svg_label(c->out, *x + 21, *y + 11.5, "legend", text);
+    place->row += place->column == LEGEND_COLUMNS - 1;
+    place->column = (place->column + 1) % LEGEND_COLUMNS;
 }
 
-static void legend_item(const struct canvas *c, struct place *place, const char *fill, const char *text)
+static void legend_item(const struct canvas *c, struct place *place, bool drawn, const char *fill, const char *text)
 {
-    int x = LEFT + place->column * (PLOT / LEGEND_COLUMNS), y = c->y + place->row * LEGEND_ROW;
+    int x, y;
+    if (!drawn)
+        return;
+    legend_text(c, place, text, &x, &y);
     fprintf(c->out, "<rect x=\"%d\" y=\"%d\" width=\"14\" height=\"14\" fill=\"%s\" stroke=\"#868e96\" stroke-width=\"0.7\"/>\n", x, y, fill);
-    label(c, x + 21, y + 11.5, "legend", text);
-    next_place(place);
 }
 
-static void legend_thread(const struct canvas *c, struct place *place, const char *fill, const struct thread *thread)
+static void legend_mark(const struct canvas *c, struct place *place, bool drawn, enum event_kind kind, const char *text)
 {
-    char who[WHO_ROOM], text[WHO_ROOM + 24];
+    int x, y;
+    if (!drawn)
+        return;
+    legend_text(c, place, text, &x, &y);
+    draw_mark(c, kind, x + 7, y + 11, 1);
+}
+
+static void legend_thread(const struct canvas *c, struct place *place, bool drawn, const char *fill, const struct thread *thread)
+{
+    char who[WHO_ROOM], text[WHO_ROOM + MS_ROOM + 8], ms[MS_ROOM];
     struct whom whom = as_whom(thread);
     who_in_words(who, &whom);
-    if (thread->ran != 0)
-        snprintf(text, sizeof text, "%s, %.*f ms", who, thread->ran < 1000000 ? 3 : 1, (double)thread->ran / 1e6);
-    else
-        snprintf(text, sizeof text, "%s", who);
-    legend_item(c, place, fill, text);
+    snprintf(text, sizeof text, thread->ran != 0 ? "%s, %s ms" : "%s", who, short_ms(ms, thread->ran));
+    legend_item(c, place, drawn, fill, text);
 }
 
-static void legend_mark(const struct canvas *c, struct place *place, enum event_kind kind, const char *text)
+static void legend_sample(const struct canvas *c, struct place *place)
 {
-    int x = LEFT + place->column * (PLOT / LEGEND_COLUMNS), y = c->y + place->row * LEGEND_ROW;
-    draw_mark(c, kind, x + 7, y + 11, 1);
-    label(c, x + 21, y + 11.5, "legend", text);
-    next_place(place);
+    int x, y;
+    if (!c->drawn.sample)
+        return;
+    legend_text(c, place, "a line in a lane: a sample", &x, &y);
+    svg_box(c->out, x + 6, y, 1.5, 14, sample_colour, NULL);
 }
 
-static bool any_of(const struct story *story, enum event_kind kind)
+static void legend_told(const struct canvas *c, struct place *place)
 {
-    for (size_t i = 0; i < story->event_count; i++)
-        if (story->events[i].kind == kind)
-            return true;
-    return false;
+    int x, y;
+    if (!c->drawn.told)
+        return;
+    legend_text(c, place, "the time that is told above", &x, &y);
+    fprintf(c->out, "<rect x=\"%d\" y=\"%d\" width=\"12\" height=\"12\" class=\"outline\"/>\n", x + 1, y + 1);
 }
 
 static void draw_legend(struct canvas *c)
 {
     struct place place = { 0, 0 };
-    char text[64];
-    if (c->verdict->thread != NULL)
-        legend_thread(c, &place, watched_colour, c->verdict->thread);
+    const struct drawn *d = &c->drawn;
+    if (d->watched)
+        legend_thread(c, &place, true, watched_colour, c->verdict->thread);
     for (size_t i = 0; i < c->ranked_count && i < COLOURS; i++)
-        legend_thread(c, &place, colours[i], c->ranked[i].thread);
-    if (c->ranked_count > COLOURS) {
-        snprintf(text, sizeof text, "%zu other threads", c->ranked_count - COLOURS);
-        legend_item(c, &place, others_colour, text);
+        legend_thread(c, &place, d->threads[i], colours[i], c->ranked[i].thread);
+    legend_item(c, &place, d->others, others_colour, "other threads");
+    legend_item(c, &place, d->idle, idle_colour, "idle");
+    legend_item(c, &place, d->unknown, SVG_UNKNOWN, "not known");
+    legend_item(c, &place, d->waited, SVG_WAITED, "could run, but waited");
+    legend_item(c, &place, d->slept, slept_colour, "slept (when it was woken is not told)");
+    legend_sample(c, &place);
+    legend_mark(c, &place, d->mapped, EVENT_MAPPED, "mapped (and how many)");
+    legend_mark(c, &place, d->lost, EVENT_LOST, "records lost (and how many)");
+    legend_told(c, &place);
+    c->y += (place.row + (place.column != 0)) * LEGEND_ROW;
+}
+
+/* ---- the title: what the verdict says ---- */
+
+static const char *title_of(const struct verdict *v)
+{
+    switch (v->kind) {
+    case VERDICT_WAITED:
+    case VERDICT_PAST:
+        return "Why it ran late";
+    case VERDICT_ON_TIME:
+        return "On time";
+    case VERDICT_SLEPT:
+        return "Slept";
+    default:
+        return "Watched";
     }
-    if (c->story->run_count != 0)
-        legend_item(c, &place, idle_colour, "idle");
-    legend_item(c, &place, "url(#unknown)", "not known");
-    if (c->verdict->worst != NULL) {
-        legend_item(c, &place, "url(#waited)", "could run, but waited");
-        legend_item(c, &place, "#e7f5ff", "slept");
+}
+
+/* A sentence over as many lines as it takes. */
+static void draw_sentence(struct canvas *c, const char *sentence, const char *style, int height)
+{
+    while (*sentence != '\0') {
+        size_t length = first_line_of(sentence, SENTENCE);
+        char *line = must(strndup(sentence, length));
+        svg_label(c->out, LEFT, c->y, style, line);
+        free(line);
+        c->y += height;
+        sentence += length;
+        sentence += strspn(sentence, " ");
     }
-    if (any_of(c->story, EVENT_SAMPLE))
-        legend_item(c, &place, "#868e96", "a line in a lane: a sample");
-    if (any_of(c->story, EVENT_MAPPED))
-        legend_mark(c, &place, EVENT_MAPPED, "mapped (and how many)");
-    if (any_of(c->story, EVENT_LOST))
-        legend_mark(c, &place, EVENT_LOST, "records lost (and how many)");
+}
+
+static void draw_note(struct canvas *c, double ms)
+{
+    char text[200], more[64] = "";
+    const struct story *s = c->story;
+    if (c->cpu_count > CPUS_DRAWN)
+        snprintf(more, sizeof more, "; %zu more cpus are not drawn", c->cpu_count - CPUS_DRAWN);
+    snprintf(text, sizeof text, "%zu %s over %.1f ms, from %zu %s%s%s", s->event_count, plural(s->event_count, "record", "records"), ms,
+        s->source_count, plural(s->source_count, "ring", "rings"), s->lost != 0 ? "; records were lost" : "", more);
+    draw_sentence(c, text, "note", 16);
+}
+
+static void draw_title(struct canvas *c, double ms)
+{
+    const struct verdict *v = c->verdict;
+    char who[WHO_ROOM], text[WHO_ROOM + 32];
+    c->y = 34;
+    if (v->thread != NULL) {
+        struct whom whom = as_whom(v->thread);
+        snprintf(text, sizeof text, "%s: %s", title_of(v), who_in_words(who, &whom));
+        svg_label(c->out, LEFT, c->y, "title", text);
+    } else {
+        svg_label(c->out, LEFT, c->y, "title", "Who ran, and what happened");
+    }
+    c->y += 24;
+    draw_sentence(c, v->headline, "line", 20);
+    for (size_t i = 0; i < v->detail_count; i++)
+        draw_sentence(c, v->details[i], "note", 16);
+    draw_note(c, ms);
 }
 
 /* ---- the whole ---- */
 
-static const char style[] =
-    "<style>text{font-family:'DejaVu Sans',Verdana,Arial,sans-serif;fill:#212529}"
-    ".title{font-size:18px;font-weight:bold}.line{font-size:14px}.note{font-size:12px;fill:#495057}"
-    ".lane{font-size:13px;font-weight:bold;text-anchor:end}.small{font-size:11px;fill:#495057;text-anchor:end}"
-    ".in{font-size:11px;text-anchor:middle}.tick{font-size:12px;text-anchor:middle;fill:#495057}.legend{font-size:12px}"
-    ".mapped{font-size:11px;fill:#1864ab}.lost{font-size:11px;fill:#c92a2a}"
-    ".grid{stroke:#dee2e6;stroke-width:1}.axis{stroke:#495057;stroke-width:1}"
-    ".frame{fill:none;stroke:#adb5bd;stroke-width:1}</style>\n"
-    "<defs><pattern id=\"unknown\" width=\"7\" height=\"7\" patternUnits=\"userSpaceOnUse\" patternTransform=\"rotate(45)\">"
-    "<rect width=\"7\" height=\"7\" fill=\"#f1f3f5\"/><rect width=\"2\" height=\"7\" fill=\"#dee2e6\"/></pattern>"
-    "<pattern id=\"waited\" width=\"9\" height=\"9\" patternUnits=\"userSpaceOnUse\" patternTransform=\"rotate(-45)\">"
-    "<rect width=\"9\" height=\"9\" fill=\"#ffe3e3\"/><rect width=\"2.5\" height=\"9\" fill=\"#ffa8a8\"/></pattern></defs>\n";
-
-static void draw_title(const struct canvas *c, double ms)
+static void draw_lanes(struct canvas *c, double ms)
 {
-    char who[WHO_ROOM], text[160];
-    if (c->verdict->thread == NULL) {
-        label(c, LEFT, 34, "title", "Who ran, and what happened");
-    } else {
-        struct whom whom = as_whom(c->verdict->thread);
-        who_in_words(who, &whom);
-        snprintf(text, sizeof text, "%s: %s", c->verdict->worst != NULL && c->verdict->worst->in_the_way > 0 ? "Why it ran late" : "Watched", who);
-        label(c, LEFT, 34, "title", text);
-        label(c, LEFT, 58, "line", c->verdict->worst != NULL ? c->verdict->line : "it was never switched out and in again");
-    }
-    snprintf(text, sizeof text, "%zu record%s over %.1f ms, from %zu ring%s%s", c->story->event_count,
-        c->story->event_count == 1 ? "" : "s", ms, c->story->source_count, c->story->source_count == 1 ? "" : "s",
-        c->story->lost != 0 ? "; records were lost" : "");
-    label(c, LEFT, c->verdict->thread != NULL ? 80 : 60, "note", text);
+    const int lanes = (int)lanes_of_cpus(c) + (c->verdict->thread != NULL), top = c->y + STRIP;
+    const double step = step_of(ms);
+    draw_grid(c, ms, step, top - 6, c->y + lanes * (STRIP + LANE + GAP) + 6);
+    for (size_t i = 0; i < lanes_of_cpus(c); i++)
+        draw_cpu(c, c->cpus[i]);
+    if (c->verdict->thread != NULL)
+        draw_watched(c, top);
+    draw_axis(c, ms, step);
+    draw_legend(c);
 }
 
-static int height_of(const struct canvas *c)
+/* The picture without its begin: how high it is, is known at its end. */
+static void draw_body(struct canvas *c)
 {
-    int lanes = (int)c->cpu_count + (c->verdict->thread != NULL);
-    size_t items = (c->verdict->thread != NULL) + (c->ranked_count <= COLOURS ? c->ranked_count : COLOURS + 1) +
-        (c->story->run_count != 0) + 1 + 2 * (c->verdict->worst != NULL) + any_of(c->story, EVENT_SAMPLE) +
-        any_of(c->story, EVENT_MAPPED) + any_of(c->story, EVENT_LOST);
-    int rows = (int)((items + LEGEND_COLUMNS - 1) / LEGEND_COLUMNS);
-    return TOP + lanes * (STRIP + LANE + GAP) + 40 + rows * LEGEND_ROW + 16;
+    uint64_t whole = c->story->last_time - c->story->first_time;
+    const double ms = (double)(whole != 0 ? whole : 1) / 1e6;
+    c->ns_to_px = PLOT / (ms * 1e6);
+    if (c->story->any_time && c->cpu_count != 0) {
+        draw_title(c, ms);
+        draw_lanes(c, ms);
+    } else {
+        svg_label(c->out, LEFT, 34, "title", "Nothing to draw");
+        svg_label(c->out, LEFT, 58, "line", "these records hold no time, or no cpu");
+        c->y = 70;
+    }
 }
 
 void picture(FILE *out, const struct story *story, const struct verdict *verdict)
 {
-    struct canvas c = { .out = out, .story = story, .verdict = verdict, .y = TOP };
-    uint64_t whole = story->last_time - story->first_time;
-    if (whole == 0)
-        whole = 1;
-    double ms = (double)whole / 1e6, step = step_of(ms);
-    c.ns_to_px = PLOT / (double)whole;
+    char *body = NULL;
+    size_t size;
+    struct canvas c = { .story = story, .verdict = verdict };
+    c.out = must(open_memstream(&body, &size));
+    find_points(&c);
     rank_threads(&c);
     find_cpus(&c);
-    int height = height_of(&c);
-    fprintf(out, "<svg xmlns=\"http://www.w3.org/2000/svg\" width=\"%d\" height=\"%d\" viewBox=\"0 0 %d %d\">\n", WIDTH, height, WIDTH, height);
-    fputs(style, out);
-    fprintf(out, "<rect width=\"%d\" height=\"%d\" fill=\"#ffffff\"/>\n", WIDTH, height);
-    if (!story->any_time || c.cpu_count == 0) {
-        label(&c, LEFT, 34, "title", "Nothing to draw");
-        label(&c, LEFT, 58, "line", "these records hold no time, or no cpu");
-    } else {
-        int lanes = (int)c.cpu_count + (verdict->thread != NULL);
-        draw_title(&c, ms);
-        draw_grid(&c, ms, step, TOP + STRIP - 6, TOP + lanes * (STRIP + LANE + GAP) + 6);
-        for (size_t i = 0; i < c.cpu_count; i++)
-            draw_cpu(&c, c.cpus[i]);
-        if (verdict->thread != NULL)
-            draw_watched(&c);
-        draw_axis(&c, ms, step);
-        draw_legend(&c);
-    }
+    draw_body(&c);
+    if (fclose(c.out) != 0)
+        body = NULL;
+    svg_begin(out, WIDTH, c.y + 16);
+    fputs(must(body), out);
     fputs("</svg>\n", out);
+    free(body);
+    free(c.points);
     free(c.cpus);
     free(c.ranked);
 }

@@ -4,45 +4,73 @@
 #include <errno.h>
 #include <fcntl.h>
 #include <signal.h>
-#include <stdio.h>
-#include <string.h>
+#include <stdlib.h>
 #include <sys/wait.h>
+#include <time.h>
 #include <unistd.h>
+
+static void close_if_open(int *fd)
+{
+    if (*fd >= 0)
+        close(*fd);
+    *fd = -1;
+}
+
+/* The child: waits for the word, becomes the program, or tells why it cannot. */
+static _Noreturn void become(int go, int failed, char *const argv[])
+{
+    char byte;
+    if (read(go, &byte, 1) != 1)
+        _exit(126); /* the recorder ended first */
+    execvp(argv[0], argv);
+    int why = errno;
+    if (write(failed, &why, sizeof why) != (ssize_t)sizeof why)
+        _exit(126);
+    _exit(127);
+}
 
 bool program_prepare(struct program *program, char *const argv[])
 {
-    int ends[2];
-    program->pid = 0;
-    program->go = -1;
-    if (pipe2(ends, O_CLOEXEC) != 0)
+    int go[2], failed[2]; /* both ends close at the exec */
+    *program = PROGRAM_NONE;
+    if (pipe2(go, O_CLOEXEC) != 0)
         return false;
+    if (pipe2(failed, O_CLOEXEC) != 0) {
+        close(go[0]);
+        close(go[1]);
+        return false;
+    }
     pid_t pid = fork();
-    if (pid < 0) {
-        close(ends[0]);
-        close(ends[1]);
-        return false;
-    }
     if (pid == 0) {
-        char byte;
-        close(ends[1]);
-        if (read(ends[0], &byte, 1) != 1)
-            _exit(126); /* the recorder ended first */
-        execvp(argv[0], argv);
-        fprintf(stderr, "%s: %s\n", argv[0], strerror(errno));
-        _exit(127);
+        close(go[1]);
+        become(go[0], failed[1], argv);
     }
-    close(ends[0]);
-    program->pid = pid;
-    program->go = ends[1];
-    return true;
+    close(go[0]);
+    close(failed[1]);
+    program->go = go[1];
+    program->failed = failed[0];
+    if (pid > 0) {
+        program->pid = pid;
+        return true;
+    }
+    program_stop(program);
+    return false;
 }
 
 bool program_go(struct program *program)
 {
-    bool done = write(program->go, "g", 1) == 1;
-    close(program->go);
-    program->go = -1;
-    return done;
+    int why = 0;
+    bool told = write(program->go, "g", 1) == 1;
+    close_if_open(&program->go);
+    ssize_t bytes;
+    do
+        bytes = read(program->failed, &why, sizeof why); /* the end of file: it runs */
+    while (bytes < 0 && errno == EINTR);
+    close_if_open(&program->failed);
+    if (told && bytes == 0)
+        return true;
+    errno = bytes == (ssize_t)sizeof why ? why : EIO;
+    return false;
 }
 
 bool program_ended(struct program *program, int *status)
@@ -58,13 +86,20 @@ bool program_ended(struct program *program, int *status)
 
 void program_stop(struct program *program)
 {
-    if (program->go >= 0)
-        close(program->go); /* it has not started: it ends by itself */
-    program->go = -1;
-    if (program->pid == 0)
-        return;
-    kill(program->pid, SIGTERM);
-    while (waitpid(program->pid, NULL, 0) < 0 && errno == EINTR)
-        ;
-    program->pid = 0;
+    enum { NAPS = 200 };
+    const struct timespec nap = { 0, 10000000 };
+    int status, error = errno;
+    close_if_open(&program->go); /* if it has not started, it ends by itself */
+    close_if_open(&program->failed);
+    if (program->pid != 0)
+        kill(program->pid, SIGTERM);
+    for (int i = 0; i < NAPS && !program_ended(program, &status); i++)
+        nanosleep(&nap, NULL);
+    if (program->pid != 0) {
+        kill(program->pid, SIGKILL);
+        while (waitpid(program->pid, &status, 0) < 0 && errno == EINTR)
+            ;
+        program->pid = 0;
+    }
+    errno = error;
 }

@@ -9,17 +9,21 @@
 #include <sys/types.h>
 
 struct program {
-    pid_t pid; /* 0: none */
-    int go;    /* a byte written here lets it start; -1 */
+    pid_t pid;  /* 0: none */
+    int go;     /* a byte written here lets it start; -1 */
+    int failed; /* read from here: why it did not start, or the end; -1 */
 };
 
-/* The program stands before its exec. False: it cannot be started, errno says why. */
+/* No program yet. */
+#define PROGRAM_NONE ((struct program){ .pid = 0, .go = -1, .failed = -1 })
+
+/* It stands before its exec. False: there is no process for it, errno says why. */
 bool program_prepare(struct program *program, char *const argv[]);
-/* Lets it run. */
+/* Lets it run. False: it did not start, errno says why. */
 bool program_go(struct program *program);
 /* True once it has ended; status as waitpid gives it. */
 bool program_ended(struct program *program, int *status);
-/* Ends it if it still runs. */
+/* Ends it if it still runs: asked first, after two seconds by force. */
 void program_stop(struct program *program);
 
 #endif

@@ -1,5 +1,5 @@
 /*
- * The story as plain text of at most 100 columns.
+ * The story as plain text: the verdict, what it rests on, and then every record.
  */
 #ifndef EXAMPLES_REPORT_H
 #define EXAMPLES_REPORT_H
@@ -9,7 +9,10 @@
 #include "story.h"
 #include "verdict.h"
 
+/* The width of a report: lines are kept to it. */
+enum { COLUMNS_LEAST = 80, COLUMNS_MOST = 400 };
+
 /* with_table: every record on its line, by time. */
-void report(FILE *out, const struct story *story, const struct verdict *verdict, bool with_table);
+void report(FILE *out, const struct story *story, const struct verdict *verdict, bool with_table, size_t columns);
 
 #endif

@@ -4,6 +4,11 @@
  *   workload known FACTS    known names, forks, threads, mappings and switches; what it did goes to the file FACTS,
  *                           a line each, for live_test.sh to compare with the report
  *   workload kiln           a kiln's heating steps every 10 ms, one of which a backup delays
+ *   workload moved FACTS    a heater loses one cpu to a backup and is moved to another 40 ms later, where an innocent
+ *                           program runs all the time
+ *   workload periodic FACTS a heater that sleeps until its next step each time, every 20 ms; one step a backup delays
+ *
+ * moved and periodic end with 3 where they may not have a rank, or there is one cpu alone.
  */
 #define _GNU_SOURCE
 #include <errno.h>
@@ -11,6 +16,7 @@
 #include <pthread.h>
 #include <sched.h>
 #include <stdarg.h>
+#include <stdbool.h>
 #include <stdint.h>
 #include <stdio.h>
 #include <stdlib.h>
@@ -237,17 +243,21 @@ static int known(const char *facts_path)
 
 #define MS UINT64_C(1000000)
 
-/* On one cpu, before everybody whose rank is lower. Without the right to that it goes on as it is. */
-static void take_place(int cpu, int rank)
+/* On one cpu, before everybody whose rank is lower. */
+static bool has_place(pid_t pid, int cpu, int rank)
 {
     cpu_set_t set;
     struct sched_param param = { .sched_priority = rank };
     CPU_ZERO(&set);
     CPU_SET((size_t)cpu, &set);
-    if (sched_setaffinity(0, sizeof set, &set) != 0)
-        fprintf(stderr, "workload: not on one cpu: %s\n", strerror(errno));
-    if (rank > 0 && sched_setscheduler(0, SCHED_FIFO, &param) != 0)
-        fprintf(stderr, "workload: no rank: %s\n", strerror(errno));
+    return sched_setaffinity(pid, sizeof set, &set) == 0 && (rank == 0 || sched_setscheduler(pid, SCHED_FIFO, &param) == 0);
+}
+
+/* Without the right to that it goes on as it is. */
+static void take_place(int cpu, int rank)
+{
+    if (!has_place(0, cpu, rank))
+        fprintf(stderr, "workload: not its own cpu, or no rank: %s\n", strerror(errno));
 }
 
 static pid_t helper(const char *name, int cpu, int rank, uint64_t at, uint64_t ns)
@@ -299,12 +309,157 @@ static int kiln(void)
     return 0;
 }
 
+/* ---- moved and periodic ---- */
+
+enum { NOT_HERE = 3 };
+
+/* The first two cpus that we may use. */
+static bool two_cpus(int cpus[2])
+{
+    cpu_set_t set;
+    int count = 0;
+    if (sched_getaffinity(0, sizeof set, &set) != 0)
+        return false;
+    for (int cpu = 0; cpu < CPU_SETSIZE && count < 2; cpu++)
+        if (CPU_ISSET((size_t)cpu, &set))
+            cpus[count++] = cpu;
+    return count == 2;
+}
+
+/* A time in which it was kept from running, as it sees it by the clock. */
+struct pause {
+    uint64_t from, to;
+};
+
+/* Runs until then, whoever else wants to. The longest pause between two looks at the clock. */
+static struct pause run_until(uint64_t ns)
+{
+    struct pause longest = { 0, 0 };
+    uint64_t last = now_ns();
+    while (last < ns) {
+        uint64_t now = now_ns();
+        if (now - last > longest.to - longest.from)
+            longest = (struct pause){ last, now };
+        last = now;
+    }
+    return longest;
+}
+
+/* For the facts: what another machine does to this one is seen in them. */
+static void tell(const char *name, pid_t pid, uint64_t began, struct pause p)
+{
+    fprintf(facts, "%s %d began %llu paused %llu %llu ended %llu\n", name, pid, (unsigned long long)began, (unsigned long long)p.from,
+        (unsigned long long)p.to, (unsigned long long)now_ns());
+}
+
+/* A program of that name and rank on a cpu, that runs from one time to another and tells of it. */
+static pid_t runner(const char *name, int cpu, int rank, uint64_t from, uint64_t to)
+{
+    fflush(facts);
+    pid_t pid = fork();
+    if (pid < 0)
+        die("fork");
+    if (pid == 0) {
+        call_me(name);
+        if (!has_place(0, cpu, rank))
+            _exit(1);
+        sleep_until(from);
+        uint64_t began = now_ns();
+        tell(name, getpid(), began, run_until(to));
+        _exit(fclose(facts) == 0 ? 0 : 1);
+    }
+    return pid;
+}
+
+static bool may_have_places(int cpus[2], int rank)
+{
+    if (two_cpus(cpus) && has_place(0, cpus[1], rank))
+        return true;
+    fprintf(stderr, "workload: it needs two cpus and the right to a rank\n");
+    return false;
+}
+
+static int moved(void)
+{
+    int cpus[2];
+    if (!may_have_places(cpus, 30))
+        return NOT_HERE;
+    fprintf(facts, "cpus %d %d\n", cpus[0], cpus[1]);
+    const uint64_t start = now_ns() + 30 * MS;
+    pid_t innocent = runner("innocent", cpus[1], 5, start, start + 110 * MS);
+    pid_t backup = runner("backup", cpus[0], 20, start + 10 * MS, start + 90 * MS);
+    pid_t heater = runner("heater", cpus[0], 10, start, start + 100 * MS);
+    sleep_until(start + 50 * MS); /* 40 ms into its wait */
+    fprintf(facts, "moved %llu\n", (unsigned long long)now_ns());
+    if (!has_place(heater, cpus[1], 10))
+        die("moving the heater");
+    fflush(facts);
+    wait_for(heater);
+    wait_for(backup);
+    wait_for(innocent);
+    return 0;
+}
+
+enum { STEPS = 25, DELAYED = 12 };
+
+/* The heater's steps, and when each of them began. */
+static void heat(uint64_t start, uint64_t period)
+{
+    uint64_t before = 0, late = 0, jitter = 0;
+    for (unsigned step = 0; step < STEPS; step++) {
+        uint64_t due = start + step * period;
+        sleep_until(due);
+        uint64_t now = now_ns();
+        if (step > 0 && now - before > period + late)
+            late = now - before - period;
+        if (step != DELAYED && now - due > jitter)
+            jitter = now - due;
+        if (step == DELAYED)
+            fprintf(facts, "delayed %llu\n", (unsigned long long)now);
+        before = now;
+        work(MS);
+    }
+    fprintf(facts, "late %llu\njitter %llu\nheater %d\n", (unsigned long long)late, (unsigned long long)jitter, getpid());
+    fflush(facts);
+}
+
+static int periodic(void)
+{
+    const uint64_t period = 20 * MS;
+    int cpus[2];
+    if (!may_have_places(cpus, 50))
+        return NOT_HERE;
+    const uint64_t start = now_ns() + 10 * MS, due = start + DELAYED * period;
+    pid_t hog = runner("hog", cpus[1], 1, start, start + STEPS * period);
+    pid_t backup = runner("backup", cpus[1], 60, due - 4 * MS, due + 9 * MS);
+    call_me("heater");
+    heat(start, period);
+    wait_for(backup);
+    wait_for(hog);
+    return 0;
+}
+
+static int with_facts(const char *path, int (*act)(void))
+{
+    facts = fopen(path, "w");
+    if (facts == NULL)
+        die(path);
+    int status = act();
+    if (fclose(facts) != 0)
+        die(path);
+    return status;
+}
+
 int main(int argc, char **argv)
 {
     if (argc == 3 && strcmp(argv[1], "known") == 0)
         return known(argv[2]);
     if (argc == 2 && strcmp(argv[1], "kiln") == 0)
         return kiln();
-    fprintf(stderr, "usage: workload known FACTS | workload kiln\n");
+    if (argc == 3 && strcmp(argv[1], "moved") == 0)
+        return with_facts(argv[2], moved);
+    if (argc == 3 && strcmp(argv[1], "periodic") == 0)
+        return with_facts(argv[2], periodic);
+    fprintf(stderr, "usage: workload known FACTS | workload kiln | workload moved FACTS | workload periodic FACTS\n");
     return 2;
 }

@@ -1,14 +1,25 @@
 /*
  * ollskuvan.h: the C face of Ollskuvan, a proved reader of the Linux perf ring.
  *
- * Link with libollskuvan.a. C99; the header may also be included from C++.
- * All numbers in rings, records and journals are little-endian. The library is
- * for x86-64.
+ * Link with libollskuvan.a (and libollskuvan_words.a for the texts at the end);
+ * pkg-config --cflags --libs ollskuvan tells both. C99; the header may also be
+ * included from C++. All numbers in rings, records and journals are
+ * little-endian. The library is for x86-64.
  *
  * What the library does not do: it opens no event, maps no memory, issues no
  * memory barrier, allocates nothing, keeps nothing between two calls and reads
  * no byte outside the slices it is lent. Every call answers for every input:
  * there is no input that is not allowed beyond what is owed here.
+ *
+ * Threads: the library has no data of its own that is ever written, and takes
+ * no lock. Any number of threads may call at the same time, also from a signal
+ * handler, as long as no slice that one call writes is lent to another. A ring
+ * has one reader: two threads that drain it from one tail take the same records.
+ *
+ * Stack: no call needs more than 2,048 bytes, its return address and what it
+ * calls included (measured on a painted stack); besides its own code it calls
+ * the C library's memcpy and memset alone. No function calls itself, so no input
+ * makes it more.
  *
  * What the caller owes:
  *
@@ -43,6 +54,10 @@
 extern "C" {
 #endif
 
+/* The version of this header and its library: 4.2.0 is 40200. */
+#define OLLSKUVAN_VERSION "4.0.0"
+#define OLLSKUVAN_VERSION_NUMBER 40000
+
 /* ------------------------------------------------------------------------
  * Editions: what is known of sample bits and record types.
  *   1: sample bits 0 to 15, types 1 to 9
@@ -74,8 +89,8 @@ extern "C" {
 /* ------------------------------------------------------------------------
  * Answers. The numbers are fixed and never used for anything else.
  *
- * Stops: the drain ends, and tail, scratch and journal are as they stood
- * before that record. Tested at every record in this order:
+ * Stops: the drain ends (read_one takes nothing), and tail, scratch and journal
+ * are as they stood before that record. Tested at every record in this order:
  * 1, 2, 4, 5, 0, 8, 9, 10, 6, 7, 3.
  */
 #define OLLSKUVAN_OK 0u                  /* a record: accepted; a copy or a writing: done */
@@ -113,12 +128,12 @@ extern "C" {
 #define OLLSKUVAN_REFUSED_NAME 33u        /* no zero byte in the name's room, or the first is not among its last 8 bytes */
 
 /* Refusals by what is lent: room, places and values. */
-#define OLLSKUVAN_REFUSED_ROOM 40u  /* write: the record doesn't fit the buffer; read: fewer than OLLSKUVAN_FIELDS words */
+#define OLLSKUVAN_REFUSED_ROOM 40u  /* write: the record doesn't fit the buffer; read, read_one: fewer than OLLSKUVAN_FIELDS words */
 #define OLLSKUVAN_REFUSED_PLACE 41u /* copy_name, write: place plus bytes, as plain numbers, passes the end */
 #define OLLSKUVAN_REFUSED_VALUE 42u /* write: no record decodes to this value; or fewer than OLLSKUVAN_FIELDS words */
 
 /* ------------------------------------------------------------------------
- * Record types.
+ * Record types: what stands in word OLLSKUVAN_TYPE of a value.
  */
 #define OLLSKUVAN_TYPE_MMAP 1u
 #define OLLSKUVAN_TYPE_LOST 2u
@@ -141,7 +156,7 @@ extern "C" {
 #define OLLSKUVAN_TYPE_CGROUP 19u
 #define OLLSKUVAN_TYPE_TEXT_POKE 20u
 
-/* Misc bits of the header. */
+/* Misc bits of the header: they stand in word OLLSKUVAN_MISC of a value. */
 #define OLLSKUVAN_MISC_CPUMODE_MASK 0x0007u
 #define OLLSKUVAN_MISC_MMAP_DATA 0x2000u          /* MMAP, MMAP2: bit 13 */
 #define OLLSKUVAN_MISC_COMM_EXEC 0x2000u          /* COMM: bit 13 */
@@ -149,6 +164,15 @@ extern "C" {
 #define OLLSKUVAN_MISC_EXACT_IP 0x4000u           /* SAMPLE: bit 14 */
 #define OLLSKUVAN_MISC_SWITCH_OUT_PREEMPT 0x4000u /* SWITCH, SWITCH_CPU_WIDE: bit 14 */
 #define OLLSKUVAN_MISC_MMAP_BUILD_ID 0x4000u      /* MMAP2: bit 14 */
+
+/* What misc means, as ollskuvan_misc_meaning tells it: the CPU mode in the low
+ * three bits (OLLSKUVAN_MISC_CPUMODE_MASK), then one bit for each meaning. */
+#define OLLSKUVAN_MEANS_DATA_MAPPING 8u   /* MMAP, MMAP2 */
+#define OLLSKUVAN_MEANS_EXEC 16u          /* COMM */
+#define OLLSKUVAN_MEANS_SWITCHED_OUT 32u  /* SWITCH, SWITCH_CPU_WIDE */
+#define OLLSKUVAN_MEANS_EXACT_ADDRESS 64u /* SAMPLE */
+#define OLLSKUVAN_MEANS_PREEMPTED 128u    /* SWITCH, SWITCH_CPU_WIDE */
+#define OLLSKUVAN_MEANS_BUILD_ID 256u     /* MMAP2 */
 
 /* Sample bits (sample_type). */
 #define OLLSKUVAN_BIT_IP (UINT64_C(1) << 0)
@@ -179,15 +203,15 @@ extern "C" {
 /* The sample bits that have an eight-byte item in the trailer (66246). */
 #define OLLSKUVAN_TRAILER_BITS UINT64_C(0x102c6)
 
-/* Read-format bits. */
+/* Read-format bits (read_format). OLLSKUVAN_READ_ID and its neighbours below are words. */
 #define OLLSKUVAN_READ_FORMAT_ENABLED (UINT64_C(1) << 0)
 #define OLLSKUVAN_READ_FORMAT_RUNNING (UINT64_C(1) << 1)
 #define OLLSKUVAN_READ_FORMAT_ID (UINT64_C(1) << 2)
 #define OLLSKUVAN_READ_FORMAT_GROUP (UINT64_C(1) << 3)
 
 /* ------------------------------------------------------------------------
- * The words of a value, for ollskuvan_read and ollskuvan_write. These numbers
- * are final.
+ * The words of a value, for ollskuvan_read, ollskuvan_read_one and
+ * ollskuvan_write. These numbers are final.
  *
  * A value is OLLSKUVAN_FIELDS words of 64 bits. Words 0, 1 and 2 are the
  * header's; the body's words start at 3 and depend on the type; the trailer's
@@ -198,22 +222,59 @@ extern "C" {
  *
  * A field that is not selected reads 0, and must be 0 to be written; so do the
  * words that no constant names for the type. A list that is selected and empty
- * has the place where it would start. The place of a list that is not selected
- * reads 0; when writing it is not looked at, and the list's count must be 0.
+ * has the place where it would start: also registers behind an abi of 0, and a
+ * stack of size 0. The place of a list that is not selected reads 0; when
+ * writing it is not looked at, and the list's count must be 0.
  *
  * Words marked "kept" are kept free for fields that may come later: they read
  * 0 and must be 0 to be written.
+ *
+ * pid and tid (ppid, ptid) are read as they stand in the record, as unsigned
+ * numbers of 32 bits: the kernel's -1 is 4294967295. It writes that for a thread
+ * that has ended and has no number any more (in its last switches), and 0 for
+ * the idle thread and for threads outside the pid namespace of the one who
+ * opened the event.
+ *
+ * To build a value from nothing and write it:
+ *
+ *  - Set all words to 0; then type, misc and each field that the type, misc bit
+ *    14 (MMAP2), the sample bits, the read format and sample_id_all (the
+ *    trailer) select, with the bytes of lists and names anywhere in the source.
+ *  - Width: a field has the width that its comment below names, u8, u16 or u32,
+ *    and is a u64 where none is named. A word that does not fit is 42. A misc
+ *    above 65,535 is 42 too, after 20 to 24 and 41, which look at its bit 14.
+ *    Places are no fields of the record, nor are the counts of a name, of
+ *    registers and of a tag; the other counts and sizes are.
+ *  - Size, word 2, is 8 for the header, plus the widths of the fields and the
+ *    bytes of the lists, rounded up to a multiple of 8, plus the trailer: 8 for
+ *    each set bit of (sample_type & OLLSKUVAN_TRAILER_BITS), in every type but
+ *    SAMPLE, if sample_id_all is set. Mind four: a cpu takes 8 bytes, since res
+ *    follows it; a name takes one more than its count, for its zero; a build id
+ *    takes 24 with its size, whatever that is; where the stack size is 0 there
+ *    is no filled length. Rounding up adds a name's further zeros and
+ *    TEXT_POKE's padding; all else comes to a multiple of 8 by its own rules
+ *    (32).
+ *  - Entries, all of u64: read values are value, then id where read-format bit 2
+ *    is set; branches are from, to, flags; namespaces are dev, inode. A call
+ *    chain is addresses. Registers stand in the order of their mask's bits, the
+ *    lowest first.
+ *  - Where a list is selected its place must lie in the source, or at its end,
+ *    also if the list is empty (else 41). 0 will do for an empty one.
+ *  - Ignored when reading and written as 0: res; what follows a name's zero; the
+ *    padding after TEXT_POKE's texts; the 3 bytes after a build id's size, and
+ *    those of its 20 bytes that it does not use.
  */
 #define OLLSKUVAN_FIELDS 56u
 
-/* Every record */
-#define OLLSKUVAN_TYPE 0u
-#define OLLSKUVAN_MISC 1u
-#define OLLSKUVAN_SIZE 2u
+/* Every record. These are words of a value, as in fields[OLLSKUVAN_TYPE]: what
+ * stands in them is one of OLLSKUVAN_TYPE_.., and bits of OLLSKUVAN_MISC_... */
+#define OLLSKUVAN_TYPE 0u /* u32 */
+#define OLLSKUVAN_MISC 1u /* u16 */
+#define OLLSKUVAN_SIZE 2u /* u16; a multiple of 8, up to OLLSKUVAN_RECORD_MAX */
 
 /* 1 MMAP */
-#define OLLSKUVAN_MMAP_PID 3u
-#define OLLSKUVAN_MMAP_TID 4u
+#define OLLSKUVAN_MMAP_PID 3u /* u32 */
+#define OLLSKUVAN_MMAP_TID 4u /* u32 */
 #define OLLSKUVAN_MMAP_ADDR 5u
 #define OLLSKUVAN_MMAP_LEN 6u
 #define OLLSKUVAN_MMAP_PGOFF 7u
@@ -226,17 +287,17 @@ extern "C" {
 #define OLLSKUVAN_LOST_LOST 4u
 
 /* 3 COMM */
-#define OLLSKUVAN_COMM_PID 3u
-#define OLLSKUVAN_COMM_TID 4u
+#define OLLSKUVAN_COMM_PID 3u /* u32 */
+#define OLLSKUVAN_COMM_TID 4u /* u32 */
 #define OLLSKUVAN_COMM_NAME 5u       /* place */
 #define OLLSKUVAN_COMM_NAME_COUNT 6u /* bytes, without the zero */
 #define OLLSKUVAN_COMM_NAME_FLAG 7u  /* kept: reads 0, must be 0 */
 
 /* 4 EXIT */
-#define OLLSKUVAN_EXIT_PID 3u
-#define OLLSKUVAN_EXIT_PPID 4u
-#define OLLSKUVAN_EXIT_TID 5u
-#define OLLSKUVAN_EXIT_PTID 6u
+#define OLLSKUVAN_EXIT_PID 3u /* u32 */
+#define OLLSKUVAN_EXIT_PPID 4u /* u32 */
+#define OLLSKUVAN_EXIT_TID 5u /* u32 */
+#define OLLSKUVAN_EXIT_PTID 6u /* u32 */
 #define OLLSKUVAN_EXIT_TIME 7u
 
 /* 5 THROTTLE */
@@ -250,34 +311,34 @@ extern "C" {
 #define OLLSKUVAN_UNTHROTTLE_STREAM_ID 5u
 
 /* 7 FORK */
-#define OLLSKUVAN_FORK_PID 3u
-#define OLLSKUVAN_FORK_PPID 4u
-#define OLLSKUVAN_FORK_TID 5u
-#define OLLSKUVAN_FORK_PTID 6u
+#define OLLSKUVAN_FORK_PID 3u /* u32 */
+#define OLLSKUVAN_FORK_PPID 4u /* u32 */
+#define OLLSKUVAN_FORK_TID 5u /* u32 */
+#define OLLSKUVAN_FORK_PTID 6u /* u32 */
 #define OLLSKUVAN_FORK_TIME 7u
 
 /* 8 READ. Without read-format bit 3: value, enabled, running, id; with it:
  * values_count, enabled, running and the list of entries. */
-#define OLLSKUVAN_READ_PID 3u
-#define OLLSKUVAN_READ_TID 4u
+#define OLLSKUVAN_READ_PID 3u /* u32 */
+#define OLLSKUVAN_READ_TID 4u /* u32 */
 #define OLLSKUVAN_READ_VALUE 5u
 #define OLLSKUVAN_READ_VALUES_COUNT 6u /* entries */
 #define OLLSKUVAN_READ_ENABLED 7u
 #define OLLSKUVAN_READ_RUNNING 8u
-#define OLLSKUVAN_READ_ID 9u
+#define OLLSKUVAN_READ_ID 9u /* a word; the bit of the read format is OLLSKUVAN_READ_FORMAT_ID */
 #define OLLSKUVAN_READ_LOST 10u   /* kept: reads 0, must be 0 */
 #define OLLSKUVAN_READ_VALUES 11u /* place; entries of 8 bytes, of 16 with read-format bit 2 */
 
 /* 9 SAMPLE */
 #define OLLSKUVAN_SAMPLE_IDENTIFIER 3u
 #define OLLSKUVAN_SAMPLE_IP 4u
-#define OLLSKUVAN_SAMPLE_PID 5u
-#define OLLSKUVAN_SAMPLE_TID 6u
+#define OLLSKUVAN_SAMPLE_PID 5u /* u32 */
+#define OLLSKUVAN_SAMPLE_TID 6u /* u32 */
 #define OLLSKUVAN_SAMPLE_TIME 7u
 #define OLLSKUVAN_SAMPLE_ADDR 8u
 #define OLLSKUVAN_SAMPLE_ID 9u
 #define OLLSKUVAN_SAMPLE_STREAM_ID 10u
-#define OLLSKUVAN_SAMPLE_CPU 11u
+#define OLLSKUVAN_SAMPLE_CPU 11u /* u32 */
 #define OLLSKUVAN_SAMPLE_PERIOD 12u
 #define OLLSKUVAN_SAMPLE_READ_VALUE 13u
 #define OLLSKUVAN_SAMPLE_READ_VALUES_COUNT 14u /* entries */
@@ -288,7 +349,7 @@ extern "C" {
 #define OLLSKUVAN_SAMPLE_READ_VALUES 19u     /* place; entries of 8 bytes, of 16 with read-format bit 2 */
 #define OLLSKUVAN_SAMPLE_CALLCHAIN_COUNT 20u /* words */
 #define OLLSKUVAN_SAMPLE_CALLCHAIN 21u       /* place */
-#define OLLSKUVAN_SAMPLE_RAW_COUNT 22u       /* bytes: the raw size */
+#define OLLSKUVAN_SAMPLE_RAW_COUNT 22u       /* u32; bytes: the raw size */
 #define OLLSKUVAN_SAMPLE_RAW 23u             /* place */
 #define OLLSKUVAN_SAMPLE_BRANCHES_COUNT 24u  /* entries */
 #define OLLSKUVAN_SAMPLE_HW_INDEX 25u        /* kept: reads 0, must be 0 */
@@ -313,19 +374,19 @@ extern "C" {
 #define OLLSKUVAN_SAMPLE_AUX 44u       /* place */
 
 /* 10 MMAP2. Without misc bit 14: maj, min, ino, generation; with it: the build id. */
-#define OLLSKUVAN_MMAP2_PID 3u
-#define OLLSKUVAN_MMAP2_TID 4u
+#define OLLSKUVAN_MMAP2_PID 3u /* u32 */
+#define OLLSKUVAN_MMAP2_TID 4u /* u32 */
 #define OLLSKUVAN_MMAP2_ADDR 5u
 #define OLLSKUVAN_MMAP2_LEN 6u
 #define OLLSKUVAN_MMAP2_PGOFF 7u
-#define OLLSKUVAN_MMAP2_MAJ 8u
-#define OLLSKUVAN_MMAP2_MIN 9u
+#define OLLSKUVAN_MMAP2_MAJ 8u /* u32 */
+#define OLLSKUVAN_MMAP2_MIN 9u /* u32 */
 #define OLLSKUVAN_MMAP2_INO 10u
 #define OLLSKUVAN_MMAP2_GENERATION 11u
-#define OLLSKUVAN_MMAP2_BUILD_ID_COUNT 12u /* bytes: 0 to 20 */
+#define OLLSKUVAN_MMAP2_BUILD_ID_COUNT 12u /* u8; bytes: 0 to 20 */
 #define OLLSKUVAN_MMAP2_BUILD_ID 13u       /* place */
-#define OLLSKUVAN_MMAP2_PROT 14u
-#define OLLSKUVAN_MMAP2_FLAGS 15u
+#define OLLSKUVAN_MMAP2_PROT 14u /* u32 */
+#define OLLSKUVAN_MMAP2_FLAGS 15u /* u32 */
 #define OLLSKUVAN_MMAP2_NAME 16u       /* place */
 #define OLLSKUVAN_MMAP2_NAME_COUNT 17u /* bytes, without the zero */
 #define OLLSKUVAN_MMAP2_NAME_FLAG 18u  /* kept: reads 0, must be 0 */
@@ -336,8 +397,8 @@ extern "C" {
 #define OLLSKUVAN_AUX_FLAGS 5u
 
 /* 12 ITRACE_START */
-#define OLLSKUVAN_ITRACE_START_PID 3u
-#define OLLSKUVAN_ITRACE_START_TID 4u
+#define OLLSKUVAN_ITRACE_START_PID 3u /* u32 */
+#define OLLSKUVAN_ITRACE_START_TID 4u /* u32 */
 
 /* 13 LOST_SAMPLES */
 #define OLLSKUVAN_LOST_SAMPLES_LOST 3u
@@ -345,28 +406,28 @@ extern "C" {
 /* 14 SWITCH: no words of its own */
 
 /* 15 SWITCH_CPU_WIDE */
-#define OLLSKUVAN_SWITCH_CPU_WIDE_PID 3u
-#define OLLSKUVAN_SWITCH_CPU_WIDE_TID 4u
+#define OLLSKUVAN_SWITCH_CPU_WIDE_PID 3u /* u32 */
+#define OLLSKUVAN_SWITCH_CPU_WIDE_TID 4u /* u32 */
 
 /* 16 NAMESPACES */
-#define OLLSKUVAN_NAMESPACES_PID 3u
-#define OLLSKUVAN_NAMESPACES_TID 4u
+#define OLLSKUVAN_NAMESPACES_PID 3u /* u32 */
+#define OLLSKUVAN_NAMESPACES_TID 4u /* u32 */
 #define OLLSKUVAN_NAMESPACES_NAMESPACES_COUNT 5u /* entries */
 #define OLLSKUVAN_NAMESPACES_NAMESPACES 6u       /* place; entries of 16 bytes */
 
 /* 17 KSYMBOL */
 #define OLLSKUVAN_KSYMBOL_ADDR 3u
-#define OLLSKUVAN_KSYMBOL_LEN 4u
-#define OLLSKUVAN_KSYMBOL_KSYM_TYPE 5u
-#define OLLSKUVAN_KSYMBOL_FLAGS 6u
+#define OLLSKUVAN_KSYMBOL_LEN 4u /* u32 */
+#define OLLSKUVAN_KSYMBOL_KSYM_TYPE 5u /* u16 */
+#define OLLSKUVAN_KSYMBOL_FLAGS 6u /* u16 */
 #define OLLSKUVAN_KSYMBOL_NAME 7u       /* place */
 #define OLLSKUVAN_KSYMBOL_NAME_COUNT 8u /* bytes, without the zero */
 #define OLLSKUVAN_KSYMBOL_NAME_FLAG 9u  /* kept: reads 0, must be 0 */
 
 /* 18 BPF_EVENT */
-#define OLLSKUVAN_BPF_EVENT_BPF_TYPE 3u
-#define OLLSKUVAN_BPF_EVENT_FLAGS 4u
-#define OLLSKUVAN_BPF_EVENT_ID 5u
+#define OLLSKUVAN_BPF_EVENT_BPF_TYPE 3u /* u16 */
+#define OLLSKUVAN_BPF_EVENT_FLAGS 4u /* u16 */
+#define OLLSKUVAN_BPF_EVENT_ID 5u /* u32 */
 #define OLLSKUVAN_BPF_EVENT_TAG 6u       /* place */
 #define OLLSKUVAN_BPF_EVENT_TAG_COUNT 7u /* bytes: always 8 */
 
@@ -378,18 +439,18 @@ extern "C" {
 
 /* 20 TEXT_POKE */
 #define OLLSKUVAN_TEXT_POKE_ADDR 3u
-#define OLLSKUVAN_TEXT_POKE_OLD_COUNT 4u /* bytes */
-#define OLLSKUVAN_TEXT_POKE_NEW_COUNT 5u /* bytes */
+#define OLLSKUVAN_TEXT_POKE_OLD_COUNT 4u /* u16; bytes */
+#define OLLSKUVAN_TEXT_POKE_NEW_COUNT 5u /* u16; bytes */
 #define OLLSKUVAN_TEXT_POKE_OLD 6u       /* place */
 #define OLLSKUVAN_TEXT_POKE_NEW 7u       /* place */
 
 /* The trailer: every type but SAMPLE, if sample_id_all is set. */
-#define OLLSKUVAN_TRAILER_PID 48u
-#define OLLSKUVAN_TRAILER_TID 49u
+#define OLLSKUVAN_TRAILER_PID 48u /* u32 */
+#define OLLSKUVAN_TRAILER_TID 49u /* u32 */
 #define OLLSKUVAN_TRAILER_TIME 50u
 #define OLLSKUVAN_TRAILER_ID 51u
 #define OLLSKUVAN_TRAILER_STREAM_ID 52u
-#define OLLSKUVAN_TRAILER_CPU 53u
+#define OLLSKUVAN_TRAILER_CPU 53u /* u32 */
 #define OLLSKUVAN_TRAILER_IDENTIFIER 54u
 
 /* ------------------------------------------------------------------------
@@ -421,6 +482,11 @@ struct ollskuvan_drained {
  * record that crossed the ring's end, if one was taken, and its other bytes are
  * unchanged; if none was, the whole scratch is unchanged. A scratch as long as
  * the ring, or of OLLSKUVAN_RECORD_MAX bytes, never gives stop 3.
+ *
+ * From an entry to its record: ollskuvan_read_one with the entry's own tail
+ * count and the same head (for a live ring: before the new tail is stored in
+ * data_tail, since the bytes are the kernel's from then on). It takes the same
+ * record and answers as the entry does.
  */
 struct ollskuvan_drained ollskuvan_drain(const uint8_t *ring, size_t ring_len, uint64_t head, uint64_t tail,
     uint64_t sample_type, uint64_t read_format, uint32_t sample_id_all, uint64_t user_mask, uint64_t interrupt_mask,
@@ -433,6 +499,13 @@ struct ollskuvan_drained ollskuvan_drain(const uint8_t *ring, size_t ring_len, u
  */
 uint32_t ollskuvan_check(const uint8_t *record, size_t record_len, uint64_t sample_type, uint64_t read_format,
     uint32_t sample_id_all, uint64_t user_mask, uint64_t interrupt_mask, uint32_t edition);
+
+/*
+ * ollskuvan_misc_meaning tells what a record's misc means, by its type: the CPU
+ * mode in the low three bits, and OLLSKUVAN_MEANS_... for bits 13 and 14. The
+ * type is the whole word; of misc, bits from 16 up mean nothing.
+ */
+uint32_t ollskuvan_misc_meaning(uint64_t type, uint64_t misc);
 
 /*
  * ollskuvan_copy_name copies count bytes at place in the record, and one zero
@@ -456,12 +529,51 @@ uint32_t ollskuvan_read(const uint8_t *record, size_t record_len, uint64_t sampl
     uint32_t sample_id_all, uint64_t user_mask, uint64_t interrupt_mask, uint32_t edition,
     uint64_t *fields, size_t fields_len);
 
+struct ollskuvan_one {
+    uint64_t place;      /* where the record begins, in the ring or in the scratch */
+    uint64_t size;       /* its bytes; 0: no record was taken, and stop says why */
+    uint64_t tail;       /* the new tail: the given tail plus size, wrapping */
+    uint32_t in_scratch; /* 1: the record lies in the scratch, 0: in the ring */
+    uint32_t stop;       /* why no record was taken: OLLSKUVAN_STOP_... */
+    uint32_t answer;     /* 0: accepted; or the refusal */
+    uint32_t inspected;  /* 0 */
+};
+
+/*
+ * ollskuvan_read_one takes the one record at tail, shows where it lies, and
+ * reads it to its value. It is a drain with a budget of one that writes no
+ * journal; with the tail of a journal's entry it gives that entry's record.
+ *
+ * The stops are tested as by ollskuvan_drain: 1, 2, 4, 5, 0, 10, 6, 7, 3 (8 and
+ * 9 are the drain's). A stop: stop is its number; place, size, in_scratch and
+ * answer are 0, tail is the given one, scratch and words are unchanged.
+ *
+ * Taken (size is not 0): stop is 0, the tail moves by size. The record lies at
+ * place in the ring (in_scratch 0); or, if it crosses the ring's end, it is
+ * copied to the start of the scratch and lies there (in_scratch 1, place 0; the
+ * scratch's other bytes are unchanged). In both cases
+ *
+ *     const uint8_t *record = (one.in_scratch ? scratch : ring) + one.place;
+ *
+ * has one.size bytes: the record that the places of the value's lists and names
+ * count from. answer is that of ollskuvan_read for this record, from 20 on: 20
+ * to 24, 30 to 33, then 40 if fields_len is below OLLSKUVAN_FIELDS, otherwise 0.
+ * The record is shown and the tail moves whatever the answer. Accepted (0):
+ * words 0 to OLLSKUVAN_FIELDS - 1 are the value, further words are unchanged.
+ * Refused, 40 too: the words are unchanged.
+ *
+ * inspected is 0. It is kept for a later version.
+ */
+struct ollskuvan_one ollskuvan_read_one(const uint8_t *ring, size_t ring_len, uint64_t head, uint64_t tail,
+    uint64_t sample_type, uint64_t read_format, uint32_t sample_id_all, uint64_t user_mask, uint64_t interrupt_mask,
+    uint32_t edition, uint8_t *scratch, size_t scratch_len, uint64_t *fields, size_t fields_len);
+
 /*
  * ollskuvan_write writes the record of a value: the first OLLSKUVAN_FIELDS
  * words, and for its lists and names the bytes at their places in the source.
  * In this order:
- *   42 if fields_len is below OLLSKUVAN_FIELDS;
  *   2;
+ *   42 if fields_len is below OLLSKUVAN_FIELDS;
  *   20 to 24, by the words of type and misc (a type is compared as the whole
  *      word: any above the edition's is 20);
  *   41 if a selected list or name, by place plus bytes as plain numbers, passes
@@ -469,7 +581,8 @@ uint32_t ollskuvan_read(const uint8_t *record, size_t record_len, uint64_t sampl
  *      misc bit 14 (build id), the sample bits and read-format bit 3; an abi of
  *      0 or a stack size of 0 does not unselect it;
  *   42 if no record decodes, under this edition and these attributes, to the same
- *      numbers and listed bytes: a word that is not selected and not 0; a word too
+ *      numbers and listed bytes: a word that is not selected and not 0 (but for
+ *      the place of a list that is not selected, which may be anything); a word too
  *      wide for its field; a zero inside a name; a register count that is not
  *      the ones of its mask (not 0, where the abi is 0); a count, size or filled
  *      length that breaks an inner rule (32); a tag count other than 8; a
@@ -485,6 +598,25 @@ uint32_t ollskuvan_read(const uint8_t *record, size_t record_len, uint64_t sampl
 uint32_t ollskuvan_write(const uint64_t *fields, size_t fields_len, const uint8_t *source, size_t source_len,
     uint64_t sample_type, uint64_t read_format, uint32_t sample_id_all, uint64_t user_mask, uint64_t interrupt_mask,
     uint32_t edition, uint8_t *buffer, size_t buffer_len);
+
+/* ------------------------------------------------------------------------
+ * The numbers in words, for messages. These four are plain C and stand in
+ * libollskuvan_words.a; a program that does not use them links libollskuvan.a
+ * alone. None gives a null pointer, and what they give is never freed.
+ */
+
+/* Why a drain stopped; the answer to a record, a name or a value. They differ
+ * for 0, 6 and 7. "unknown answer" for a number that is not used. */
+const char *ollskuvan_stop_text(uint32_t stop);
+const char *ollskuvan_refusal_text(uint32_t refusal);
+
+/* "SAMPLE"; "unknown type" for 0 and for a type that no edition knows. */
+const char *ollskuvan_type_name(uint64_t type);
+
+/* "ip" for word OLLSKUVAN_SAMPLE_IP of a SAMPLE, "trailer cpu" for word 53 of
+ * any other type. A list's place has the list's name. No two words of a type
+ * have the same name; a word that the type does not have has the name "". */
+const char *ollskuvan_word_name(uint64_t type, uint32_t word);
 
 #ifdef __cplusplus
 }

@@ -17,5 +17,11 @@ case "$prefix$libdir" in *[[:space:]]*) say "PREFIX and LIBDIR must have no blan
 
 header=$destdir$prefix/include/ollskuvan.h
 archive=$destdir$prefix/$libdir/libollskuvan.a
+words=$destdir$prefix/$libdir/libollskuvan_words.a
 pc=$destdir$prefix/$libdir/pkgconfig/ollskuvan.pc
-manual=$destdir$prefix/share/man/man3/ollskuvan.3
+program=$destdir$prefix/bin/ollskuvan
+program_page=$destdir$prefix/share/man/man1/ollskuvan.1
+library_page=$destdir$prefix/share/man/man3/ollskuvan.3
+# every function of the header has a page by its own name, which leads to the library's
+functions=$(grep -oE '\bollskuvan_[a-z_]+\(' "$here/../include/ollskuvan.h" | tr -d '(' | sort -u)
+page_of() { echo "$destdir$prefix/share/man/man3/$1.3"; }

@@ -1,7 +1,8 @@
 #!/usr/bin/env bash
 # Installs into a temporary folder and uses the library as a stranger does: the examples are copied out of the tree and built with
-# what pkg-config says alone, and the report of a shipped ring comes out as expected. Then everything is removed again.
-#   packaging/test_install.sh        ARCHIVE names another archive than target/staticlib/libollskuvan.a
+# what pkg-config says alone, the report of a shipped ring comes out as expected, the program runs and every page is found by its
+# name. Then everything is removed again.
+#   packaging/test_install.sh        ARCHIVE, WORDS_ARCHIVE and PROGRAM name other files than those of make lib tool
 set -u
 here=$(cd "$(dirname "$0")" && pwd)
 root=$(cd "$here/.." && pwd)
@@ -21,23 +22,59 @@ for call in $(grep -oE 'ollskuvan_[a-z_]+\(' "$root/include/ollskuvan.h" | tr -d
   grep -q "$call" "$here/ollskuvan.3" || wrong "the page does not name $call"
 done
 version=$(cat "$here/VERSION")
-grep -q "\"ollskuvan $version\"" "$here/ollskuvan.3" || wrong "the page is of another version than $version"
-if command -v mandoc >/dev/null; then
-  # a page without a date is meant: it is of a version
-  mandoc -Tlint -W warning "$here/ollskuvan.3" | grep -v 'missing date' >"$tmp/lint"
-  [ ! -s "$tmp/lint" ] || { wrong "mandoc warns of the page"; cat "$tmp/lint"; }
-elif command -v man >/dev/null; then
-  man -l --warnings=w "$here/ollskuvan.3" 2>"$tmp/lint" >/dev/null
-  [ ! -s "$tmp/lint" ] || { wrong "man warns of the page"; cat "$tmp/lint"; }
-fi
+check_page() {
+  grep -q "\"ollskuvan $version\"" "$here/$1" || wrong "$1 is of another version than $version"
+  if command -v mandoc >/dev/null; then
+    # a page without a date is meant: it is of a version
+    mandoc -Tlint -W warning "$here/$1" | grep -v 'missing date' >"$tmp/lint"
+    [ ! -s "$tmp/lint" ] || { wrong "mandoc warns of $1"; cat "$tmp/lint"; }
+  fi
+  if command -v man >/dev/null; then
+    man -l --warnings=w "$here/$1" 2>"$tmp/lint" >/dev/null
+    [ ! -s "$tmp/lint" ] || { wrong "man warns of $1"; cat "$tmp/lint"; }
+  fi
+}
+check_page ollskuvan.3
+check_page ollskuvan.1
+# the program's page names each of its commands, which its help lists by two blanks
+program=${PROGRAM:-$root/target/tool/ollskuvan}
+for command in $("$program" --help | sed -nE 's/^  ([a-z]+) .*/\1/p'); do
+  grep -q "^\.SS $command\$" "$here/ollskuvan.1" || wrong "the program's page does not name $command"
+  for option in $("$program" "$command" --help | grep -oE -- '--[a-z]+' | sort -u); do
+    grep -q -- "$(echo "$option" | sed 's/-/\\\\-/g')\b" "$here/ollskuvan.1" || wrong "the program's page does not name $command $option"
+  done
+done
 
-# ---- install: exactly four files
+# ---- install: exactly these files
+calls=$(grep -oE '\bollskuvan_[a-z_]+\(' "$root/include/ollskuvan.h" | tr -d '(' | sort -u)
 prefix=$tmp/usr
 PREFIX=$prefix "$here/install.sh" >"$tmp/installed" || die "install.sh failed"
 find "$prefix" -type f | sort >"$tmp/there"
 sort "$tmp/installed" | cmp -s - "$tmp/there" || wrong "install.sh does not name exactly what it installs"
-[ "$(wc -l <"$tmp/there")" -eq 4 ] || wrong "install.sh installs $(wc -l <"$tmp/there") files, not four"
+cat >"$tmp/due" <<LIST
+$prefix/bin/ollskuvan
+$prefix/include/ollskuvan.h
+$prefix/lib/libollskuvan.a
+$prefix/lib/libollskuvan_words.a
+$prefix/lib/pkgconfig/ollskuvan.pc
+$prefix/share/man/man1/ollskuvan.1
+$prefix/share/man/man3/ollskuvan.3
+$(for call in $calls; do echo "$prefix/share/man/man3/$call.3"; done)
+LIST
+diff "$tmp/due" "$tmp/there" || wrong "install.sh installs other files than it should"
 cmp -s "$root/include/ollskuvan.h" "$prefix/include/ollskuvan.h" || wrong "the header is another one"
+
+# ---- the program, and the pages by name
+[ "$("$prefix/bin/ollskuvan" --version)" = "ollskuvan $version" ] || wrong "the installed program is of another version"
+"$prefix/bin/ollskuvan" dump "$root/rings/switches.img" | grep -q '^stop 0 tail' || wrong "the installed program reads no ring"
+if command -v man >/dev/null; then
+  for call in $calls; do
+    man -M "$prefix/share/man" "$call" 2>/dev/null | grep -q "$call" || wrong "man $call finds nothing"
+  done
+  man -M "$prefix/share/man" ollskuvan 2>/dev/null | grep -q 'EXIT STATUS' || wrong "man ollskuvan is not the program's page"
+else
+  echo "the pages by name not tried: man is missing"
+fi
 
 # ---- pkg-config alone; nothing of the tree
 export PKG_CONFIG_PATH=$prefix/lib/pkgconfig
@@ -49,7 +86,7 @@ env -u MAKEFLAGS -u MAKEOVERRIDES -u OLLSKUVAN_CFLAGS -u OLLSKUVAN_LIBS make -s 
 cmp -s "$tmp/report" "$root/examples/expected/kiln.txt" || wrong "the installed library gives another report"
 
 # ---- the header from other languages' compilers
-printf '#include <ollskuvan.h>\nint main(void) { return ollskuvan_check(0, 0, 0, 0, 0, 0, 0, OLLSKUVAN_EDITION_3) == OLLSKUVAN_REFUSED_LENGTH ? 0 : 1; }\n' >"$tmp/one.c"
+printf '#include <ollskuvan.h>\nint main(void) { return ollskuvan_check(0, 0, 0, 0, 0, 0, 0, OLLSKUVAN_EDITION_3) == OLLSKUVAN_REFUSED_LENGTH && ollskuvan_type_name(9)[0] == 83 ? 0 : 1; }\n' >"$tmp/one.c"
 cp "$tmp/one.c" "$tmp/one.cc"
 # shellcheck disable=SC2046 # words are wanted
 ${CC:-cc} -std=c99 -pedantic -Wall -Wextra -Werror $(pkg-config --cflags ollskuvan) -o "$tmp/one" "$tmp/one.c" $(pkg-config --libs ollskuvan) &&
@@ -62,7 +99,7 @@ else
   echo "the header in C++ not tried: g++ is missing"
 fi
 
-# ---- uninstall: these four, and nothing else
+# ---- uninstall: all of these, and nothing else
 touch "$prefix/include/neighbour.h"
 PREFIX=$prefix "$here/uninstall.sh" >/dev/null || wrong "uninstall.sh failed"
 [ "$(find "$prefix" -type f)" = "$prefix/include/neighbour.h" ] || wrong "uninstall.sh leaves or takes too much"

@@ -3,7 +3,7 @@
  * with length 0, edition 257, budget 0, journals of 15 and 16 bytes, scratch one
  * byte short, buffers one byte short, values one word short.
  *
- * With WITHOUT_VALUES defined, ollskuvan_read and ollskuvan_write are left out.
+ * With WITHOUT_VALUES defined, ollskuvan_read, ollskuvan_read_one and ollskuvan_write are left out.
  *
  * Every slice is its own block of the heap, of exactly its length, so that
  * valgrind sees any byte read or written outside it.
@@ -243,6 +243,35 @@ static void test_check(void)
     free(five);
 }
 
+static void test_misc_meaning(void)
+{
+    const uint64_t both = OLLSKUVAN_MISC_MMAP_DATA | OLLSKUVAN_MISC_EXACT_IP, above = UINT64_C(1) << 32;
+    const uint32_t out = OLLSKUVAN_MEANS_SWITCHED_OUT | OLLSKUVAN_MEANS_PREEMPTED;
+    uint64_t type;
+
+    IS(ollskuvan_misc_meaning(OLLSKUVAN_TYPE_MMAP, both), OLLSKUVAN_MEANS_DATA_MAPPING);
+    IS(ollskuvan_misc_meaning(OLLSKUVAN_TYPE_COMM, both), OLLSKUVAN_MEANS_EXEC);
+    IS(ollskuvan_misc_meaning(OLLSKUVAN_TYPE_SAMPLE, both), OLLSKUVAN_MEANS_EXACT_ADDRESS);
+    IS(ollskuvan_misc_meaning(OLLSKUVAN_TYPE_MMAP2, both), OLLSKUVAN_MEANS_DATA_MAPPING | OLLSKUVAN_MEANS_BUILD_ID);
+    IS(ollskuvan_misc_meaning(OLLSKUVAN_TYPE_SWITCH, both), out);
+    IS(ollskuvan_misc_meaning(OLLSKUVAN_TYPE_SWITCH_CPU_WIDE, both), out);
+    /* each bit alone */
+    IS(ollskuvan_misc_meaning(OLLSKUVAN_TYPE_SWITCH, 0x2000), OLLSKUVAN_MEANS_SWITCHED_OUT);
+    IS(ollskuvan_misc_meaning(OLLSKUVAN_TYPE_SWITCH, 0x4000), OLLSKUVAN_MEANS_PREEMPTED);
+    IS(ollskuvan_misc_meaning(OLLSKUVAN_TYPE_SWITCH, 0x9ff8), 0);
+    /* every other type has the CPU mode alone, also one whose low 32 bits are known */
+    for (type = 0; type < 70; type++) {
+        IS(ollskuvan_misc_meaning(type + above, both | 5), 5);
+        IS(ollskuvan_misc_meaning(type, 6), 6);
+    }
+    IS(ollskuvan_misc_meaning(OLLSKUVAN_TYPE_AUX, both | 7), 7);
+    IS(ollskuvan_misc_meaning(21, both), 0);
+    IS(ollskuvan_misc_meaning(UINT64_MAX, UINT64_MAX), 7);
+    /* bits of misc from 16 up mean nothing */
+    IS(ollskuvan_misc_meaning(OLLSKUVAN_TYPE_SWITCH, both << 16 | both << 32 | both << 48), 0);
+    IS(ollskuvan_misc_meaning(OLLSKUVAN_TYPE_SWITCH, UINT64_MAX), out | 7);
+}
+
 static void test_copy_name(void)
 {
     uint8_t *record = copied(COMM, 24), *buffer = block(8);
@@ -311,9 +340,12 @@ static void test_read_write(void)
     for (i = 7; i < (int)OLLSKUVAN_FIELDS; i++)
         IS(exact[i], 0);
 
-    /* write: 42 for too few words before all else */
-    IS(ollskuvan_write(NULL, 0, NULL, 0, 0, 0, 0, 0, 0, 257, NULL, 0), OLLSKUVAN_REFUSED_VALUE);
-    IS(ollskuvan_write(few, 55, record, 24, 0, 0, 0, 0, 0, 257, NULL, 0), OLLSKUVAN_REFUSED_VALUE);
+    /* write: 2 before all else, then 42 for too few words, whatever type stands in them */
+    IS(ollskuvan_write(NULL, 0, NULL, 0, 0, 0, 0, 0, 0, 257, NULL, 0), OLLSKUVAN_REFUSED_EDITION);
+    IS(ollskuvan_write(few, 55, record, 24, 0, 0, 0, 0, 0, 257, NULL, 0), OLLSKUVAN_REFUSED_EDITION);
+    IS(ollskuvan_write(few, 55, record, 24, 0, 0, 0, 0, 0, 0, NULL, 0), OLLSKUVAN_REFUSED_EDITION);
+    IS(ollskuvan_write(NULL, 0, NULL, 0, 0, 0, 0, 0, 0, 3, NULL, 0), OLLSKUVAN_REFUSED_VALUE);
+    IS(ollskuvan_write(few, 55, record, 24, 0, 0, 0, 0, 0, 3, buffer, 32), OLLSKUVAN_REFUSED_VALUE);
     IS(ollskuvan_write(exact, 56, record, 24, 0, 0, 0, 0, 0, 257, NULL, 0), OLLSKUVAN_REFUSED_EDITION);
     IS(ollskuvan_write(exact, 56, NULL, 0, 0, 0, 0, 0, 0, 3, buffer, 32), OLLSKUVAN_REFUSED_PLACE);
     IS(ollskuvan_write(exact, 56, record, 19, 0, 0, 0, 0, 0, 3, buffer, 32), OLLSKUVAN_REFUSED_PLACE);
@@ -370,6 +402,121 @@ static void test_read_write(void)
     free(few);
 }
 
+/* The reader of one record, and all that is lent to it. */
+static uint8_t *one_ring, *one_scratch;
+static uint64_t *one_words;
+
+static struct ollskuvan_one read_one(uint64_t head, uint64_t tail, uint32_t edition, size_t scratch_len, size_t words)
+{
+    size_t i;
+
+    memset(one_scratch, 0xc3, 32);
+    for (i = 0; i < 57; i++)
+        one_words[i] = 99;
+    return ollskuvan_read_one(one_ring, 64, head, tail, 0, 0, 0, 0, 0, edition, scratch_len ? one_scratch : NULL,
+        scratch_len, words ? one_words : NULL, words);
+}
+
+static int words_kept(size_t from)
+{
+    for (; from < 57; from++)
+        if (one_words[from] != 99)
+            return 0;
+    return 1;
+}
+
+/* A stop: its number, the tail as given, and nothing else. */
+static void is_stop(int line, struct ollskuvan_one one, uint32_t stop, uint64_t tail)
+{
+    is(line, "stop", one.stop, stop);
+    is(line, "tail", one.tail, tail);
+    is(line, "place, size, in_scratch, answer and inspected",
+        one.place | one.size | one.in_scratch | one.answer | one.inspected, 0);
+    is(line, "words and scratch kept", words_kept(0) && untouched(one_scratch, 32), 1);
+}
+
+static void is_taken(int line, struct ollskuvan_one one, uint64_t place, uint64_t tail, uint32_t answer)
+{
+    is(line, "place", one.place, place);
+    is(line, "size", one.size, 24);
+    is(line, "tail", one.tail, tail);
+    is(line, "answer", one.answer, answer);
+    is(line, "stop and inspected", one.stop | one.inspected, 0);
+    is(line, "words kept", words_kept(answer ? 0 : OLLSKUVAN_FIELDS), 1);
+}
+
+#define STOPS(one, stop, tail) is_stop(__LINE__, one, stop, tail)
+#define TAKES(one, place, tail, answer) is_taken(__LINE__, one, place, tail, answer)
+
+static void test_read_one(void)
+{
+    struct ollskuvan_one one;
+
+    one_ring = block(64);
+    one_scratch = block(32);
+    one_words = malloc(57 * sizeof *one_words);
+    if (!one_words)
+        abort();
+
+    /* null with length 0 everywhere; the rows in the order of the table */
+    one = ollskuvan_read_one(NULL, 0, 24, 5, 0, 0, 0, 0, 0, 257, NULL, 0, NULL, 0);
+    IS(one.stop, OLLSKUVAN_STOP_RING_LENGTH);
+    IS(one.tail, 5);
+    STOPS(read_one(72, 1, 257, 24, 56), OLLSKUVAN_STOP_EDITION, 1);
+    STOPS(read_one(72, 1, 3, 24, 56), OLLSKUVAN_STOP_DISTANCE, 1);
+    STOPS(read_one(64, 1, 3, 24, 56), OLLSKUVAN_STOP_ALIGNMENT, 1);
+    STOPS(read_one(8, 8, 3, 24, 56), OLLSKUVAN_STOP_NOTHING, 8);
+    memcpy(one_ring + 8, LOST, 24);
+    put16(one_ring + 14, 12);
+    STOPS(read_one(72, 8, 3, 24, 56), OLLSKUVAN_STOP_SIZE, 8);
+    put16(one_ring + 14, 32);
+    STOPS(read_one(32, 8, 3, 24, 56), OLLSKUVAN_STOP_PAST_HEAD, 8);
+
+    /* accepted: with 0, 55, 56 and 57 words; no scratch is needed where the record lies whole */
+    put16(one_ring + 14, 24);
+    TAKES(read_one(40, 8, 3, 0, 0), 8, 32, OLLSKUVAN_REFUSED_ROOM);
+    TAKES(read_one(40, 8, 3, 0, 55), 8, 32, OLLSKUVAN_REFUSED_ROOM);
+    TAKES(read_one(40, 8, 3, 0, 56), 8, 32, OLLSKUVAN_OK);
+    IS(one_words[OLLSKUVAN_LOST_ID], 7);
+    IS(one_words[OLLSKUVAN_LOST_LOST], 9);
+    one = read_one(40, 8, 3, 32, 57);
+    TAKES(one, 8, 32, OLLSKUVAN_OK);
+    IS(one.in_scratch, 0);
+    OK(untouched(one_scratch, 32));
+    IS(one_words[OLLSKUVAN_TYPE], OLLSKUVAN_TYPE_LOST);
+
+    /* refused: shown, and the tail moves all the same; 20 comes before 40 */
+    put16(one_ring + 8, OLLSKUVAN_TYPE_COMM);
+    memset(one_ring + 24, 'x', 8);
+    TAKES(read_one(40, 8, 3, 0, 56), 8, 32, OLLSKUVAN_REFUSED_NAME);
+    put16(one_ring + 8, OLLSKUVAN_TYPE_SWITCH);
+    TAKES(read_one(40, 8, 1, 0, 0), 8, 32, OLLSKUVAN_REFUSED_TYPE);
+
+    /* across the end at tail 2^64 - 8: scratch one byte short, just long enough, longer */
+    memcpy(one_ring + 56, LOST, 8);
+    memcpy(one_ring, LOST + 8, 16);
+    STOPS(read_one(16, UINT64_MAX - 7, 3, 0, 56), OLLSKUVAN_STOP_SCRATCH, UINT64_MAX - 7);
+    STOPS(read_one(16, UINT64_MAX - 7, 3, 23, 56), OLLSKUVAN_STOP_SCRATCH, UINT64_MAX - 7);
+    one = read_one(16, UINT64_MAX - 7, 3, 24, 56);
+    TAKES(one, 0, 16, OLLSKUVAN_OK);
+    IS(one.in_scratch, 1);
+    OK(memcmp(one_scratch, LOST, 24) == 0 && untouched(one_scratch + 24, 8));
+    one = read_one(16, UINT64_MAX - 7, 3, 32, 0);
+    TAKES(one, 0, 16, OLLSKUVAN_REFUSED_ROOM);
+    IS(one.in_scratch, 1);
+    OK(memcmp(one_scratch, LOST, 24) == 0 && untouched(one_scratch + 24, 8));
+
+    /* ending just at the ring's end is not crossing it */
+    memcpy(one_ring + 40, LOST, 24);
+    one = read_one(64, 40, 3, 0, 56);
+    TAKES(one, 40, 64, OLLSKUVAN_OK);
+    IS(one.in_scratch, 0);
+
+    free(one_ring);
+    free(one_scratch);
+    free(one_words);
+}
+
 #endif
 
 int main(void)
@@ -377,11 +524,14 @@ int main(void)
     IS(OLLSKUVAN_TRAILER_BITS, 66246);
     IS(OLLSKUVAN_FIELDS, 56);
     IS(sizeof(struct ollskuvan_drained), 32);
+    IS(sizeof(struct ollskuvan_one), 40);
     test_drain();
     test_check();
+    test_misc_meaning();
     test_copy_name();
 #ifndef WITHOUT_VALUES
     test_read_write();
+    test_read_one();
 #endif
     printf("exports from C: %d calls and bytes as due, %d not\n", passed, failed);
     return failed ? 1 : 0;

@@ -12,8 +12,9 @@
 #                                random and damaged rings, records and images until the time is up, with
 #                                progress every ten seconds; stops at the first difference
 #
-# DRAINS, VALUES and SEED change the counts and the seed of the gate's run. Needs rustc, a C compiler
-# (CC, or cc) and, for the memory check of the C calls, valgrind. Everything is built in target/tests/.
+# DRAINS, VALUES and SEED change the counts and the seed of the gate's run. Needs rustc (RUSTC, or rustc; 1.63
+# or newer), a C compiler (CC, or cc) and, for the memory check of the C calls, valgrind. Everything is built in
+# target/tests/.
 set -eu
 cd "$(dirname "$0")/.."
 
@@ -22,8 +23,10 @@ drains=${DRAINS:-200000}
 values=${VALUES:-100000}
 seed=${SEED:-1}
 cc=${CC:-cc}
+rustc=${RUSTC:-rustc}
 out=target/tests
 archive=target/staticlib/libollskuvan.a
+libraries=
 ringdump=target/bin/ringdump
 
 stop() { echo "tests/run.sh: $*" >&2; exit 1; }
@@ -40,7 +43,7 @@ case $mode in
         ;;
     *) stop "no such word: $mode (see the head of this file)" ;;
 esac
-command -v rustc >/dev/null || stop "rustc is missing: the independent reader is written in Rust"
+command -v "$rustc" >/dev/null || stop "$rustc is missing: the independent reader is written in Rust"
 command -v "$cc" >/dev/null || stop "$cc is missing: the exports are called from C"
 mkdir -p "$out"
 
@@ -55,7 +58,7 @@ part() { # part WORDS COMMAND...
     echo "   $(($(date +%s) - from)) s"
 }
 
-rust() { rustc --edition 2021 -O -C overflow-checks=on "$@"; }
+rust() { "$rustc" --edition 2021 -O -C overflow-checks=on "$@"; }
 c() { "$cc" -std=c99 -pedantic -Wall -Wextra -Werror -g -O1 "$@"; }
 
 case $mode in
@@ -64,7 +67,9 @@ case $mode in
             rust --cfg standin -o "$out/reader" tests/reader/main.rs
         part "build the stand-in for C" \
             rust --crate-type staticlib --crate-name ollskuvan -o "$out/libstandin.a" tests/reader/standin.rs
-        part "build the calls from C" c -o "$out/exports" tests/exports.c "$out/libstandin.a" -lpthread -ldl -lm
+        archive=$out/libstandin.a libraries="-lpthread -ldl -lm"
+        # shellcheck disable=SC2086
+        part "build the calls from C" c -o "$out/exports" tests/exports.c "$archive" $libraries
         ringdump="$out/reader dump"
         ;;
     *)
@@ -107,12 +112,23 @@ if command -v valgrind >/dev/null; then
 else
     echo "== valgrind is missing: the calls from C ran without it"
 fi
+if [ $mode != without-values ]; then
+    # shellcheck disable=SC2086
+    part "build the test of the header's names" c -Iinclude -o "$out/names" tests/names.c "$archive" $libraries
+    part "every constant of the header, by its name" "$out/names"
+    # shellcheck disable=SC2086
+    part "constants swapped in the header are seen" tests/swaps.sh "$archive" $libraries
+fi
 part "drains, checks and name copies: $drains cases, seed $seed" \
     "$out/reader" drains --count "$drains" --seed "$seed"
+part "what misc means" "$out/reader" meanings --count "$values" --seed "$seed"
 part "real rings" "$out/reader" rings rings
 if [ $mode != without-values ]; then
     part "each sample bit, read format, type and trailer bit" "$out/reader" bits
     part "values: $values records, seed $seed" "$out/reader" values --count "$values" --seed "$seed"
+    # each ring is lent anew for each of its records
+    part "the reader of one record: $((values / 5)) rings, seed $seed" \
+        "$out/reader" ones --count $((values / 5)) --seed "$seed"
 fi
 # shellcheck disable=SC2086
 part "what ringdump prints" "$out/reader" images $ringdump --rings rings --folder "$out" --seed "$seed" --count 400

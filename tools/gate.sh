@@ -7,7 +7,8 @@ log=$(mktemp) || exit 2
 trap 'rm -f "$log"' EXIT
 began=$(date +%s)
 
-rt ci >"$log" 2>&1
+# rt waits for a whole batch of crates before it starts the next: with more of them at a time than there are processors none stands idle
+RT_JOBS=${RT_JOBS:-6} rt ci >"$log" 2>&1
 status=$?
 last=$(tail -n 1 "$log")
 grep -E '^rt: ' "$log" | tail -n 300
@@ -39,6 +40,7 @@ part 'the tree itself' bash tools/selfcheck.sh
 part 'the library for C' bash -c 'rt staticlib ollskuvan >target/staticlib.log 2>&1 || { tail -n 20 target/staticlib.log; exit 1; }'
 part 'tests from outside' bash tests/run.sh
 part 'careful C beside ours' bash bench/run.sh --short
+part 'the program for people' make -s tool-test
 part 'examples' make -s examples-test
 part 'live rings' make -s live-test
 part 'the package' make -s install-test

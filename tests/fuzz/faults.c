@@ -12,9 +12,12 @@
 struct ollskuvan_drained reader_drain(const uint8_t *, size_t, uint64_t, uint64_t, uint64_t, uint64_t, uint32_t,
     uint64_t, uint64_t, uint32_t, uint64_t, uint8_t *, size_t, uint8_t *, size_t);
 uint32_t reader_check(const uint8_t *, size_t, uint64_t, uint64_t, uint32_t, uint64_t, uint64_t, uint32_t);
+uint32_t reader_misc_meaning(uint64_t, uint64_t);
 uint32_t reader_copy_name(const uint8_t *, size_t, uint64_t, uint64_t, uint8_t *, size_t);
 uint32_t reader_read(const uint8_t *, size_t, uint64_t, uint64_t, uint32_t, uint64_t, uint64_t, uint32_t,
     uint64_t *, size_t);
+struct ollskuvan_one reader_read_one(const uint8_t *, size_t, uint64_t, uint64_t, uint64_t, uint64_t, uint32_t,
+    uint64_t, uint64_t, uint32_t, uint8_t *, size_t, uint64_t *, size_t);
 uint32_t reader_write(const uint64_t *, size_t, const uint8_t *, size_t, uint64_t, uint64_t, uint32_t, uint64_t,
     uint64_t, uint32_t, uint8_t *, size_t);
 
@@ -80,6 +83,17 @@ uint32_t ollskuvan_check(const uint8_t *record, size_t record_len, uint64_t samp
     return answer;
 }
 
+uint32_t ollskuvan_misc_meaning(uint64_t type, uint64_t misc)
+{
+    if (fault(25) && type == OLLSKUVAN_TYPE_AUX) /* a data mapping for AUX */
+        type = OLLSKUVAN_TYPE_MMAP;
+    if (fault(26)) /* the type narrowed to 32 bits */
+        type &= UINT32_MAX;
+    if (fault(27)) /* a bit of misc above 15 that means something */
+        misc |= misc >> 16;
+    return reader_misc_meaning(type, misc);
+}
+
 uint32_t ollskuvan_copy_name(const uint8_t *record, size_t record_len, uint64_t place, uint64_t count,
     uint8_t *buffer, size_t buffer_len)
 {
@@ -110,6 +124,28 @@ uint32_t ollskuvan_read(const uint8_t *record, size_t record_len, uint64_t sampl
     if (fault(20) && answer == OLLSKUVAN_REFUSED_ROOM) /* too few words are no refusal */
         answer = OLLSKUVAN_OK;
     return answer;
+}
+
+struct ollskuvan_one ollskuvan_read_one(const uint8_t *ring, size_t ring_len, uint64_t head, uint64_t tail,
+    uint64_t sample_type, uint64_t read_format, uint32_t sample_id_all, uint64_t user_mask, uint64_t interrupt_mask,
+    uint32_t edition, uint8_t *scratch, size_t scratch_len, uint64_t *fields, size_t fields_len)
+{
+    struct ollskuvan_one one = reader_read_one(ring, ring_len, head, tail, sample_type, read_format, sample_id_all,
+        user_mask, interrupt_mask, edition, scratch, scratch_len, fields, fields_len);
+
+    if (fault(28) && one.size && one.answer) /* the tail stays at a refused record */
+        one.tail = tail;
+    if (fault(29) && one.in_scratch) /* the place in the ring told of a record in the scratch */
+        one.place = tail % ring_len;
+    if (fault(30) && one.answer == OLLSKUVAN_REFUSED_ROOM) /* too few words are a stop */
+        one = (struct ollskuvan_one){ .tail = tail, .stop = OLLSKUVAN_REFUSED_ROOM };
+    if (fault(31) && one.answer && fields_len) /* a word changed although the record is refused */
+        fields[fields_len - 1] = 0;
+    if (fault(32) && one.size == 0 && one.stop == OLLSKUVAN_STOP_SCRATCH && scratch_len) /* a stop copies */
+        scratch[scratch_len - 1] ^= 1;
+    if (fault(33) && one.size && ring_len) /* one byte past the ring is read */
+        seen = ring[ring_len];
+    return one;
 }
 
 uint32_t ollskuvan_write(const uint64_t *fields, size_t fields_len, const uint8_t *source, size_t source_len,

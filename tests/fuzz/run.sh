@@ -5,12 +5,13 @@
 #   tests/fuzz/run.sh                     200,000 executions, seed 1
 #   tests/fuzz/run.sh RUNS [SEED]         so many executions with this seed (0 RUNS: builds it and ends)
 #   tests/fuzz/run.sh again FILE          runs an input again that was kept at a difference
-#   tests/fuzz/run.sh faults              the target tried on itself: 24 planted faults (faults.c), each must be found
+#   tests/fuzz/run.sh faults              the target tried on itself: 33 planted faults (faults.c), each must be found;
+#                                         FIRST=25 begins with number 25
 #
 # MAX_LEN is the longest input (default 1200 bytes: many executions in a second); SECONDS_AT_MOST ends a run
 # early. The corpus grows from run to run in target/fuzz/corpus; delete it to start from the seeds again.
-# Needs target/staticlib/libollskuvan.a, target/obj/ringdump.o, rustc, and Debian's packages clang and
-# libclang-rt-dev (here: that of clang's own number). Where a package is missing it says so and ends with 0.
+# Needs target/staticlib/libollskuvan.a, target/obj/ringdump.o, rustc (RUSTC, or rustc), and Debian's packages clang
+# and libclang-rt-dev (here: that of clang's own number). Where a package is missing it says so and ends with 0.
 set -eu
 cd "$(dirname "$0")/../.."
 
@@ -18,6 +19,7 @@ out=target/fuzz
 archive=target/staticlib/libollskuvan.a
 program=target/obj/ringdump.o
 max_len=${MAX_LEN:-1200}
+rustc=${RUSTC:-rustc}
 
 stop() { echo "tests/fuzz/run.sh: $*" >&2; exit 1; }
 skip() { echo "== fuzzing skipped: $*"; exit 0; }
@@ -31,7 +33,7 @@ esac
 seed=${2:-1}
 
 command -v clang >/dev/null || skip "clang is missing (Debian: apt-get install clang)"
-command -v rustc >/dev/null || skip "rustc is missing: the independent reader is written in Rust"
+command -v "$rustc" >/dev/null || skip "$rustc is missing: the independent reader is written in Rust"
 command -v objcopy >/dev/null || skip "objcopy is missing (Debian: apt-get install binutils)"
 mkdir -p "$out"
 number=$(clang -dumpversion | cut -d. -f1)
@@ -58,7 +60,7 @@ newer() { # newer MADE SOURCE...: it is there and no source is younger
 
 # The independent reader with libFuzzer's coverage: the archive itself has none, so this leads the search.
 newer "$out/libindependent.a" tests/reader tests/fuzz/run.sh ||
-    rustc --edition 2021 -O -C overflow-checks=on -C panic=abort -C codegen-units=1 --cfg own_names \
+    "$rustc" --edition 2021 -O -C overflow-checks=on -C panic=abort -C codegen-units=1 --cfg own_names \
         --crate-type staticlib --crate-name independent -C passes=sancov-module \
         -C llvm-args=-sanitizer-coverage-level=4 -C llvm-args=-sanitizer-coverage-inline-8bit-counters \
         -C llvm-args=-sanitizer-coverage-pc-table -C llvm-args=-sanitizer-coverage-trace-compares \
@@ -75,7 +77,7 @@ newer "$out/seeds/made-0" tests/reader rings || {
     seeder=target/tests/reader
     newer $seeder tests/reader || {
         seeder=$out/seeder
-        rustc --edition 2021 -O --cfg standin -o "$seeder" tests/reader/main.rs
+        "$rustc" --edition 2021 -O --cfg standin -o "$seeder" tests/reader/main.rs
     }
     rm -rf "$out/seeds"
     mkdir -p "$out/seeds"
@@ -88,8 +90,8 @@ if [ "$runs" = again ]; then
 fi
 if [ "$runs" = faults ]; then
     build -c -o "$out/target.o" tests/fuzz/target.c
-    number=1
-    while [ $number -le 24 ]; do
+    number=${FIRST:-1}
+    while [ $number -le 33 ]; do
         # shellcheck disable=SC2086
         build -DFAULT=$number -o "$out/faulty" "$out/target.o" tests/fuzz/faults.c "$out/ringdump.o" \
             "$out/libindependent.a" $libraries
@@ -105,7 +107,7 @@ if [ "$runs" = faults ]; then
         rm -f "$out"/planted-*
         number=$((number + 1))
     done
-    echo "fuzz: 24 planted faults, all found"
+    echo "fuzz: 33 planted faults, all found (from number ${FIRST:-1} on)"
     exit 0
 fi
 [ "$runs" -gt 0 ] || exit 0

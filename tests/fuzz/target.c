@@ -11,7 +11,7 @@
  * An input is a control block of 48 bytes, then what ringdump takes: head, tail, sample type, read
  * format, user mask, interrupt mask (8 bytes each), edition, sample_id_all (1 byte each), and bytes.
  * What is missing is zero. The control block:
- *   0  the call, modulo 4: drain, ringdump, record (check, name copy, read, write again), write
+ *   0  the call, modulo 4: drain (and read one), ringdump, record (check, misc, name copy, read, write again), write
  *   1  flags, see below            2  LAID: the ring's length is 64 << (this modulo 9)
  *   3  what buffers hold before    4, 5  scratch: choice and number; ringdump: 4 cuts the input below 50
  *   6, 7  journal                  8  budget: 0 is without end, else this minus 1
@@ -49,9 +49,12 @@ enum {
 struct ollskuvan_drained reader_drain(const uint8_t *, size_t, uint64_t, uint64_t, uint64_t, uint64_t, uint32_t,
     uint64_t, uint64_t, uint32_t, uint64_t, uint8_t *, size_t, uint8_t *, size_t);
 uint32_t reader_check(const uint8_t *, size_t, uint64_t, uint64_t, uint32_t, uint64_t, uint64_t, uint32_t);
+uint32_t reader_misc_meaning(uint64_t, uint64_t);
 uint32_t reader_copy_name(const uint8_t *, size_t, uint64_t, uint64_t, uint8_t *, size_t);
 uint32_t reader_read(const uint8_t *, size_t, uint64_t, uint64_t, uint32_t, uint64_t, uint64_t, uint32_t,
     uint64_t *, size_t);
+struct ollskuvan_one reader_read_one(const uint8_t *, size_t, uint64_t, uint64_t, uint64_t, uint64_t, uint32_t,
+    uint64_t, uint64_t, uint32_t, uint8_t *, size_t, uint64_t *, size_t);
 uint32_t reader_write(const uint64_t *, size_t, const uint8_t *, size_t, uint64_t, uint64_t, uint32_t, uint64_t,
     uint64_t, uint32_t, uint8_t *, size_t);
 size_t reader_print(const uint8_t *, size_t, uint8_t *, size_t);
@@ -78,8 +81,9 @@ static struct {
 
 /* ---- What was reached: told to libFuzzer as if it were coverage, and counted for the end's report. ---- */
 
-enum call { DRAIN, PROGRAM, CHECK, COPY, READ, WRITE, CALLS };
-static const char *const call_names[CALLS] = { "drain", "ringdump", "check", "name copy", "read", "write" };
+enum call { DRAIN, PROGRAM, CHECK, COPY, READ, WRITE, MEANING, ONE_STOP, ONE, CALLS };
+static const char *const call_names[CALLS] = { "drain", "ringdump", "check", "name copy", "read", "write",
+    "misc meaning, without the CPU mode,", "read one, its stops:", "read one" };
 
 /* by call, type (0, or 21 for every other) and answer */
 enum { TYPES = 22, ANSWERS = 64 };
@@ -227,6 +231,27 @@ static uint32_t check(const uint8_t *record, size_t count)
     return library;
 }
 
+static void misc_meaning(uint64_t type, uint64_t misc)
+{
+    uint32_t library = ollskuvan_misc_meaning(type, misc), independent = reader_misc_meaning(type, misc);
+
+    if (library != independent)
+        differs("misc %#" PRIx64 " of type %" PRIu64 ": library %" PRIu32 ", independent %" PRIu32, misc, type, library,
+            independent);
+    reach(MEANING, type, library >> 3);
+}
+
+/* The record's own type and misc, and with bits that no header has: the words are the head and the tail. */
+static void misc_meanings(const uint8_t *record, size_t count)
+{
+    uint64_t type = type_of(record, count), misc = count < 6 ? 0 : record[4] | (uint64_t)record[5] << 8;
+
+    misc_meaning(type, misc);
+    misc_meaning(type, misc | in.head << 16);
+    misc_meaning(type | in.head << 32, misc);
+    misc_meaning(in.head, in.tail);
+}
+
 static void copy_name(const uint8_t *record, size_t count, uint64_t place, uint64_t bytes, size_t room)
 {
     uint8_t before[300];
@@ -369,7 +394,67 @@ static size_t journal_length(size_t ring_length)
     }
 }
 
-/* The records of a journal one by one: check answers the same, and accepted ones are read. */
+#ifndef WITHOUT_VALUES
+static void print_one(const char *who, const struct ollskuvan_one *one)
+{
+    fprintf(stderr, "  %s: place %" PRIu64 "  size %" PRIu64 "  tail %#" PRIx64 "  in_scratch %" PRIu32 "  stop %" PRIu32
+        "  answer %" PRIu32 "  inspected %" PRIu32 "\n", who, one->place, one->size, one->tail, one->in_scratch, one->stop,
+        one->answer, one->inspected);
+}
+
+static int same_one(const struct ollskuvan_one *a, const struct ollskuvan_one *b)
+{
+    return a->place == b->place && a->size == b->size && a->tail == b->tail && a->in_scratch == b->in_scratch
+        && a->stop == b->stop && a->answer == b->answer && a->inspected == b->inspected;
+}
+
+/* The record at a tail, by both. */
+static struct ollskuvan_one read_one(const struct ring *ring, uint64_t tail, size_t scratch_len, size_t words)
+{
+    static uint8_t scratch[LONGEST];
+    uint64_t value[FIELDS + 4];
+    const uint8_t *lent_ring = lend(RING, ring->bytes, ring->length);
+    uint8_t *lent_scratch, *lent_words;
+    struct ollskuvan_one library, independent;
+    size_t i;
+
+    memset(scratch, in.control[3], scratch_len);
+    for (i = 0; i < words; i++)
+        value[i] = UINT64_C(0x0123456789abcdef);
+    lent_scratch = lend(SCRATCH, scratch, scratch_len);
+    lent_words = lend(VALUE, value, 8 * words);
+    library = ollskuvan_read_one(lent_ring, ring->length, ring->head, tail, ATTRIBUTES, lent_scratch, scratch_len,
+        (uint64_t *)(void *)lent_words, words);
+    independent = reader_read_one(ring->bytes, ring->length, ring->head, tail, ATTRIBUTES, scratch, scratch_len, value,
+        words);
+    if (!same_one(&library, &independent)) {
+        fprintf(stderr, "  read one: head %#" PRIx64 "  tail %#" PRIx64 "  scratch %zu  words %zu\n", ring->head, tail,
+            scratch_len, words);
+        print_one("library", &library);
+        print_one("independent", &independent);
+        print_hex("ring", ring->bytes, ring->length);
+        differs("read one: what is told");
+    }
+    is_kept(RING, lent_ring, ring->bytes, ring->length);
+    is_as(SCRATCH, lent_scratch, scratch, scratch_len, "read one: the scratch");
+    is_as(VALUE, lent_words, value, 8 * words, "read one: the words of the value");
+    if (library.size == 0)
+        reach(ONE_STOP, 0, library.stop);
+    else
+        reach(ONE, library.in_scratch, library.answer);
+    return library;
+}
+#endif
+
+/* The words that are lent for a value, by a byte of the control block. */
+static size_t some_words(uint8_t choice)
+{
+    static const uint8_t lengths[] = { FIELDS, FIELDS - 1, 0, FIELDS + 1, 3, FIELDS + 4, 1, 54 };
+
+    return lengths[choice % 8];
+}
+
+/* The records of a journal one by one: check and the reader of one record answer the same, accepted ones are read. */
 static void take_apart(const struct ring *ring, const uint8_t *journal, uint64_t taken)
 {
     static uint8_t record[LONGEST];
@@ -393,11 +478,13 @@ static void take_apart(const struct ring *ring, const uint8_t *journal, uint64_t
             differs("check does not answer as the journal does: %" PRIu32, answer);
         }
 #ifndef WITHOUT_VALUES
-        if (answer == 0) {
-            uint64_t value[FIELDS];
+        struct ollskuvan_one one = read_one(ring, tail, size, FIELDS);
+        uint64_t value[FIELDS];
 
+        if (one.answer != answer || one.size != size || one.in_scratch != (at + size > ring->length))
+            differs("read one gives another record than the journal, whose answer is %" PRIu32, answer);
+        if (answer == 0)
             read_value(record, size, value, FIELDS);
-        }
 #endif
     }
     records_seen += taken;
@@ -441,6 +528,10 @@ static void try_drain(void)
     is_kept(RING, lent_ring, ring.bytes, ring.length);
     reach(DRAIN, library.taken < 4 ? library.taken : 4, library.stop);
     take_apart(&ring, journal, library.taken);
+#ifndef WITHOUT_VALUES
+    read_one(&ring, in.tail, scratch_len, some_words(in.control[11]));
+    read_one(&ring, library.tail, scratch_len, some_words(in.control[11]));
+#endif
 }
 
 /* ---- The program ringdump. ---- */
@@ -544,6 +635,7 @@ static void try_record(void)
     uint64_t place = in.head, bytes = in.tail;
 
     check(in.bytes, count);
+    misc_meanings(in.bytes, count);
     if (in.control[1] & PLACE_NEAR) {
         place = near(place, count);
         bytes = near(bytes, count);
@@ -551,12 +643,11 @@ static void try_record(void)
     copy_name(in.bytes, count, place, bytes, in.control[15]);
 #ifndef WITHOUT_VALUES
     {
-        static const uint8_t lengths[] = { FIELDS, FIELDS - 1, 0, FIELDS + 1, 3, FIELDS + 4, 1, 54 };
         uint64_t value[FIELDS + 4];
         size_t room = count + (in.control[14] & 7);
 
         if (in.control[11])
-            read_value(in.bytes, count, value, lengths[in.control[11] % 8]);
+            read_value(in.bytes, count, value, some_words(in.control[11]));
         if (read_value(in.bytes, count, value, FIELDS) == 0) {
             if (write_value(value, FIELDS, in.bytes, count, room) != 0) {
                 print_hex("record", in.bytes, count);

@@ -1,6 +1,6 @@
 //! The exports of libollskuvan.a, as include/ollskuvan.h declares them.
 
-use crate::ring::Drained;
+use crate::ring::{Drained, One};
 use crate::rules::Attributes;
 
 #[repr(C)]
@@ -9,6 +9,17 @@ pub struct CDrained {
     pub bytes: u64,
     pub tail: u64,
     pub stop: u32,
+}
+
+#[repr(C)]
+pub struct COne {
+    pub place: u64,
+    pub size: u64,
+    pub tail: u64,
+    pub in_scratch: u32,
+    pub stop: u32,
+    pub answer: u32,
+    pub inspected: u32,
 }
 
 extern "C" {
@@ -21,6 +32,7 @@ extern "C" {
         record: *const u8, record_len: usize, sample_type: u64, read_format: u64, sample_id_all: u32,
         user_mask: u64, interrupt_mask: u64, edition: u32,
     ) -> u32;
+    pub fn ollskuvan_misc_meaning(kind: u64, misc: u64) -> u32;
     pub fn ollskuvan_copy_name(
         record: *const u8, record_len: usize, place: u64, count: u64, buffer: *mut u8, buffer_len: usize,
     ) -> u32;
@@ -29,6 +41,12 @@ extern "C" {
         record: *const u8, record_len: usize, sample_type: u64, read_format: u64, sample_id_all: u32,
         user_mask: u64, interrupt_mask: u64, edition: u32, fields: *mut u64, fields_len: usize,
     ) -> u32;
+    #[cfg(not(without_values))]
+    pub fn ollskuvan_read_one(
+        ring: *const u8, ring_len: usize, head: u64, tail: u64, sample_type: u64, read_format: u64,
+        sample_id_all: u32, user_mask: u64, interrupt_mask: u64, edition: u32, scratch: *mut u8,
+        scratch_len: usize, fields: *mut u64, fields_len: usize,
+    ) -> COne;
     #[cfg(not(without_values))]
     pub fn ollskuvan_write(
         fields: *const u64, fields_len: usize, source: *const u8, source_len: usize, sample_type: u64,
@@ -63,6 +81,10 @@ pub fn check(record: &[u8], a: &Attributes, edition: u32) -> u32 {
     }
 }
 
+pub fn misc_meaning(kind: u64, misc: u64) -> u32 {
+    unsafe { ollskuvan_misc_meaning(kind, misc) }
+}
+
 pub fn copy_name(record: &[u8], place: u64, count: u64, buffer: &mut [u8]) -> u32 {
     unsafe {
         ollskuvan_copy_name(record.as_ptr(), record.len(), place, count, buffer.as_mut_ptr(), buffer.len())
@@ -76,6 +98,27 @@ pub fn read(record: &[u8], a: &Attributes, edition: u32, fields: &mut [u64]) -> 
             record.as_ptr(), record.len(), a.sample_type, a.read_format, a.sample_id_all, a.user_mask,
             a.interrupt_mask, edition, fields.as_mut_ptr(), fields.len(),
         )
+    }
+}
+
+#[cfg(not(without_values))]
+pub fn read_one(
+    ring: &[u8], head: u64, tail: u64, a: &Attributes, edition: u32, scratch: &mut [u8], fields: &mut [u64],
+) -> One {
+    let o = unsafe {
+        ollskuvan_read_one(
+            ring.as_ptr(), ring.len(), head, tail, a.sample_type, a.read_format, a.sample_id_all, a.user_mask,
+            a.interrupt_mask, edition, scratch.as_mut_ptr(), scratch.len(), fields.as_mut_ptr(), fields.len(),
+        )
+    };
+    One {
+        place: o.place,
+        size: o.size,
+        tail: o.tail,
+        in_scratch: o.in_scratch,
+        stop: o.stop,
+        answer: o.answer,
+        inspected: o.inspected,
     }
 }
 
@@ -94,6 +137,11 @@ pub fn write(fields: &[u64], source: &[u8], a: &Attributes, edition: u32, buffer
 #[cfg(without_values)]
 pub fn read(_: &[u8], _: &Attributes, _: u32, _: &mut [u64]) -> u32 {
     panic!("built without ollskuvan_read");
+}
+
+#[cfg(without_values)]
+pub fn read_one(_: &[u8], _: u64, _: u64, _: &Attributes, _: u32, _: &mut [u8], _: &mut [u64]) -> One {
+    panic!("built without ollskuvan_read_one");
 }
 
 #[cfg(without_values)]

@@ -115,7 +115,7 @@ fn push_word(bytes: &mut Vec<u8>, word: &str) -> Result<(), String> {
         text.strip_suffix('"').ok_or(format!("{word} has no end"))?.as_bytes().to_vec()
     } else {
         let digit = |i| one.get(2 * i..2 * i + 2).and_then(|d| u8::from_str_radix(d, 16).ok());
-        (0..one.len().div_ceil(2)).map(|i| digit(i).ok_or(format!("{word} is no hexadecimal"))).collect::<Result<_, _>>()?
+        (0..(one.len() + 1) / 2).map(|i| digit(i).ok_or(format!("{word} is no hexadecimal"))).collect::<Result<_, _>>()?
     };
     bytes.extend(piece.repeat(times));
     Ok(())
@@ -210,7 +210,7 @@ fn run_one(path: &Path, tally: &mut Tally) -> Result<(), String> {
 fn paths_of(folder: &Path) -> Result<Vec<PathBuf>, String> {
     let entries = fs::read_dir(folder).map_err(|e| format!("{}: {e}", folder.display()))?;
     let mut paths: Vec<_> = entries.filter_map(|e| e.ok()).map(|e| e.path()).collect();
-    paths.retain(|p| p.extension().is_some_and(|e| e == "case"));
+    paths.retain(|p| p.extension().map_or(false, |e| e == "case"));
     paths.sort();
     if paths.is_empty() {
         return Err(format!("{}: there are no cases", folder.display()));

@@ -79,7 +79,7 @@ pub fn compare_drain(case: &DrainCase, r: &mut Random, tally: &mut Tally) -> Res
     }
 }
 
-fn describe(case: &DrainCase) -> String {
+pub fn describe(case: &DrainCase) -> String {
     format!(
         "  edition {}  head {:#x}  tail {:#x}  budget {}  scratch {}  journal {}\n  {}\n  ring of {} bytes: {}",
         case.edition,

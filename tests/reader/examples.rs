@@ -238,7 +238,8 @@ fn values(t: &mut Tried) {
     t.is("pid widest", write(&with_word(value, comm::PID, u64::from(u32::MAX)), b"-kiln", &mut buffer), 0);
     t.is("42 kept word", write(&with_word(value, comm::NAME_FLAG, 1), b"-kiln", &mut buffer), 42);
     t.is("20 type as a whole word", write(&with_word(value, TYPE, 3 << 32 | 3), b"-kiln", &mut buffer), 20);
-    t.is("42 few words", writer::write(&value[..55], b"-kiln", 9, a, &mut buffer), 42);
+    t.is("42 few words", writer::write(&value[..55], b"-kiln", 3, a, &mut buffer), 42);
+    t.is("2 before few words", writer::write(&value[..55], b"-kiln", 9, a, &mut buffer), 2);
     t.is("2", writer::write(&value, b"-kiln", 9, a, &mut buffer), 2);
 }
 

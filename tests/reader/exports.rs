@@ -5,10 +5,10 @@
 //! and says nothing about the library. Under names of its own (`own_names`: reader_drain and so on) it
 //! stands beside the library in one program: the fuzz target, tests/fuzz.
 
-use crate::abi::CDrained;
+use crate::abi::{CDrained, COne};
 use crate::record;
 use crate::ring::{self, Ring};
-use crate::rules::Attributes;
+use crate::rules::{self, Attributes};
 use crate::words::FIELDS;
 use crate::writer;
 
@@ -44,6 +44,12 @@ pub unsafe extern "C" fn ollskuvan_check(
     record::check(lent(record, record_len), edition, &a)
 }
 
+#[cfg_attr(own_names, export_name = "reader_misc_meaning")]
+#[cfg_attr(not(own_names), no_mangle)]
+pub extern "C" fn ollskuvan_misc_meaning(kind: u64, misc: u64) -> u32 {
+    rules::misc_meaning(kind, misc)
+}
+
 #[cfg_attr(own_names, export_name = "reader_copy_name")]
 #[cfg_attr(not(own_names), no_mangle)]
 pub unsafe extern "C" fn ollskuvan_copy_name(
@@ -66,6 +72,27 @@ pub unsafe extern "C" fn ollskuvan_read(
             lent_mut(fields, fields_len)[..FIELDS].copy_from_slice(&value);
             0
         }
+    }
+}
+
+#[cfg_attr(own_names, export_name = "reader_read_one")]
+#[cfg_attr(not(own_names), no_mangle)]
+pub unsafe extern "C" fn ollskuvan_read_one(
+    ring: *const u8, ring_len: usize, head: u64, tail: u64, sample_type: u64, read_format: u64,
+    sample_id_all: u32, user_mask: u64, interrupt_mask: u64, edition: u32, scratch: *mut u8,
+    scratch_len: usize, fields: *mut u64, fields_len: usize,
+) -> COne {
+    let attributes = Attributes { sample_type, read_format, sample_id_all, user_mask, interrupt_mask };
+    let ring = Ring { bytes: lent(ring, ring_len), head, edition, attributes };
+    let o = ring::read_one(&ring, tail, lent_mut(scratch, scratch_len), lent_mut(fields, fields_len));
+    COne {
+        place: o.place,
+        size: o.size,
+        tail: o.tail,
+        in_scratch: o.in_scratch,
+        stop: o.stop,
+        answer: o.answer,
+        inspected: o.inspected,
     }
 }
 

@@ -214,7 +214,10 @@ fn mutate_bytes(r: &mut Random, bytes: &mut [u8]) {
 pub fn seeds(rings: &[(String, Vec<u8>)], seed: u64, count: u64) -> Vec<(String, Vec<u8>)> {
     let mut seeds = Vec::new();
     for (name, bytes) in rings {
-        let Some(image) = Image::parse(bytes) else { continue };
+        let image = match Image::parse(bytes) {
+            Some(image) => image,
+            None => continue,
+        };
         let name = name.trim_end_matches(".img");
         if image.ring.len() <= 4096 {
             seeds.push((format!("{name}-whole"), input(PROGRAM, 0, image.clone())));

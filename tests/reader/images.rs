@@ -70,7 +70,7 @@ impl Program<'_> {
 pub fn images_of(folder: &Path) -> Result<Vec<(String, Vec<u8>)>, String> {
     let entries = fs::read_dir(folder).map_err(|e| format!("{}: {e}", folder.display()))?;
     let mut paths: Vec<PathBuf> = entries.filter_map(|e| e.ok()).map(|e| e.path()).collect();
-    paths.retain(|p| p.extension().is_some_and(|e| e == "img"));
+    paths.retain(|p| p.extension().map_or(false, |e| e == "img"));
     paths.sort();
     if paths.is_empty() {
         return Err(format!("{}: there are no images", folder.display()));

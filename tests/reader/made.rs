@@ -327,7 +327,10 @@ fn count_places(record: &[u8], a: &Attributes) -> Vec<(usize, usize)> {
     for item in &items {
         let step = match *item {
             Item::Number { word, bytes, .. } => {
-                let Some(field) = record.get(place..place + bytes) else { break };
+                let field = match record.get(place..place + bytes) {
+                    Some(field) => field,
+                    None => break,
+                };
                 value[word] = number(field);
                 if counts(word) {
                     found.push((place, bytes));

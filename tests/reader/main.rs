@@ -13,6 +13,8 @@ mod fuzz;
 mod guard;
 mod images;
 mod made;
+mod meanings;
+mod ones;
 mod record;
 mod ring;
 mod rules;
@@ -35,6 +37,8 @@ reader list IMAGE                     the records of an image with their values,
 reader rings FOLDER                   every record of the real rings is accepted in edition 3, and their drains compared
 reader drains [OPTIONS]               drain, record check and name copy: the library against the independent reader
 reader values [OPTIONS]               read and write: the library against the independent reader and writer
+reader ones [OPTIONS]                 the reader of one record: the library against the independent reader
+reader meanings [OPTIONS]             what misc means: the library against the independent reader
 reader bits                           each sample bit, read format, type and trailer bit: written, read, compared
 reader images PROGRAM [WORDS...] [OPTIONS]
                                       ringdump's print over made images, real rings and inputs of every length
@@ -111,8 +115,10 @@ fn run(command: &str, o: &Options) -> Result<(), String> {
         "list" => list(Path::new(o.words.first().ok_or("list needs an image")?)),
         "rings" => rings(Path::new(o.words.first().ok_or("rings needs a folder")?)),
         "drains" => run_drains(o),
-        "values" | "bits" if cfg!(without_values) => Err("built without read and write".to_string()),
+        "meanings" => run_meanings(o),
+        "values" | "bits" | "ones" if cfg!(without_values) => Err("built without read and write".to_string()),
         "values" => run_values(o),
+        "ones" => run_ones(o),
         "bits" => {
             let mut tally = Tally::default();
             let tried = values::bits(&mut tally)?;
@@ -231,6 +237,7 @@ fn rings(folder: &Path) -> Result<(), String> {
         let count = kinds.values().sum::<u64>();
         if !cfg!(without_values) {
             values::real_ring(&name, &image, &mut total)?;
+            ones::real_ring(&name, &image, &mut total)?;
         }
         let text: Vec<String> = kinds.iter().map(|(k, n)| format!("{} {}", n, words::type_name(*k))).collect();
         println!("{name}: {count} records, all accepted: {}", text.join(", "));
@@ -308,6 +315,39 @@ fn run_drains(o: &Options) -> Result<(), String> {
         "drains: seed {}, {count} drains with {} records, {crossings} crossings of the ring's end, no difference, {:.1} s",
         o.seed,
         tally.notes.get("records in journals").unwrap_or(&0),
+        start.elapsed().as_secs_f64()
+    );
+    Ok(())
+}
+
+fn run_meanings(o: &Options) -> Result<(), String> {
+    let count = o.count.unwrap_or(100_000);
+    let mut tally = Tally::default();
+    let every = if o.from == 0 { fixed_part("every misc", meanings::every_misc, &mut tally)? } else { 0 };
+    run_cases("meanings", o, count, &mut tally, meanings::one_case)?;
+    all_reached(tally.missing(meanings::MUST, &[], false), every, 71 << 16)?;
+    println!("meanings: every misc of types 0 to 70, and {count} wider types and miscs with seed {}, no difference", o.seed);
+    Ok(())
+}
+
+fn run_ones(o: &Options) -> Result<(), String> {
+    let start = Instant::now();
+    let count = o.count.unwrap_or(100_000);
+    let mut tally = Tally::default();
+    let places = if o.from == 0 { fixed_part("every place", ones::every_place, &mut tally)? } else { 0 };
+    run_cases("ones", o, count, &mut tally, ones::one_case)?;
+    for call in ["read one: stop", "read one", "read one: in scratch"] {
+        tally.print_answers(call);
+    }
+    for stop in [8, 9, 10] {
+        if tally.answers.contains_key(&("read one: stop", stop)) {
+            return Err(format!("the reader of one record stopped with {stop}, which it cannot"));
+        }
+    }
+    all_reached(tally.missing(ones::MUST, &[], false), count, 10_000)?;
+    println!(
+        "ones: seed {}, {count} rings read record by record, {places} cases at the ring's end, no difference, {:.1} s",
+        o.seed,
         start.elapsed().as_secs_f64()
     );
     Ok(())

@@ -56,6 +56,21 @@ pub fn has_build_id(kind: u64, misc: u64) -> bool {
     kind == MMAP2 && misc >> 14 & 1 == 1
 }
 
+/// "Its lowest three bits are the CPU mode; bit 13 means data mapping (MMAP, MMAP2), exec (COMM) or switched out
+/// (types 14, 15); bit 14 means exact address (SAMPLE), preempted (14, 15) or build id (MMAP2)": the mode in the low
+/// three bits, then one bit for each of the six in that order.
+pub fn misc_meaning(kind: u64, misc: u64) -> u32 {
+    const SIX: [(u32, &[u64]); 6] =
+        [(13, &[1, 10]), (13, &[3]), (13, &[14, 15]), (14, &[9]), (14, &[14, 15]), (14, &[10])];
+    let mut meaning = (misc & 7) as u32;
+    for (number, (bit, kinds)) in SIX.iter().enumerate() {
+        if misc >> bit & 1 == 1 && kinds.contains(&kind) {
+            meaning |= 8 << number;
+        }
+    }
+    meaning
+}
+
 /// Refusals 20 to 24, in the order checked.
 pub fn unknown(kind: u64, misc: u64, e: &Edition, a: &Attributes) -> Option<u32> {
     let sample = kind == SAMPLE;

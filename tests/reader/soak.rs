@@ -6,6 +6,7 @@
 use crate::drains::{self, compare_check, compare_drain, Difference};
 use crate::images;
 use crate::made::*;
+use crate::ones;
 use crate::ring::Image;
 use crate::tally::Tally;
 use crate::values;
@@ -83,6 +84,9 @@ pub fn damaged_case(
         damage_counts(&mut r, &mut case);
     }
     compare_drain(&case, &mut r, tally)?;
+    if !cfg!(without_values) {
+        ones::compare_one(&case, FIELDS, &mut r, tally)?;
+    }
     Ok(())
 }
 

@@ -23,14 +23,17 @@ pub fn listed(item: &Item) -> Option<(usize, usize, usize)> {
     }
 }
 
-/// The writer: 2; 20 to 24; 41; 42; 40; otherwise the record goes to the start of the buffer.
+/// The writer: 2; 42 for too few words; 20 to 24; 41; 42; 40; otherwise the record goes to the start of the buffer.
 pub fn write(value: &[u64], source: &[u8], edition_number: u32, a: &Attributes, buffer: &mut [u8]) -> u32 {
-    // Fewer words than a value has are no value: before all else.
+    let e = match edition(edition_number) {
+        Some(e) => e,
+        None => return 2,
+    };
+    // Fewer words than a value has are no value: there is no type that 20 to 24 could look at.
     if value.len() < FIELDS {
         return 42;
     }
     let value: &Value = value[..FIELDS].try_into().unwrap();
-    let Some(e) = edition(edition_number) else { return 2 };
     if let Some(refusal) = unknown(value[TYPE], value[MISC], e, a) {
         return refusal;
     }
@@ -41,7 +44,10 @@ pub fn write(value: &[u64], source: &[u8], edition_number: u32, a: &Attributes, 
     if items.iter().filter_map(listed).any(|l| passes(&l)) {
         return 41;
     }
-    let Some(record) = record_of(value, source, &items) else { return 42 };
+    let record = match record_of(value, source, &items) {
+        Some(record) => record,
+        None => return 42,
+    };
     if record.len() > buffer.len() {
         return 40;
     }

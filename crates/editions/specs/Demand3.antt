@@ -1,54 +1,33 @@
 -- Demand 3, once over all pairs of editions: for whole drains, and entry by entry. Assumes nothing.
 use mathlib.Core.Path.{_≡_, sym, ap, _∙_}
-use mathlib.Core.List.{List, [], _∷_}
+use mathlib.Core.List.{List}
 use mathlib.Core.Bool.{Bool, true}
 use Prim.Native.Nat.{ℕ, _+_, _*_, _<_, _≤_}
-use native.Mathlib.Nat.{zero-add}
 use native.Mathlib.Omega.{arith}
 use lib.ListN.{length, getD, take, drop}
 use Rattle.meaning.specs.declared.Attributes.{Attributes}
 use Rattle.meaning.specs.declared.Known.{Known}
 use Rattle.meaning.specs.Bytes.{num, numberAt, put}
-use Rattle.meaning.specs.Editions.{editions, allowed, known, outside}
+use Rattle.meaning.specs.Editions.{allowed, known, outside}
 use Rattle.meaning.specs.Records.{layout, judge}
-use Rattle.meaning.specs.Ring.{frame}
-use Rattle.meaning.specs.Drain.{End, journalKind, entry, entryFor, start, told, run, drain}
+use Rattle.meaning.specs.Ring.{asking, frame}
+use Rattle.meaning.specs.Drain.{journalKind, entry, entryFor, start, run, drain}
 use Rattle.editions.specs.Fairness.{rising, Words, dependsOf, Fair}
-use Rattle.editions.specs.Cutting.{Cut, Cuts, cutting, entries, All}
-use Rattle.editions.specs.Promise.{Beside, Demand3, EntryFair, nothingCut, recordOf}
+use Rattle.runs.specs.Cutting.{Cuts, cutting, entries, nothingCut, recordOf}
+use Rattle.runs.specs.Runs.{runs-beside}
+use Rattle.runs.specs.Entries.{journal-entry, answer-back, before-answer, after-answer, all-of}
+use Rattle.runs.specs.Forward.{frame-roomy}
+use Rattle.editions.specs.Promise.{Demand3, EntryFair}
 use Rattle.editions.specs.InTable.{judge-small}
-use Rattle.editions.specs.OneRecord.{record-fair, editions-rise}
+use Rattle.editions.specs.OneRecord.{record-fair}
 use Rattle.laws.specs.Put.{part-of}
-use Rattle.editions.specs.Moves.{run-cutting, cutting-fits}
-use Rattle.editions.specs.Journal.{journal-entry, answer-back, before-answer, after-answer}
-
-pub all-of : (P : Cut → Type 0) → ((c : Cut) → P c) → (cs : List Cut) → All P cs
-all-of P h [] = tt
-all-of P h (c ∷ cs) = (h c, all-of P h cs)
-
--- two runs over one ring under any two judges: how the ring is cut knows neither
-pub runs-beside : (judge₁ judge₂ : List ℕ → ℕ) (ring : List ℕ) (head tail budget : ℕ) (journal scratch : List ℕ)
-    → Beside (cutting ring head tail budget (length journal) scratch) judge₁ judge₂ journal
-    (run (frame true ring head) judge₁ ring budget (start tail journal scratch)) (run (frame true ring head) judge₂ ring budget (start tail journal scratch))
-runs-beside judge₁ judge₂ ring head tail budget journal scratch =
-    let w : Cuts = cutting ring head tail budget (length journal) scratch in
-    let p = run-cutting true judge₁ ring head tail budget journal scratch in
-    let q = run-cutting true judge₂ ring head tail budget journal scratch in
-    record {
-      told-alike = ap told p ∙ sym (ap told q);
-      scratch-alike = ap (λ (x : End). x .state .scratch) p ∙ sym (ap (λ (x : End). x .state .scratch) q);
-      count = ap (λ (x : End). x .state .taken) p ∙ zero-add (length (w .records));
-      fits = cutting-fits true ring head tail budget journal scratch;
-      older-journal = ap (λ (x : End). x .state .journal) p;
-      newer-journal = ap (λ (x : End). x .state .journal) q;
-    }
 
 -- of an edition that is one, the frames take just that
 pub drain-allowed : (rows : List Known) (e : ℕ) → allowed rows e ≡ true → (a : Attributes) (ring : List ℕ) (head tail budget : ℕ) (journal scratch : List ℕ)
     → drain rows e a ring head tail budget journal scratch
-    ≡ run (frame true ring head) (judge (layout (known rows e) a)) ring budget (start tail journal scratch)
+    ≡ run (frame (asking true) ring head) (judge (layout (known rows e) a)) ring budget (start tail journal scratch)
 drain-allowed rows e h a ring head tail budget journal scratch =
-    ap (λ (b : Bool). run (frame b ring head) (judge (layout (known rows e) a)) ring budget (start tail journal scratch)) h
+    ap (λ (b : Bool). run (frame (asking b) ring head) (judge (layout (known rows e) a)) ring budget (start tail journal scratch)) h
 
 pub demand3 : (rows : List Known) → rising rows ≡ true → (e₁ e₂ : ℕ) → e₁ ≤ e₂ → allowed rows e₁ ≡ true → allowed rows e₂ ≡ true
     → (a : Attributes) → Words a
@@ -59,7 +38,7 @@ demand3 rows u e₁ e₂ g h₁ h₂ a ws ring head tail budget journal scratch 
     let j₁ : List ℕ → ℕ = judge (layout (known rows e₁) a) in
     let j₂ : List ℕ → ℕ = judge (layout (known rows e₂) a) in
     record {
-      beside = rw (p, q) (runs-beside j₁ j₂ ring head tail budget journal scratch);
+      beside = rw (p, q) (runs-beside (frame (asking true) ring head) (frame-roomy (asking true) ring head) ring tail budget journal scratch j₁ j₂);
       fair = all-of _ (λ c. record-fair rows u e₁ e₂ g h₂ a ws (c .record-bytes)) (cutting ring head tail budget (length journal) scratch .records);
     }
 
@@ -69,7 +48,7 @@ demand3 rows u e₁ e₂ g h₁ h₂ a ws ring head tail budget journal scratch 
 in-entry : (journal e : List ℕ) (i m n : ℕ) → m + n ≤ 16 → take 16 (drop (16 * i) journal) ≡ e → take n (drop (16 * i + m) journal) ≡ take n (drop m e)
 in-entry journal e i m n h q = sym (part-of (16 * i) m n 16 journal h) ∙ ap (λ (l : List ℕ). take n (drop m l)) q
 
-entry-fair : (older newer r : List ℕ) (i tail : ℕ) (judge₁ judge₂ : List ℕ → ℕ) (out : Bool)
+pub entry-fair : (older newer r : List ℕ) (i tail : ℕ) (judge₁ judge₂ : List ℕ → ℕ) (out : Bool)
     → judge₁ r < 65536 → judge₂ r < 65536 → Fair (judge₁ r) (judge₂ r) out
     → take 16 (drop (16 * i) older) ≡ entryFor judge₁ r tail → take 16 (drop (16 * i) newer) ≡ entryFor judge₂ r tail
     → EntryFair older newer i out
@@ -103,14 +82,3 @@ demand3-entry rows u e₁ e₂ g h₁ h₂ a ws ring head tail budget journal sc
     (entry-fair (put journal 0 (entries j₁ (w .records))) (put journal 0 (entries j₂ (w .records))) r i (getD (w .records) i nothingCut .tail) j₁ j₂ _
     (judge-small (known rows e₁) a r) (judge-small (known rows e₂) a r) (record-fair rows u e₁ e₂ g h₂ a ws r)
     (journal-entry j₁ (w .records) journal (d .beside .fits) i nothingCut m) (journal-entry j₂ (w .records) journal (d .beside .fits) i nothingCut m))
-
--- ---- document 01's editions
-pub demand3-editions : (e₁ e₂ : ℕ) → e₁ ≤ e₂ → allowed editions e₁ ≡ true → allowed editions e₂ ≡ true → (a : Attributes) → Words a
-    → (ring : List ℕ) (head tail budget : ℕ) (journal scratch : List ℕ) → Demand3 editions e₁ e₂ a ring head tail budget journal scratch
-demand3-editions = demand3 editions editions-rise
-
-pub demand3-entry-editions : (e₁ e₂ : ℕ) → e₁ ≤ e₂ → allowed editions e₁ ≡ true → allowed editions e₂ ≡ true → (a : Attributes) → Words a
-    → (ring : List ℕ) (head tail budget : ℕ) (journal scratch : List ℕ) (i : ℕ) → i < drain editions e₁ a ring head tail budget journal scratch .state .taken
-    → EntryFair (drain editions e₁ a ring head tail budget journal scratch .state .journal) (drain editions e₂ a ring head tail budget journal scratch .state .journal) i
-    (outside (known editions e₁) (dependsOf a (recordOf (cutting ring head tail budget (length journal) scratch) i)))
-demand3-entry-editions = demand3-entry editions editions-rise

@@ -6,7 +6,7 @@ use mathlib.Core.List.{List, [], _∷_, _++_}
 use Rattle.meaning.specs.declared.Attributes.{Attributes}
 use Rattle.meaning.specs.Bytes.{bit}
 use Rattle.meaning.specs.Refusals.{first}
-use Rattle.meaning.specs.Editions.{edition, editions, known, outside, bits, depends, unread}
+use Rattle.meaning.specs.Editions.{edition, editions, known, outside, bits, depends, unreadable}
 use Rattle.editions.specs.Fairness.{rising}
 
 pub record Case : Type 0 where
@@ -55,7 +55,7 @@ abbrev pub found : List Case → List Found
 found [] = []
 found (c ∷ cs) =
     record {
-      says = unread (known editions (c .edition)) (c .attributes) (c .kind) (c .misc);
+      says = unreadable (known editions (c .edition)) (c .attributes) (c .kind) (c .misc);
       out = outside (known editions (c .edition)) (depends (c .kind) (c .misc) (c .attributes));
     }
     ∷ found cs
@@ -64,10 +64,11 @@ abbrev pub wanted : List Case → List Found
 wanted [] = []
 wanted (c ∷ cs) = record { says = c .says; out = c .out } ∷ wanted cs
 
+-- kept: a definition that answers one of the cases otherwise is refused here
 pub as-wanted : found cases ≡ wanted cases
-unfolding unread first known bit outside depends bits
+unfolding unreadable first known bit outside depends bits
 as-wanted = refl
 
--- the way on: a fourth row rises too
+-- the way on: a fourth row rises too. kept: the laws of editions hold of any rows that rise
 pub four-rise : rising (editions ++ (edition 21 25 5 true ∷ [])) ≡ true
 four-rise = refl

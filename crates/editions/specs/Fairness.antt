@@ -2,15 +2,14 @@
 -- exactly where the type, or a selected bit or form bit on which that record's reading depends by 01's rules 20 to 23, lies outside what that
 -- edition knows." Assumes nothing: these are definitions.
 use mathlib.Core.Path.{_≡_}
-use Prim.Native.Nat.{ℕ, _%_, _^_, _<_}
+use Prim.Native.Nat.{ℕ, _^_, _<_}
 use mathlib.Core.Bool.{Bool, true, false, not, _&&_, _||_}
 use mathlib.Core.List.{List, [], _∷_}
-use lib.Dec.{leb, eqb}
-use lib.ListN.{length}
+use lib.Dec.{leb}
 use Rattle.meaning.specs.declared.Attributes.{Attributes}
 use Rattle.meaning.specs.declared.Known.{Known}
 use Rattle.meaning.specs.Editions.{Thing, depends, isUnknown}
-use Rattle.meaning.specs.Records.{kindOf, miscOf, sizeOf}
+use Rattle.meaning.specs.Records.{kindOf, miscOf}
 
 -- ---- older and newer: a table in which each row knows no more than every later one
 
@@ -40,7 +39,3 @@ dependsOf a r = depends (kindOf r) (miscOf r) a
 pub record Fair (older newer : ℕ) (out : Bool) : Type 0 where
   pub exact : isUnknown older ≡ out
   pub alike : out ≡ false → older ≡ newer
-
--- ---- record check takes any slice. One record: not shorter than 8, its size allowed and the slice's length
-abbrev pub framed : List ℕ → Bool
-framed r = leb 8 (length r) && ((leb 8 (sizeOf r) && eqb (sizeOf r % 8) 0) && eqb (sizeOf r) (length r))

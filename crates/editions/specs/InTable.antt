@@ -5,73 +5,25 @@ use mathlib.Core.Bool.{Bool, true, false, cond, not, _&&_, _||_}
 use Prim.Native.Nat.{ℕ, _+_, _-_, _%_, _<_}
 use lib.Dec.{leb, ltb, eqb}
 use lib.ListN.{length, drop, getD}
-use borrow.Author.Tests.{eqb-true, ltb-true, not-true}
+use borrow.Author.Tests.{ltb-true, not-true}
 use Rattle.meaning.specs.declared.Attributes.{Attributes}
 use Rattle.meaning.specs.declared.Cursor.{Cursor}
-use Rattle.meaning.specs.declared.Frame.{Frame}
 use Rattle.meaning.specs.declared.Item.{Item}
 use Rattle.meaning.specs.declared.Known.{Known}
 use Rattle.meaning.specs.declared.Shape.{Shape}
 use Rattle.meaning.specs.declared.Shape.the-variants.{Number, Ignored, Count, Size, Times, Earlier, Registers, Filled, Abi, Limit, Listed, Bytes, Pad, Name}
 use Rattle.meaning.specs.Bytes.{num, zeroIn, numberAt}
-use Rattle.meaning.specs.Refusals.{Refusal, refusal, first, orElse}
+use Rattle.meaning.specs.Refusals.{refusal, first, orElse}
 use Rattle.meaning.specs.Items.{bytes, span, rule, holds, past, part, settle, refuse, shapeStep, step, walk}
-use Rattle.meaning.specs.Editions.{allowed, known, unknowns, clashes, unread, isIn, isUnknown}
+use Rattle.meaning.specs.Editions.{allowed, known, unknowns, clashes, unreadable, isIn, isUnknown}
 use Rattle.meaning.specs.Records.{Layout, layout, kindOf, miscOf, sizeOf, room, origin, fieldsOf, closed, fieldsAnswer, judge, checkBy, check, writeRecord}
 use Rattle.meaning.specs.Schema.{schema}
 use Rattle.meaning.specs.Values.{bodyWords, slotsTold, anyBeyond, meant, writable, writeBy, writeAnswer}
 use Rattle.meaning.specs.Names.{nameAnswer}
-use Rattle.meaning.specs.Ring.{stopped, stopAt, goAt, sizeRows, sized, ringRows, frame, distance}
-use Rattle.laws.specs.Bytes.{apart, and-true}
+use Rattle.meaning.specs.Ring.{Asked, goAt, frame}
+use Rattle.laws.specs.Rows.{in-each, in-more, in-cond, first-in, stopped-in}
+use Rattle.laws.specs.Rings.{stopRows, frame-rows}
 use Rattle.editions.specs.Numbers.{fieldNumbers, recordNumbers, checkNumbers, stopNumbers, writeNumbers, nameNumbers}
-
--- ---- lists of numbers
-
-abbrev pub every : (ℕ → Bool) → List ℕ → Bool
-every p [] = true
-every p (n ∷ ns) = p n && every p ns
-
--- a test that every number of a list passes is passed by each that is in it
-pub in-each : (p : ℕ → Bool) (ns : List ℕ) (x : ℕ) → every p ns ≡ true → isIn x ns ≡ true → p x ≡ true
-in-each p [] x a h = absurd (apart h)
-in-each p (n ∷ ns) x a h =
-    let s = and-true (p n) (every p ns) a in
-    by (eqb x n) refl (s .0) h (in-each p ns x (s .1))
-  where
-    by : (b : Bool) → eqb x n ≡ b → p n ≡ true → (b || isIn x ns) ≡ true → (isIn x ns ≡ true → p x ≡ true) → p x ≡ true
-    by true e i g r = rw (eqb-true x n e) i
-    by false e i g r = r g
-
-pub in-more : (ns ms : List ℕ) (x : ℕ) → every (λ (n : ℕ). isIn n ms) ns ≡ true → isIn x ns ≡ true → isIn x ms ≡ true
-in-more ns ms = in-each (λ (n : ℕ). isIn n ms) ns
-
--- one of two
-pub in-cond : (ns : List ℕ) (b : Bool) (x y : ℕ) → isIn x ns ≡ true → isIn y ns ≡ true → isIn (cond b x y) ns ≡ true
-in-cond ns true x y p q = p
-in-cond ns false x y p q = q
-
--- ---- lists of rows: any list, any numbers
-abbrev pub rowsIn : List Refusal → List ℕ → Bool
-rowsIn [] ns = true
-rowsIn (r ∷ rs) ns = isIn (r .number) ns && rowsIn rs ns
-
-pub first-in : (ns : List ℕ) (rs : List Refusal) (rest : ℕ) → rowsIn rs ns ≡ true → isIn rest ns ≡ true → isIn (first rs rest) ns ≡ true
-unfolding first
-first-in ns [] rest a h = h
-first-in ns (r ∷ rs) rest a h =
-    let s = and-true (isIn (r .number) ns) (rowsIn rs ns) a in
-    in-cond ns (r .holds) (r .number) (first rs rest) (s .0) (first-in ns rs rest (s .1) h)
-
-pub stopped-in : (ns : List ℕ) (rs : List Refusal) (f : Frame) → rowsIn rs ns ≡ true → isIn (f .stop) ns ≡ true → isIn (stopped rs f .stop) ns ≡ true
-unfolding stopped
-stopped-in ns [] f a h = h
-stopped-in ns (r ∷ rs) f a h =
-    let s = and-true (isIn (r .number) ns) (rowsIn rs ns) a in
-    by (r .holds) (s .0) (stopped-in ns rs f (s .1) h)
-  where
-    by : (b : Bool) → isIn (r .number) ns ≡ true → isIn (stopped rs f .stop) ns ≡ true → isIn (cond b (stopAt (r .number)) (stopped rs f) .stop) ns ≡ true
-    by true p q = p
-    by false p q = q
 
 -- ---- the fields: by induction over items
 
@@ -133,18 +85,18 @@ fields-known is t xs = not-true _ (in-each (λ (n : ℕ). not (isUnknown n)) fie
 
 -- ---- a record, the record check, a stop
 
-pub unread-in : (k : Known) (a : Attributes) (t misc : ℕ) → isIn (unread k a t misc) recordNumbers ≡ true
-unfolding unread
-unread-in k a t misc = first-in recordNumbers (unknowns k t misc a) (first (clashes t a) 0) refl (first-in recordNumbers (clashes t a) 0 refl refl)
+pub unreadable-in : (k : Known) (a : Attributes) (t misc : ℕ) → isIn (unreadable k a t misc) recordNumbers ≡ true
+unfolding unreadable
+unreadable-in k a t misc = first-in recordNumbers (unknowns k t misc a) (first (clashes t a) 0) refl (first-in recordNumbers (clashes t a) 0 refl refl)
 
 pub judge-in : (k : Known) (a : Attributes) (xs : List ℕ) → isIn (judge (layout k a) xs) recordNumbers ≡ true
 unfolding judge layout
 judge-in k a xs =
     let lay : Layout = layout k a in
     let n : ℕ = fieldsAnswer (lay .body (kindOf xs) (miscOf xs)) (room (lay .trail (kindOf xs))) xs in
-    in-cond recordNumbers (eqb (unread k a (kindOf xs) (miscOf xs)) 0) n (unread k a (kindOf xs) (miscOf xs))
+    in-cond recordNumbers (eqb (unreadable k a (kindOf xs) (miscOf xs)) 0) n (unreadable k a (kindOf xs) (miscOf xs))
     (in-more fieldNumbers recordNumbers n refl (fields-in (lay .body (kindOf xs) (miscOf xs)) (room (lay .trail (kindOf xs))) xs))
-    (unread-in k a (kindOf xs) (miscOf xs))
+    (unreadable-in k a (kindOf xs) (miscOf xs))
 
 -- so an answer fits its two bytes of the journal
 pub judge-small : (k : Known) (a : Attributes) (xs : List ℕ) → judge (layout k a) xs < 65536
@@ -165,18 +117,15 @@ check-in rows e a xs =
     refl)
     refl
 
-pub frame-in : (ok : Bool) (ring : List ℕ) (head tail left journal scratch : ℕ) → isIn (frame ok ring head tail left journal scratch .stop) stopNumbers ≡ true
-unfolding frame sized
-frame-in ok ring head tail left journal scratch =
-    let place : ℕ = tail % length ring in
-    let size : ℕ = numberAt 2 ring (place + 6) in
-    stopped-in stopNumbers (ringRows ok ring head tail left journal) (sized ring place (distance head tail) scratch) refl
-    (stopped-in stopNumbers (sizeRows ring place size (distance head tail) scratch) (goAt place size) refl refl)
+pub frame-in : (asked : Asked) (ring : List ℕ) (head tail left journal scratch : ℕ) → isIn (frame asked ring head tail left journal scratch .stop) stopNumbers ≡ true
+frame-in asked ring head tail left journal scratch =
+    rw (frame-rows asked ring head tail left journal scratch)
+    (stopped-in stopNumbers (stopRows asked ring head tail left journal scratch) (goAt (tail % length ring) (numberAt 2 ring (tail % length ring + 6))) refl refl)
 
 -- ---- the writer and the copier of names
 
 pub write-in : (rows : List Known) (e : ℕ) (a : Attributes) (src ws : List ℕ) (space : ℕ) → isIn (writeAnswer rows e a src ws space) writeNumbers ≡ true
-unfolding writeAnswer writeBy layout unread
+unfolding writeAnswer writeBy layout unreadable
 write-in rows e a src ws space =
     let k : Known = known rows e in
     let lay : Layout = layout k a in
@@ -185,8 +134,8 @@ write-in rows e a src ws space =
     let n1 : ℕ = cond (leb (length (writeRecord lay (meant lay src ws))) space) 0 40 in
     let n2 : ℕ = cond (writable lay src ws) n1 42 in
     let far : Bool = anyBeyond src (schema t misc a) (slotsTold (schema t misc a) (drop bodyWords ws) 0 0) in
-    in-cond writeNumbers (allowed rows e) (orElse (unread k a t misc) (cond far 41 n2)) 2
-    (in-cond writeNumbers (eqb (unread k a t misc) 0) (cond far 41 n2) (unread k a t misc)
+    in-cond writeNumbers (allowed rows e) (orElse (unreadable k a t misc) (cond far 41 n2)) 2
+    (in-cond writeNumbers (eqb (unreadable k a t misc) 0) (cond far 41 n2) (unreadable k a t misc)
     (in-cond writeNumbers far 41 n2 refl
     (in-cond writeNumbers (writable lay src ws) n1 42 (in-cond writeNumbers (leb (length (writeRecord lay (meant lay src ws))) space) 0 40 refl refl) refl))
     (first-in writeNumbers (unknowns k t misc a) (first (clashes t a) 0) refl (first-in writeNumbers (clashes t a) 0 refl refl)))

@@ -1,15 +1,11 @@
 pub mod Fairness
-pub mod Cutting
 pub mod Promise
 pub mod Numbers
 pub mod Examples
 pub mod Outside
 pub mod InTable
 pub mod OneRecord
-pub mod Frames
-pub mod Runs
-pub mod Moves
-pub mod Journal
+pub mod Drains
 pub mod Stops
 pub mod Demand3
 pub mod Readers

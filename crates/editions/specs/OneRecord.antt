@@ -12,11 +12,13 @@ use Rattle.meaning.specs.declared.Attributes.{Attributes}
 use Rattle.meaning.specs.declared.Known.{Known}
 use Rattle.meaning.specs.Refusals.{Refusal, first, orElse}
 use Rattle.meaning.specs.Schema.{schema, trailer}
-use Rattle.meaning.specs.Editions.{editions, allowed, known, Thing, knows, outside, when, bits, kind, sampleBit, formatBit, buildId, depends, hasSampleBits, hasReadValues, hasBuildId, unknowns, clashes, unread, isUnknown}
+use Rattle.meaning.specs.Editions.{editions, allowed, known, Thing, knows, outside, when, bits, kind, sampleBit, formatBit, buildId, depends, hasSampleBits, hasReadValues, hasBuildId, unknowns, clashes, unreadable, isUnknown}
 use Rattle.meaning.specs.Records.{layout, kindOf, miscOf, sizeOf, room, fieldsAnswer, judge, checkBy, check}
 use Rattle.laws.specs.Bytes.{apart, and-true}
-use Rattle.editions.specs.Fairness.{within, rising, Words, dependsOf, Fair, framed}
-use Rattle.editions.specs.Outside.{or-false, outside-append, outside-when, bits-outside, outside-less, known-within}
+use Rattle.editions.specs.Fairness.{within, rising, Words, dependsOf, Fair}
+use Rattle.runs.specs.Cutting.{framed}
+use Rattle.laws.specs.Rows.{or-false}
+use Rattle.editions.specs.Outside.{outside-append, outside-when, bits-outside, outside-less, known-within}
 use Rattle.editions.specs.InTable.{fields-known}
 
 -- ---- any list of rows
@@ -145,20 +147,20 @@ fair-first rs₁ rs₂ rest₁ rest₂ out u h w =
     }
 
 -- 20 to 24, then what the body says, is one chain
-unread-chain : (k : Known) (a : Attributes) (t misc body : ℕ) → orElse (unread k a t misc) body ≡ first (unknowns k t misc a) (first (clashes t a) body)
-unfolding unread
-unread-chain k a t misc body =
+unreadable-chain : (k : Known) (a : Attributes) (t misc body : ℕ) → orElse (unreadable k a t misc) body ≡ first (unknowns k t misc a) (first (clashes t a) body)
+unfolding unreadable
+unreadable-chain k a t misc body =
     first-else (unknowns k t misc a) (first (clashes t a) 0) body refl ∙ ap (first (unknowns k t misc a)) (first-else (clashes t a) 0 body refl)
 
 -- any two rows of which one is within the other, and any body that says no "unknown"
-pub unread-fair : (k m : Known) → within k m ≡ true → (t misc : ℕ) (a : Attributes) (body : ℕ) → Words a → isUnknown body ≡ false
-    → Fair (orElse (unread k a t misc) body) (orElse (unread m a t misc) body) (outside k (depends t misc a))
+pub unreadable-fair : (k m : Known) → within k m ≡ true → (t misc : ℕ) (a : Attributes) (body : ℕ) → Words a → isUnknown body ≡ false
+    → Fair (orElse (unreadable k a t misc) body) (orElse (unreadable m a t misc) body) (outside k (depends t misc a))
 unfolding isUnknown
-unread-fair k m w t misc a body ws h =
+unreadable-fair k m w t misc a body ws h =
     let rest : ℕ = first (clashes t a) body in
     let fewer : anyHolds (unknowns k t misc a) ≡ false → anyHolds (unknowns m t misc a) ≡ false =
     λ o. rules-outside m t misc a ws ∙ outside-less k m w (depends t misc a) (sym (rules-outside k t misc a ws) ∙ o) in
-    rw (unread-chain k a t misc body, unread-chain m a t misc body)
+    rw (unreadable-chain k a t misc body, unreadable-chain m a t misc body)
     (subst (Fair (first (unknowns k t misc a) rest) (first (unknowns m t misc a) rest)) (or-nil _ ∙ rules-outside k t misc a ws)
     (fair-first (unknowns k t misc a) (unknowns m t misc a) rest rest false refl fewer (fair-free rest (first-known (clashes t a) body refl h))))
 
@@ -169,11 +171,11 @@ unfolding judge layout
 record-fair rows u e₁ e₂ g h a ws r =
     let t : ℕ = kindOf r in
     let misc : ℕ = miscOf r in
-    unread-fair (known rows e₁) (known rows e₂) (known-within rows u e₁ e₂ g h) t misc a (fieldsAnswer (schema t misc a) (room (trailer t a)) r) ws
+    unreadable-fair (known rows e₁) (known rows e₂) (known-within rows u e₁ e₂ g h) t misc a (fieldsAnswer (schema t misc a) (room (trailer t a)) r) ws
     (fields-known (schema t misc a) (room (trailer t a)) r)
 
 -- the record check: of any slice at all. One that is no record is refused alike, by 7 or 6
-tested : (l s d : Bool) (x y : ℕ) (out : Bool) → Fair x y out
+pub tested : (l s d : Bool) (x y : ℕ) (out : Bool) → Fair x y out
     → Fair (cond l (cond s (cond d x 7) 6) 7) (cond l (cond s (cond d y 7) 6) 7) ((l && (s && d)) && out)
 unfolding isUnknown
 tested false s d x y out w = fair-free 7 refl

@@ -13,12 +13,8 @@ use Rattle.meaning.specs.Bytes.{bit}
 use Rattle.meaning.specs.declared.Known.{Known}
 use Rattle.meaning.specs.Editions.{edition, allowed, known, Thing, knows, outside, when, bits, kind, sampleBit, formatBit, buildId}
 use Rattle.laws.specs.Bytes.{apart, and-true}
+use Rattle.laws.specs.Rows.{or-false}
 use Rattle.editions.specs.Fairness.{within, withinAll, rising}
-
--- ---- bools
-pub or-false : (a b : Bool) → (a || b) ≡ false → (a ≡ false) × (b ≡ false)
-or-false true b e = absurd (apart (sym e))
-or-false false b e = (refl, e)
 
 -- ---- outside
 pub outside-append : (k : Known) (xs ys : List Thing) → outside k (xs ++ ys) ≡ (outside k xs || outside k ys)
@@ -151,6 +147,7 @@ getD-append [] ms i d h = absurd (omega arith)
 getD-append (k ∷ ks) ms zero d h = refl
 getD-append (k ∷ ks) ms (suc i) d h = getD-append ks ms i d (omega arith)
 
+-- kept: for an edition that is added
 pub known-append : (rows more : List Known) (e : ℕ) → allowed rows e ≡ true → known (rows ++ more) e ≡ known rows e
 unfolding known
 known-append rows more e h =

@@ -8,13 +8,14 @@ use Rattle.meaning.specs.declared.Attributes.{Attributes}
 use Rattle.meaning.specs.declared.Frame.{Frame}
 use Rattle.meaning.specs.declared.Known.{Known}
 use Rattle.meaning.specs.declared.One.{One}
-use Rattle.meaning.specs.Editions.{editions, allowed, known, outside, isUnknown}
-use Rattle.meaning.specs.Records.{layout, judge, check}
+use Rattle.meaning.specs.Editions.{allowed, known, outside, isUnknown}
+use Rattle.meaning.specs.Records.{layout, judge}
 use Rattle.meaning.specs.Values.{recordWords, readAnswered, read}
-use Rattle.meaning.specs.Ring.{frame, recordAt, scratchAfter, oneFrame, taken, notTaken, readOne, oneScratch}
-use Rattle.editions.specs.Fairness.{rising, Words, dependsOf, Fair, framed}
+use Rattle.meaning.specs.Ring.{asking, frame, recordAt, scratchAfter, oneFrame, taken, notTaken, readOne, oneScratch}
+use Rattle.editions.specs.Fairness.{rising, Words, dependsOf, Fair}
+use Rattle.runs.specs.Cutting.{framed}
 use Rattle.editions.specs.Promise.{oneOutside, OneFair}
-use Rattle.editions.specs.OneRecord.{fair-free, record-fair, check-fair, editions-rise}
+use Rattle.editions.specs.OneRecord.{fair-free, record-fair, check-fair}
 use Rattle.laws.specs.Bytes.{apart}
 use Rattle.editions.specs.Stops.{one-refused}
 
@@ -44,7 +45,7 @@ module _ (rows : List Known) (up : rising rows ≡ true) (e₁ e₂ : ℕ) (orde
     (a : Attributes) (ws : Words a) (ring : List ℕ) (head tail : ℕ) (scratch : List ℕ) where
   -- of the edition a frame takes whether it is one
   frames-alike : oneFrame rows e₁ ring head tail scratch ≡ oneFrame rows e₂ ring head tail scratch
-  frames-alike = ap (λ (b : Bool). frame b ring head tail 1 16 (length scratch)) (is₁ ∙ sym is₂)
+  frames-alike = ap (λ (b : Bool). frame (asking b) ring head tail 1 16 (length scratch)) (is₁ ∙ sym is₂)
 
   -- a record with its answer, or a stop
   abbrev one : ℕ → Frame → Bool → One
@@ -91,16 +92,3 @@ module _ (rows : List Known) (up : rising rows ≡ true) (e₁ e₂ : ℕ) (orde
         same = λ o. same-one f b o ∙ sym newer;
         empty = λ o. one-refused rows e₁ a ring head tail scratch (unknown-not-zero _ (w .exact ∙ o));
       }
-
--- ---- document 01's editions
-pub record-fair-editions : (e₁ e₂ : ℕ) → e₁ ≤ e₂ → allowed editions e₂ ≡ true → (a : Attributes) → Words a → (r : List ℕ)
-    → Fair (judge (layout (known editions e₁) a) r) (judge (layout (known editions e₂) a) r) (outside (known editions e₁) (dependsOf a r))
-record-fair-editions = record-fair editions editions-rise
-
-pub check-fair-editions : (e₁ e₂ : ℕ) → e₁ ≤ e₂ → allowed editions e₁ ≡ true → allowed editions e₂ ≡ true → (a : Attributes) → Words a → (r : List ℕ)
-    → Fair (check editions e₁ a r) (check editions e₂ a r) (framed r && outside (known editions e₁) (dependsOf a r))
-check-fair-editions = check-fair editions editions-rise
-
-pub one-fair-editions : (e₁ e₂ : ℕ) → e₁ ≤ e₂ → allowed editions e₁ ≡ true → allowed editions e₂ ≡ true → (a : Attributes) → Words a
-    → (ring : List ℕ) (head tail : ℕ) (scratch : List ℕ) → OneFair editions e₁ e₂ a ring head tail scratch
-one-fair-editions = one-fair editions editions-rise

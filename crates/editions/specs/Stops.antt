@@ -3,7 +3,7 @@
 use mathlib.Core.Path.{_≡_, refl, ap, _∙_}
 use mathlib.Core.List.{List}
 use mathlib.Core.Bool.{Bool, true, false, cond}
-use Prim.Native.Nat.{ℕ, zero, suc, _+_, _-_, _*_, _%_, _^_}
+use Prim.Native.Nat.{ℕ, suc, _+_, _-_, _*_, _%_, _^_}
 use native.Mathlib.Omega.{arith}
 use lib.ListN.{length}
 use borrow.Author.Tests.{ne-eqb}
@@ -12,56 +12,43 @@ use Rattle.meaning.specs.declared.Frame.{Frame}
 use Rattle.meaning.specs.declared.Known.{Known}
 use Rattle.meaning.specs.declared.One.{One}
 use Rattle.meaning.specs.Bytes.{zeros}
-use Rattle.meaning.specs.Editions.{allowed, known, isIn}
+use Rattle.meaning.specs.Editions.{known, isIn}
 use Rattle.meaning.specs.Records.{layout, judge}
 use Rattle.meaning.specs.Values.{readAnswered}
-use Rattle.meaning.specs.Ring.{frame, recordAt, scratchAfter, oneFrame, taken, notTaken, readOne, oneScratch}
-use Rattle.meaning.specs.Drain.{State, start, ended, frameAt, after, run, drain}
+use Rattle.meaning.specs.Ring.{askedOf, frame, recordAt, scratchAfter, oneFrame, taken, notTaken, readOne, oneScratch}
+use Rattle.meaning.specs.Drain.{start, ended, frameAt, after, run, drain}
 use Rattle.editions.specs.Numbers.{recordNumbers, stopNumbers}
 use Rattle.editions.specs.InTable.{judge-in, frame-in}
-use Rattle.editions.specs.Runs.{run-go, run-stop}
+use Rattle.laws.specs.Rings.{run-go, run-stop}
+use Rattle.runs.specs.Runs.{run-in}
 
 -- ---- a drain
 
 -- a stop moves nothing: tail, counts, journal and scratch are the caller's
 pub drain-stop : (rows : List Known) (e : ℕ) (a : Attributes) (ring : List ℕ) (head tail budget : ℕ) (journal scratch : List ℕ)
-    → frame (allowed rows e) ring head tail budget (length journal) (length scratch) .go ≡ false
+    → frame (askedOf rows e) ring head tail budget (length journal) (length scratch) .go ≡ false
     → drain rows e a ring head tail budget journal scratch
-    ≡ ended (start tail journal scratch) (frame (allowed rows e) ring head tail budget (length journal) (length scratch))
+    ≡ ended (start tail journal scratch) (frame (askedOf rows e) ring head tail budget (length journal) (length scratch))
 drain-stop rows e a ring head tail budget journal scratch g =
     let z : length journal - 16 * 0 ≡ length journal = omega arith in
-    let q : frameAt (frame (allowed rows e) ring head) budget (start tail journal scratch) ≡ frame (allowed rows e) ring head tail budget (length journal) (length scratch) =
-    ap (λ (k : ℕ). frame (allowed rows e) ring head tail budget k (length scratch)) z in
-    run-stop (frame (allowed rows e) ring head) (judge (layout (known rows e) a)) ring budget (start tail journal scratch) (ap (λ (f : Frame). f .go) q ∙ g)
+    let q : frameAt (frame (askedOf rows e) ring head) budget (start tail journal scratch) ≡ frame (askedOf rows e) ring head tail budget (length journal) (length scratch) =
+    ap (λ (k : ℕ). frame (askedOf rows e) ring head tail budget k (length scratch)) z in
+    run-stop (frame (askedOf rows e) ring head) (judge (layout (known rows e) a)) ring budget (start tail journal scratch) (ap (λ (f : Frame). f .go) q ∙ g)
     ∙ ap (ended (start tail journal scratch)) q
 
 -- a record that is taken moves the tail by its size, whatever its answer is; then the drain goes on with one less of the budget
 pub drain-go : (rows : List Known) (e : ℕ) (a : Attributes) (ring : List ℕ) (head tail budget : ℕ) (journal scratch : List ℕ)
-    → frameAt (frame (allowed rows e) ring head) (suc budget) (start tail journal scratch) .go ≡ true
+    → frameAt (frame (askedOf rows e) ring head) (suc budget) (start tail journal scratch) .go ≡ true
     → drain rows e a ring head tail (suc budget) journal scratch
-    ≡ run (frame (allowed rows e) ring head) (judge (layout (known rows e) a)) ring budget
-    (after (judge (layout (known rows e) a)) ring (start tail journal scratch) (frameAt (frame (allowed rows e) ring head) (suc budget) (start tail journal scratch)))
+    ≡ run (frame (askedOf rows e) ring head) (judge (layout (known rows e) a)) ring budget
+    (after (judge (layout (known rows e) a)) ring (start tail journal scratch) (frameAt (frame (askedOf rows e) ring head) (suc budget) (start tail journal scratch)))
 drain-go rows e a ring head tail budget journal scratch g =
-    run-go (frame (allowed rows e) ring head) (judge (layout (known rows e) a)) ring budget (start tail journal scratch) g
-
--- any frame function whose stops are in a list, any judge
-pub run-in : (ns : List ℕ) (frame : ℕ → ℕ → ℕ → ℕ → Frame) (judge : List ℕ → ℕ) (ring : List ℕ)
-    → ((t n room scratch : ℕ) → isIn (frame t n room scratch .stop) ns ≡ true)
-    → (n : ℕ) (s : State) → isIn (run frame judge ring n s .stop) ns ≡ true
-unfolding run
-run-in ns frame judge ring h zero s = h (s .tail) 0 (length (s .journal) - 16 * s .taken) (length (s .scratch))
-run-in ns frame judge ring h (suc n) s =
-    by (frameAt frame (suc n) s .go) (run-in ns frame judge ring h n (after judge ring s (frameAt frame (suc n) s)))
-  where
-    by : (b : Bool) → isIn (run frame judge ring n (after judge ring s (frameAt frame (suc n) s)) .stop) ns ≡ true
-        → isIn (cond b (run frame judge ring n (after judge ring s (frameAt frame (suc n) s))) (ended s (frameAt frame (suc n) s)) .stop) ns ≡ true
-    by true q = q
-    by false q = h (s .tail) (suc n) (length (s .journal) - 16 * s .taken) (length (s .scratch))
+    run-go (frame (askedOf rows e) ring head) (judge (layout (known rows e) a)) ring budget (start tail journal scratch) g
 
 pub drain-in : (rows : List Known) (e : ℕ) (a : Attributes) (ring : List ℕ) (head tail budget : ℕ) (journal scratch : List ℕ)
     → isIn (drain rows e a ring head tail budget journal scratch .stop) stopNumbers ≡ true
 drain-in rows e a ring head tail budget journal scratch =
-    run-in stopNumbers (frame (allowed rows e) ring head) (judge (layout (known rows e) a)) ring (frame-in (allowed rows e) ring head) budget (start tail journal scratch)
+    run-in stopNumbers (frame (askedOf rows e) ring head) (judge (layout (known rows e) a)) ring (frame-in (askedOf rows e) ring head) budget (start tail journal scratch)
 
 -- ---- the reader of one record
 module _ (rows : List Known) (e : ℕ) (a : Attributes) (ring : List ℕ) (head tail : ℕ) (scratch : List ℕ) where
@@ -103,7 +90,7 @@ module _ (rows : List Known) (e : ℕ) (a : Attributes) (ring : List ℕ) (head 
 
   -- the stop is a number of the table, and so is the answer
   pub one-stop-in : isIn (readOne rows e a ring head tail scratch .frame .stop) stopNumbers ≡ true
-  one-stop-in = rw one-frame (frame-in (allowed rows e) ring head tail 1 16 (length scratch))
+  one-stop-in = rw one-frame (frame-in (askedOf rows e) ring head tail 1 16 (length scratch))
 
   pub one-in : isIn (readOne rows e a ring head tail scratch .answer) recordNumbers ≡ true
   unfolding readOne taken notTaken

@@ -20,7 +20,7 @@ use Rattle.laws.specs.Bytes.{and-true, unbroken}
 use Rattle.fields.specs.declared.Words.{Words}
 use Rattle.fields.specs.Told.{toldOf}
 use Rattle.laws.specs.Again.{Taken}
-use Rattle.fields.specs.Walks.{step-taken}
+use Rattle.laws.specs.Walks.{step-taken}
 
 positive : (w : Width) → 1 ≤ bytes w
 positive W1 = omega arith

@@ -61,10 +61,6 @@ span-ends (Bytes k) c r e = absurd (apart e)
 span-ends Pad c r e = absurd (apart e)
 span-ends Name c r e = refl
 
-pub length-part : (sh : Shape) (c : Cursor) (R : List ℕ) → span sh c (length R) ≤ length R → length (part sh c R) ≡ span sh c (length R)
-unfolding part
-length-part sh c R l = length-take-le (span sh c (length R)) R l
-
 small-part : (sh : Shape) (c : Cursor) (R : List ℕ) → small R ≡ true → small (part sh c R) ≡ true
 unfolding part
 small-part sh c R h = small-take (span sh c (length R)) R h

@@ -32,7 +32,7 @@ names-last : (misc : ℕ) (a : Attributes) → every (schemas misc a) ≡ true
 unfolding every endsLast ends
 names-last misc a = refl
 
-trailer-fixed : (kind : ℕ) (a : Attributes) → fixed (trailer kind a) ≡ true
+pub trailer-fixed : (kind : ℕ) (a : Attributes) → fixed (trailer kind a) ≡ true
 unfolding fixed fixedShape
 trailer-fixed kind a = refl
 

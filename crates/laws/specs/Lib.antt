@@ -1,5 +1,7 @@
 pub mod Bytes
+pub mod Counting
 pub mod Put
+pub mod Rows
 pub mod Rings
 pub mod Items
 pub mod There
@@ -9,8 +11,11 @@ pub mod Answers
 pub mod Whole
 pub mod Every
 pub mod More
-pub mod Places
 pub mod Words
 pub mod Told
 pub mod Answer42
 pub mod Exactly
+pub mod Shapes
+pub mod Walks
+pub mod Named
+pub mod Numbers

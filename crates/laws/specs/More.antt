@@ -3,23 +3,19 @@
 use mathlib.Core.Path.{_≡_, sym, ap, _∙_}
 use Prim.Native.Nat.{ℕ, _+_, _%_, _^_, _<_, _≤_}
 use native.Mathlib.Nat.{add-zero}
-use native.Mathlib.Numerals.{add-one}
 use native.Mathlib.Omega.{arith}
-use mathlib.Core.Bool.{true, false, _&&_, cond}
+use mathlib.Core.Bool.{true, _&&_, cond}
 use mathlib.Core.List.{List, [], _∷_, _++_}
-use lib.ListN.{length, getD, drop, length-append}
-use lib.Seq.{drop-cons}
+use lib.ListN.{length, length-append}
 use lib.Dec.{eqb, ltb}
 use borrow.Author.Tests.{ltb-true, eqb-true}
 use Rattle.meaning.specs.declared.Cursor.{Cursor}
 use Rattle.meaning.specs.declared.Item.{Item}
-use Rattle.meaning.specs.declared.Shape.{Shape}
 use Rattle.meaning.specs.Bytes.{small}
-use Rattle.meaning.specs.Items.{Con, span}
-use Rattle.meaning.specs.Writing.{emit, blank, fitShape, next, nexts, fit, write, ends}
+use Rattle.meaning.specs.Items.{Con}
+use Rattle.meaning.specs.Writing.{emit, next, nexts, fit, write}
 use Rattle.meaning.specs.Records.{Layout, Value, origin, checkBy, value, header, fieldBytes, written, writeRecord, fitsBy, fits, cleanedRecord}
-use Rattle.laws.specs.Bytes.{apart, and-true}
-use Rattle.laws.specs.Items.{Wrote, wrote}
+use Rattle.laws.specs.Bytes.{and-true}
 use Rattle.laws.specs.There.{next-at}
 use Rattle.laws.specs.Answers.{check-zero}
 use Rattle.laws.specs.Whole.{Sound, Decodes, header-length, record-there, record-again}
@@ -53,24 +49,6 @@ cleaned-length lay xs sound s h =
     let r = record-again lay xs sound s h in
     let b = size-bound lay (value lay xs) (r .0) in
     ap length (sym (r .1)) ∙ sym (b .0) ∙ check-zero lay xs h .1
-
--- a turn of the loop that tests, and of the one that writes
-pub fit-turn : (is : List Item) (vs : List Con) (k : ℕ) (i : Item) (v : Con) (c : Cursor) → k < length is → k < length vs
-    → fit (drop k is) (drop k vs) c
-    ≡ cond (getD is k i .on) (fitShape (getD is k i .shape) c (getD vs k v)) (blank (getD vs k v)) && fit (drop (k + 1) is) (drop (k + 1) vs) (next (getD is k i) (getD vs k v) c)
-unfolding fit
-fit-turn is vs k i v c p q = rw (drop-cons is k i p, drop-cons vs k v q, add-one k)
-
-pub write-turn : (is : List Item) (vs : List Con) (k : ℕ) (i : Item) (v : Con) (c : Cursor) → k < length is → k < length vs
-    → write (drop k is) (drop k vs) c
-    ≡ cond (getD is k i .on) (emit (getD is k i .shape) c (getD vs k v)) [] ++ write (drop (k + 1) is) (drop (k + 1) vs) (next (getD is k i) (getD vs k v) c)
-unfolding write
-write-turn is vs k i v c p q = rw (drop-cons is k i p, drop-cons vs k v q, add-one k)
-
--- an item that fits is as long as the reader takes it to be: a writer counts with `span`, and never measures what it wrote
-pub emit-span : (sh : Shape) (c : Cursor) (v : Con) (r : ℕ) → fitShape sh c v ≡ true → ends sh ≡ false → length (emit sh c v) ≡ span sh c r
-unfolding Wrote
-emit-span sh c v r f e = sym (wrote sh c v f .1 r (λ t. absurd (apart (sym e ∙ t))))
 
 -- a writer's cursor counts what it writes: the lengths in `fits` are places of the cursor
 pub nexts-at : (is : List Item) (vs : List Con) (c : Cursor) → nexts is vs c .at ≡ c .at + length (write is vs c)

@@ -14,7 +14,7 @@ use Rattle.meaning.specs.declared.Item.{Item}
 use Rattle.meaning.specs.declared.Known.{Known}
 use Rattle.meaning.specs.Bytes.{zeros, allZero, put, bit}
 use Rattle.meaning.specs.Items.{step}
-use Rattle.meaning.specs.Schema.{schemas, trailer, trails}
+use Rattle.meaning.specs.Schema.{schema, schemas, trailer, trails}
 use Rattle.meaning.specs.Records.{Layout, layout, room, kindOf, miscOf, sizeOf, origin, fieldsOf, checkBy, bodyOf, tailOf, value}
 use Rattle.meaning.specs.Values.{tell, width, words, wordsBy, recordWords, means, slotsTold, anyBeyond, meant, spareBy, spare, slotItem}
 use Rattle.laws.specs.Bytes.{apart, and-true, true-and}
@@ -245,16 +245,19 @@ trailer-steady : (kind : ℕ) (a : Attributes) → steady (trailer kind a) start
 unfolding steady seen asks
 trailer-steady kind a = refl
 
-trailer-few : (kind : ℕ) (a : Attributes) → width (trailer kind a) ≤ 8
+pub trailer-few : (kind : ℕ) (a : Attributes) → width (trailer kind a) ≤ 8
 unfolding width tell
 trailer-few kind a = omega arith
+
+pub fields-few : (kind misc : ℕ) (a : Attributes) → width (schema kind misc a) ≤ 45
+fields-few kind misc a = within-of 45 (schemas misc a) kind (all-within misc a)
 
 pub worded : (k : Known) (a : Attributes) → Worded (layout k a)
 unfolding layout
 worded k a = record {
   counts = λ kind misc. steady-of (schemas misc a) kind (all-steady misc a);
   trails = λ kind. trailer-steady kind a;
-  wide = λ kind misc. within-of 45 (schemas misc a) kind (all-within misc a);
+  wide = λ kind misc. fields-few kind misc a;
   few = λ kind. trailer-few kind a;
 }
 

@@ -62,7 +62,7 @@ fields-front : (F G : List ℕ) (t : ℕ) → length G ≡ t → fieldsOf t (F +
 unfolding fieldsOf
 fields-front F G t e = let l = length-append F G in take-at F G (length (F ++ G) - t) (omega (arith, l, e))
 
-length-fields : (t : ℕ) (xs : List ℕ) → length (fieldsOf t xs) ≡ length xs - t
+pub length-fields : (t : ℕ) (xs : List ℕ) → length (fieldsOf t xs) ≡ length xs - t
 unfolding fieldsOf
 length-fields t xs = length-take-le (length xs - t) xs (omega arith)
 

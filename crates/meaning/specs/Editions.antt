@@ -21,12 +21,18 @@ edition kinds samples formats builds = record { kinds = kinds; samples = samples
 abbrev pub editions : List Known
 editions = edition 9 16 4 false ∷ edition 15 19 4 false ∷ edition 20 25 4 true ∷ []
 
--- edition e of a table, counted from 1; what is no edition knows nothing
+-- what a reader knows that knows no type, no bit and no form
+abbrev pub nothingKnown : Known
+nothingKnown = edition 0 0 0 false
+
+-- the editions of a table are counted from 1; refusal 2: "edition not 1, 2 or 3"
 abbrev pub allowed : List Known → ℕ → Bool
 allowed rows e = leb 1 e && leb e (length rows)
 
+-- what edition e knows. Past the table that is nothing; 0 is no edition either, but stands at the first row, since the count starts there: what
+-- is answered under an edition that is not allowed is 2, and asks no row
 unfoldable pub known : List Known → ℕ → Known
-known rows e = getD rows (e - 1) (edition 0 0 0 false)
+known rows e = getD rows (e - 1) nothingKnown
 
 -- ---- what a reading depends on, by rules 20 to 23
 
@@ -95,8 +101,8 @@ abbrev pub clashes : ℕ → Attributes → List Refusal
 clashes t a = refusal (eqb t 9 && (bit (a .sample) 14 && bit (a .sample) 24)) 24 ∷ []
 
 -- the first of 20 to 24, or 0
-unfoldable pub unread : Known → Attributes → ℕ → ℕ → ℕ
-unread k a t misc = first (unknowns k t misc a) (first (clashes t a) 0)
+unfoldable pub unreadable : Known → Attributes → ℕ → ℕ → ℕ
+unreadable k a t misc = first (unknowns k t misc a) (first (clashes t a) 0)
 
 -- the numbers that say "unknown to this edition"
 abbrev pub isIn : ℕ → List ℕ → Bool

@@ -1,8 +1,8 @@
 -- What one item of a record's layout takes, refuses, holds and leaves remembered; and the walk over a list of items.
 -- A shape is a row in each of these small tables, over the item's own bytes; one general step reads the rows.
 -- Assumes nothing: these are definitions.
-use Prim.Native.Nat.{ℕ, zero, suc, _+_, _-_, _*_, _%_}
-use mathlib.Core.Bool.{Bool, true, false, cond, _&&_}
+use Prim.Native.Nat.{ℕ, _+_, _-_, _*_, _%_}
+use mathlib.Core.Bool.{cond, _&&_}
 use mathlib.Core.List.{List, [], _∷_}
 use lib.ListN.{length, take, drop}
 use lib.Dec.{leb, eqb, ltb}

@@ -9,3 +9,5 @@ pub mod Values
 pub mod Ring
 pub mod Drain
 pub mod Names
+pub mod Misc
+pub mod WordNames

@@ -1,7 +1,7 @@
 -- A whole record: header, fields, trailer. What refuses it, what it decodes to, what writes it, and when a value can be written.
 -- Assumes nothing: these are definitions.
-use Prim.Native.Nat.{ℕ, zero, suc, _+_, _-_, _*_, _%_, _^_}
-use mathlib.Core.Bool.{Bool, true, false, cond, not, _&&_}
+use Prim.Native.Nat.{ℕ, _+_, _-_, _%_, _^_}
+use mathlib.Core.Bool.{Bool, true, false, cond, _&&_}
 use mathlib.Core.List.{List, [], _∷_, _++_}
 use lib.ListN.{length, take, drop}
 use lib.Dec.{leb, eqb, ltb}
@@ -11,12 +11,12 @@ use Rattle.meaning.specs.declared.Item.{Item}
 use Rattle.meaning.specs.declared.Known.{Known}
 use Rattle.meaning.specs.declared.Shape.{Shape}
 use Rattle.meaning.specs.declared.Shape.the-variants.{Number, Ignored, Count, Size, Times, Earlier, Registers, Filled, Abi, Limit, Listed, Bytes, Pad, Name}
-use Rattle.meaning.specs.Bytes.{num, numberAt, spell}
-use Rattle.meaning.specs.Refusals.{refusal, first, orElse}
-use Rattle.meaning.specs.Items.{Con, con, cursor, bytes, walk, contents}
+use Rattle.meaning.specs.Bytes.{num, spell}
+use Rattle.meaning.specs.Refusals.{orElse}
+use Rattle.meaning.specs.Items.{Con, cursor, bytes, walk, contents}
 use Rattle.meaning.specs.Writing.{fit, write, cleaned}
 use Rattle.meaning.specs.Schema.{schema, trailer}
-use Rattle.meaning.specs.Editions.{unread, known, allowed}
+use Rattle.meaning.specs.Editions.{unreadable, known, allowed}
 
 -- what an edition and attributes fix: the fields by type and misc, the trailer by type, and 20 to 24 (0: none of them).
 -- "What a record decodes to depends on the edition only through refusals 20 to 24": only `unknown` has it
@@ -26,7 +26,7 @@ pub record Layout : Type 0 where
   pub unknown : ℕ → ℕ → ℕ
 
 unfoldable pub layout : Known → Attributes → Layout
-layout k a = record { body = λ kind misc. schema kind misc a; trail = λ kind. trailer kind a; unknown = λ kind misc. unread k a kind misc }
+layout k a = record { body = λ kind misc. schema kind misc a; trail = λ kind. trailer kind a; unknown = λ kind misc. unreadable k a kind misc }
 
 -- "Header: type u32, misc u16, size u16"
 unfoldable pub kindOf : List ℕ → ℕ
@@ -115,9 +115,14 @@ checkBy lay xs =
     6)
     7
 
--- record check: 2, then the above
+-- 2, then the above: the answer that record check shares with the readers of a record's words
 unfoldable pub check : List Known → ℕ → Attributes → List ℕ → ℕ
 check rows e a xs = cond (allowed rows e) (checkBy (layout (known rows e) a) xs) 2
+
+-- "Record check takes one lent slice, edition and attributes": what is exported under that name. An answer that is record check's alone (M-107's
+-- 44) is a row of this definition, and of no reader
+abbrev pub recordCheck : List Known → ℕ → Attributes → List ℕ → ℕ
+recordCheck rows e a xs = check rows e a xs
 
 -- ---- what it decodes to
 

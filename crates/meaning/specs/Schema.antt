@@ -10,7 +10,7 @@ use Rattle.meaning.specs.declared.Attributes.{Attributes}
 use Rattle.meaning.specs.declared.Item.{Item}
 use Rattle.meaning.specs.declared.Shape.{Shape}
 use Rattle.meaning.specs.declared.Shape.the-variants.{Number, Ignored, Count, Size, Times, Earlier, Registers, Filled, Abi, Limit, Listed, Bytes, Pad, Name}
-use Rattle.meaning.specs.declared.Width.the-variants.{W1, W2, W4, W8}
+use Rattle.meaning.specs.declared.Width.the-variants.{W2, W4, W8}
 use Rattle.meaning.specs.Bytes.{bit}
 
 abbrev pub item : Bool → Shape → Item

@@ -1,17 +1,17 @@
 -- The bytes of contents, when contents can be written, and which bytes are ignored: "res, bytes after a name's zero, text padding, the
 -- reserved three and the unused build id bytes", written as zero.
 -- Assumes nothing: these are definitions.
-use Prim.Native.Nat.{ℕ, zero, suc, _+_, _-_, _*_, _%_, _^_}
+use Prim.Native.Nat.{ℕ, _+_, _-_, _*_, _%_, _^_}
 use mathlib.Core.Bool.{Bool, true, false, cond, _&&_}
 use mathlib.Core.List.{List, [], _∷_, _++_}
-use lib.ListN.{length, take, drop}
+use lib.ListN.{length, drop}
 use lib.Dec.{leb, eqb, ltb}
 use Rattle.meaning.specs.declared.Cursor.{Cursor}
 use Rattle.meaning.specs.declared.Item.{Item}
 use Rattle.meaning.specs.declared.Shape.{Shape}
 use Rattle.meaning.specs.declared.Shape.the-variants.{Number, Ignored, Count, Size, Times, Earlier, Registers, Filled, Abi, Limit, Listed, Bytes, Pad, Name}
 use Rattle.meaning.specs.Bytes.{num, spell, zeros, zeroIn, small, nonzero, keep}
-use Rattle.meaning.specs.Items.{Con, con, bytes, span, past, step, part}
+use Rattle.meaning.specs.Items.{Con, bytes, past, step, part}
 
 -- the bytes of an item that holds v
 unfoldable pub emit : Shape → Cursor → Con → List ℕ

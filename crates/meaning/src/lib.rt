@@ -103,5 +103,21 @@ pub struct One {
     pub words: [u64; 56],
 }
 
+// Bit 13 of misc, by the record's type.
+pub enum Bit13 {
+    Nothing,
+    DataMapping,
+    Exec,
+    SwitchedOut,
+}
+
+// Bit 14 of misc, by the record's type.
+pub enum Bit14 {
+    Nothing,
+    ExactAddress,
+    Preempted,
+    BuildId,
+}
+
 // A crate has a function; this one does nothing.
 pub fn nothing() {}

@@ -3,14 +3,18 @@
 ghost use mathlib.Core.Path.{_≡_};
 ghost use lib.ListN.{length};
 ghost use Rattle.meaning.specs.Editions.{editions};
-ghost use Rattle.meaning.specs.Records.{check};
+ghost use Rattle.meaning.specs.Misc.{miscMeaning};
+ghost use Rattle.meaning.specs.Records.{recordCheck};
+ghost use Rattle.meaning.specs.Ring.{oneScratch};
 ghost use Rattle.meaning.specs.Drain.{told, drain};
 ghost use Rattle.meaning.specs.Names.{nameAnswer, nameBuffer};
 ghost use Rattle.record.specs.Into.{readIntoAnswer, readIntoWords};
+ghost use Rattle.one.specs.Told.{oneTold, oneWords};
 ghost use Rattle.writer.specs.Writer.{writeWordsAnswer, writeWordsBuffer};
 ghost use Rattle.ollskuvan.specs.Given.{given};
 use meaning::Attributes;
 use meaning::Drained;
+use one::OneTold;
 
 fn attributes(sample: u64, format: u64, all: u32, user: u64, interrupt: u64) -> Attributes
     ensures { λ r. ⌜ r ≡ given sample format all user interrupt ⌝ }
@@ -45,7 +49,31 @@ pub extern "C" fn ollskuvan_drain(
 {
     let a = attributes(sample, format, all, user, interrupt);
     let e = edition as u64;
-    rapid::drain(ring, head, tail, e, a, budget, scratch, journal)
+    fast_drain::drain(ring, head, tail, e, a, budget, scratch, journal)
+}
+
+// One record, from a tail to its words: `fields` are the caller's 56 or more.
+#[no_mangle]
+pub extern "C" fn ollskuvan_read_one(
+    ring: &[u8],
+    head: u64,
+    tail: u64,
+    sample: u64,
+    format: u64,
+    all: u32,
+    user: u64,
+    interrupt: u64,
+    edition: u32,
+    scratch: &mut [u8],
+    fields: &mut [u64],
+) -> OneTold
+    ensures { λ r. ⌜ r ≡ oneTold editions edition (given sample format all user interrupt) (now (ring .entry)) head tail (now (scratch .entry)) (now (fields .entry)) ⌝ }
+    ensures { λ _. ⌜ now (scratch .exit) ≡ oneScratch editions edition (now (ring .entry)) head tail (now (scratch .entry)) ⌝ }
+    ensures { λ _. ⌜ now (fields .exit) ≡ oneWords editions edition (given sample format all user interrupt) (now (ring .entry)) head tail (now (scratch .entry)) (now (fields .entry)) ⌝ }
+{
+    let a = attributes(sample, format, all, user, interrupt);
+    let e = edition as u64;
+    one::read_one_into(ring, head, tail, e, a, scratch, fields)
 }
 
 // The parameter is not named `record`, which is a word of the proofs' language.
@@ -59,11 +87,19 @@ pub extern "C" fn ollskuvan_check(
     interrupt: u64,
     edition: u32,
 ) -> u32
-    ensures { λ r. ⌜ r ≡ check editions edition (given sample format all user interrupt) (now (bytes .entry)) ⌝ }
+    ensures { λ r. ⌜ r ≡ recordCheck editions edition (given sample format all user interrupt) (now (bytes .entry)) ⌝ }
 {
     let a = attributes(sample, format, all, user, interrupt);
     let e = edition as u64;
     record::check(bytes, e, a) as u32
+}
+
+// What a record's misc means, by its type: the CPU mode, and bits 13 and 14. The type is the whole word of the header.
+#[no_mangle]
+pub extern "C" fn ollskuvan_misc_meaning(kind: u64, misc: u64) -> u32
+    ensures { λ r. ⌜ r ≡ miscMeaning kind misc ⌝ }
+{
+    misc::meaning_of(kind, misc)
 }
 
 #[no_mangle]
@@ -99,7 +135,7 @@ pub extern "C" fn ollskuvan_read(
     record::read_into(bytes, e, a, words) as u32
 }
 
-// The writer's answer: 42 also for fewer than 56 words.
+// The writer's answer: after 2, 42 also for fewer than 56 words.
 #[no_mangle]
 pub extern "C" fn ollskuvan_write(
     words: &[u64],

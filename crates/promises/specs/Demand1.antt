@@ -5,11 +5,10 @@
 -- only read: no definition has them after the call. The last sentence, on names, is in Names. Assumes nothing.
 use mathlib.Core.Path.{_≡_, refl, sym, ap, ap₂, _∙_}
 use mathlib.Core.List.{List, []}
-use mathlib.Core.Bool.{Bool, true, false, _||_}
+use mathlib.Core.Bool.{Bool, true, false}
 use Prim.Native.Nat.{ℕ, suc, _+_, _-_, _*_, _%_, _^_, _<_, _≤_}
 use native.Mathlib.Omega.{arith}
 use borrow.Author.Tests.{ltb-true, eqb-true}
-use lib.Dec.{ltb, eqb}
 use lib.ListN.{length, getD, take, drop}
 use Rattle.meaning.specs.declared.Attributes.{Attributes}
 use Rattle.meaning.specs.declared.Frame.{Frame}
@@ -18,23 +17,21 @@ use Rattle.meaning.specs.Bytes.{num, numberAt, zeros, put}
 use Rattle.meaning.specs.Editions.{editions, allowed, known, isIn}
 use Rattle.meaning.specs.Records.{layout, judge, check}
 use Rattle.meaning.specs.Values.{read, readAnswered, writeAnswer, writeBuffer}
-use Rattle.meaning.specs.Ring.{distance, stopAt, frame, recordAt, whole, shown, oneFrame, taken, notTaken, readOne, oneScratch}
+use Rattle.meaning.specs.Ring.{askedOf, distance, stopAt, frame, recordAt, whole, shown, oneFrame, taken, notTaken, readOne, oneScratch}
 use Rattle.meaning.specs.Drain.{End, journalKind, entryFor, start, ended, frameAt, after, run, drain}
 use Rattle.laws.specs.Answer42.{bytesOf, buffer-holds, buffer-kept}
-use Rattle.editions.specs.Fairness.{framed}
-use Rattle.editions.specs.Cutting.{Cut, begin, cuttingBy, entries, total, Chained, All}
-use Rattle.editions.specs.Promise.{Counted, nothingCut}
+use Rattle.runs.specs.Cutting.{Cut, begin, cuttingBy, entries, total, Chained, All, nothingCut, framed}
+use Rattle.runs.specs.Entries.{answer-back, all-at}
+use Rattle.runs.specs.Forward.{Counted, frame-going, going-framed}
+use Rattle.runs.specs.Scratches.{scratch-whole, scratch-crosses, put-holds, shown-record}
 use Rattle.editions.specs.Numbers.{recordNumbers, checkNumbers, stopNumbers, writeNumbers}
 use Rattle.editions.specs.InTable.{judge-in, judge-small, check-in, write-in}
 use Rattle.laws.specs.Put.{part-of}
-use Rattle.laws.specs.Rings.{frame-stop}
-use Rattle.editions.specs.Frames.{frame-going, going-framed}
-use Rattle.editions.specs.Runs.{run-stop}
-use Rattle.editions.specs.Moves.{drain-counted}
-use Rattle.editions.specs.Journal.{answer-back, drain-cutting, drain-entry, drain-rest, drain-checked}
+use Rattle.laws.specs.Rows.{gives}
+use Rattle.laws.specs.Rings.{stopRows, frame-stop, frame-reason, run-stop}
+use Rattle.editions.specs.Drains.{drain-counted, drain-cutting, drain-entry, drain-rest, drain-checked}
 use Rattle.editions.specs.Stops.{drain-stop, drain-go, drain-in, one-stop, one-stop-tail, one-taken, one-taken-tail, one-stop-in, one-in, one-refused}
-use Rattle.promises.specs.Reasons.{gives, stopRows, frame-reason}
-use Rattle.promises.specs.Scratch.{going-room, scratch-whole, scratch-crosses, put-holds, shown-record, liesWhole, all-at, all-whole, copied}
+use Rattle.promises.specs.Scratch.{going-room, liesWhole, all-whole, copied}
 
 -- ---- "Bad input is refused by the numbers in document 01": record check, the reader of a record's bytes, the writer
 
@@ -68,9 +65,9 @@ module _ (e : ℕ) (a : Attributes) (ring : List ℕ) (head tail : ℕ) (scratch
   one-stop-numbers = one-stop-in editions e a ring head tail scratch
 
   -- and it is given for its own reason: a row with that number holds
-  pub one-stop-reason : next .go ≡ false → gives (next .stop) (stopRows (allowed editions e) ring head tail 1 16 (length scratch)) ≡ true
+  pub one-stop-reason : next .go ≡ false → gives (next .stop) (stopRows (askedOf editions e) ring head tail 1 16 (length scratch)) ≡ true
   one-stop-reason g =
-      frame-reason (allowed editions e) ring head tail 1 16 (length scratch) (next .stop) (frame-stop (allowed editions e) ring head tail 1 16 (length scratch) g)
+      frame-reason (askedOf editions e) ring head tail 1 16 (length scratch) (next .stop) (frame-stop (askedOf editions e) ring head tail 1 16 (length scratch) g) .0
 
   pub one-numbers : isIn (one .answer) recordNumbers ≡ true
   one-numbers = one-in editions e a ring head tail scratch
@@ -94,19 +91,19 @@ module _ (e : ℕ) (a : Attributes) (ring : List ℕ) (head tail : ℕ) (scratch
   -- "A record that doesn't cross the ring's end is shown where it lies, otherwise it is copied": what is shown is the record
   pub one-shows : next .go ≡ true → shown ring scratch-then next ≡ bytes
   one-shows g =
-      let w = frame-going (allowed editions e) ring head tail 1 16 (length scratch) g in
+      let w = frame-going (askedOf editions e) ring head tail 1 16 (length scratch) g in
       let h = w .header in
       ap (λ (s : List ℕ). shown ring s next) (one-taken editions e a ring head tail scratch g .1)
-      ∙ shown-record ring scratch next g (omega (arith, h)) (omega (arith, w .size-near, w .near)) (going-room (allowed editions e) ring head tail 1 16 (length scratch) g .1)
+      ∙ shown-record ring scratch next g (omega (arith, h)) (omega (arith, w .size-near, w .near)) (going-room (askedOf editions e) ring head tail 1 16 (length scratch) g .1)
 
   -- "After a copy the scratch begins with the record and its other bytes are unchanged; that holds too if the body is then refused"
   pub one-scratch-copied : next .go ≡ true → whole ring (next .place) (next .size) ≡ false
       → (take (next .size) scratch-then ≡ bytes) × (drop (next .size) scratch-then ≡ drop (next .size) scratch)
   one-scratch-copied g c =
-      let w = frame-going (allowed editions e) ring head tail 1 16 (length scratch) g in
+      let w = frame-going (askedOf editions e) ring head tail 1 16 (length scratch) g in
       let h = w .header in
-      let m = going-room (allowed editions e) ring head tail 1 16 (length scratch) g .1 c in
-      let l = going-framed (allowed editions e) ring head tail 1 16 (length scratch) next w .0 in
+      let m = going-room (askedOf editions e) ring head tail 1 16 (length scratch) g .1 c in
+      let l = going-framed (askedOf editions e) ring head tail 1 16 (length scratch) next w .0 in
       let q : scratch-then ≡ put scratch 0 bytes = one-taken editions e a ring head tail scratch g .1
       ∙ scratch-crosses ring (next .place) (next .size) scratch (omega (arith, h)) (omega (arith, w .size-near, w .near)) c in
       rw q (put-holds scratch bytes (next .size) l m)
@@ -121,16 +118,12 @@ module _ (e : ℕ) (a : Attributes) (ring : List ℕ) (head tail : ℕ) (scratch
 
 -- ---- the drain
 
-only : (b : Bool) → (b || false) ≡ true → b ≡ true
-only true h = refl
-only false h = h
-
 -- a record is taken, whatever its answer is: the tail has moved by its size, and the drain goes on behind it with one less of the budget
 pub drain-passes : (e : ℕ) (a : Attributes) (ring : List ℕ) (head tail budget : ℕ) (journal scratch : List ℕ)
-    → frameAt (frame (allowed editions e) ring head) (suc budget) (start tail journal scratch) .go ≡ true
+    → frameAt (frame (askedOf editions e) ring head) (suc budget) (start tail journal scratch) .go ≡ true
     → drain editions e a ring head tail (suc budget) journal scratch
-    ≡ run (frame (allowed editions e) ring head) (judge (layout (known editions e) a)) ring budget
-    (after (judge (layout (known editions e) a)) ring (start tail journal scratch) (frameAt (frame (allowed editions e) ring head) (suc budget) (start tail journal scratch)))
+    ≡ run (frame (askedOf editions e) ring head) (judge (layout (known editions e) a)) ring budget
+    (after (judge (layout (known editions e) a)) ring (start tail journal scratch) (frameAt (frame (askedOf editions e) ring head) (suc budget) (start tail journal scratch)))
 drain-passes = drain-go editions
 
 module _ (e : ℕ) (a : Attributes) (ring : List ℕ) (head tail budget : ℕ) (journal scratch : List ℕ) where
@@ -139,7 +132,7 @@ module _ (e : ℕ) (a : Attributes) (ring : List ℕ) (head tail budget : ℕ) (
   end = drain editions e a ring head tail budget journal scratch
 
   abbrev records : List Cut
-  records = cuttingBy (allowed editions e) ring head tail budget (length journal) scratch .records
+  records = cuttingBy (askedOf editions e) ring head tail budget (length journal) scratch .records
 
   abbrev record-at : ℕ → Cut
   record-at i = getD records i nothingCut
@@ -151,7 +144,7 @@ module _ (e : ℕ) (a : Attributes) (ring : List ℕ) (head tail budget : ℕ) (
   drain-stop-numbers = drain-in editions e a ring head tail budget journal scratch
 
   -- a stop at the first record: "'Stops' leaves tail, scratch and journal as they stood before that record"
-  pub drain-stop-leaves : frame (allowed editions e) ring head tail budget (length journal) (length scratch) .go ≡ false
+  pub drain-stop-leaves : frame (askedOf editions e) ring head tail budget (length journal) (length scratch) .go ≡ false
       → (end .state .taken ≡ 0) × (end .state .bytes ≡ 0) × (end .state .tail ≡ tail) × (end .state .journal ≡ journal) × (end .state .scratch ≡ scratch)
   drain-stop-leaves g =
       let s = drain-stop editions e a ring head tail budget journal scratch g in (
@@ -185,44 +178,44 @@ module _ (e : ℕ) (a : Attributes) (ring : List ℕ) (head tail budget : ℕ) (
   drain-entry-numbers i h = rw (entry-answer i h) (judge-in (known editions e) a (record-at i .record-bytes))
 
   module _ (hd : head < 2 ^ 64) (tl : tail < 2 ^ 64) where
-    counted : Counted (allowed editions e) ring head tail budget journal scratch (cuttingBy (allowed editions e) ring head tail budget (length journal) scratch) end
+    counted : Counted (askedOf editions e) ring head tail budget journal scratch (cuttingBy (askedOf editions e) ring head tail budget (length journal) scratch) end
     counted = drain-counted editions e a ring head tail budget journal scratch hd tl
 
     -- "A stop moves no tail past the record it stopped at": the reason is the one that the rows give at the new tail
-    pub drain-reason : frame (allowed editions e) ring head (end .state .tail) (budget - end .state .taken) (length journal - 16 * end .state .taken) (length scratch)
+    pub drain-reason : frame (askedOf editions e) ring head (end .state .tail) (budget - end .state .taken) (length journal - 16 * end .state .taken) (length scratch)
         ≡ stopAt (end .stop)
     drain-reason = counted .reason
 
     -- and there it leaves tail, counts, journal and scratch as they stand: to go on from the end is to stay there
-    pub drain-rests : run (frame (allowed editions e) ring head) answers ring (budget - end .state .taken) (end .state) ≡ end
+    pub drain-rests : run (frame (askedOf editions e) ring head) answers ring (budget - end .state .taken) (end .state) ≡ end
     drain-rests =
         let c = counted in
         let n : ℕ = budget - end .state .taken in
-        let q : frameAt (frame (allowed editions e) ring head) n (end .state) ≡ stopAt (end .stop) =
-        ap₂ (λ (j s : ℕ). frame (allowed editions e) ring head (end .state .tail) n (j - 16 * end .state .taken) s) (c .journal-length) (c .scratch-length) ∙ c .reason in
-        run-stop (frame (allowed editions e) ring head) answers ring n (end .state) (ap (λ (x : Frame). x .go) q) ∙ ap (ended (end .state)) q
+        let q : frameAt (frame (askedOf editions e) ring head) n (end .state) ≡ stopAt (end .stop) =
+        ap₂ (λ (j s : ℕ). frame (askedOf editions e) ring head (end .state .tail) n (j - 16 * end .state .taken) s) (c .journal-length) (c .scratch-length) ∙ c .reason in
+        run-stop (frame (askedOf editions e) ring head) answers ring n (end .state) (ap (λ (x : Frame). x .go) q) ∙ ap (ended (end .state)) q
 
     drain-gives : gives (end .stop)
-        (stopRows (allowed editions e) ring head (end .state .tail) (budget - end .state .taken) (length journal - 16 * end .state .taken) (length scratch))
+        (stopRows (askedOf editions e) ring head (end .state .tail) (budget - end .state .taken) (length journal - 16 * end .state .taken) (length scratch))
         ≡ true
     drain-gives =
-        frame-reason (allowed editions e) ring head (end .state .tail) (budget - end .state .taken) (length journal - 16 * end .state .taken) (length scratch) (end .stop)
-        drain-reason
+        frame-reason (askedOf editions e) ring head (end .state .tail) (budget - end .state .taken) (length journal - 16 * end .state .taken) (length scratch) (end .stop)
+        drain-reason .0
 
     -- so "nothing to take" is said only at the head, "budget used up" only after as many records as were allowed, and "fewer than 16 journal bytes
     -- left" only where that is so: no drain that does nothing says so
     pub drain-nothing-left : end .stop ≡ 0 → end .state .tail ≡ head
-    drain-nothing-left z = sym (eqb-true head (end .state .tail) (only (eqb head (end .state .tail)) (rw z at drain-gives)))
+    drain-nothing-left z = sym (eqb-true head (end .state .tail) (rw z at drain-gives))
 
     pub drain-budget-used : end .stop ≡ 8 → end .state .taken ≡ budget
     drain-budget-used z =
         let m = counted .most in
-        let n = eqb-true (budget - end .state .taken) 0 (only (eqb (budget - end .state .taken) 0) (rw z at drain-gives)) in
+        let n = eqb-true (budget - end .state .taken) 0 (rw z at drain-gives) in
         omega (arith, m, n)
 
     pub drain-journal-full : end .stop ≡ 9 → length journal < 16 * end .state .taken + 16
     drain-journal-full z =
-        let n = ltb-true (length journal - 16 * end .state .taken) 16 (only (ltb (length journal - 16 * end .state .taken) 16) (rw z at drain-gives)) in
+        let n = ltb-true (length journal - 16 * end .state .taken) 16 (rw z at drain-gives) in
         omega (arith, n)
 
     -- "takes at most the number of records that the caller allows"
@@ -250,7 +243,7 @@ module _ (e : ℕ) (a : Attributes) (ring : List ℕ) (head tail budget : ℕ) (
         let c = counted .count in
         entry-answer i h
         ∙ sym (all-at (λ (c : Cut). check editions e a (c .record-bytes) ≡ answers (c .record-bytes)) records i
-        (drain-checked editions e g a ring head tail budget journal scratch hd tl) (omega (arith, c, h)))
+        (drain-checked editions e a ring head tail budget journal scratch g hd tl) (omega (arith, c, h)))
 
     -- the scratch: a record that crosses the ring's end, and there is at most one, is what it begins with, and "its other bytes are unchanged"
     pub drain-scratch-copied : (i : ℕ) → i < end .state .taken → liesWhole ring (record-at i) ≡ false
@@ -258,7 +251,7 @@ module _ (e : ℕ) (a : Attributes) (ring : List ℕ) (head tail budget : ℕ) (
         × (drop (length (record-at i .record-bytes)) (end .state .scratch) ≡ drop (length (record-at i .record-bytes)) scratch)
     drain-scratch-copied i h w =
         let c = counted .count in
-        let k = copied (allowed editions e) ring head hd budget (begin tail (length journal) scratch) tl i (omega (arith, c, h)) w in
+        let k = copied (askedOf editions e) ring head hd budget (begin tail (length journal) scratch) tl i (omega (arith, c, h)) w in
         rw (ap (λ (x : End). x .state .scratch) (drain-cutting editions e a ring head tail budget journal scratch) ∙ k .0)
         (put-holds scratch (record-at i .record-bytes) (length (record-at i .record-bytes)) refl (k .1))
 
@@ -266,7 +259,7 @@ module _ (e : ℕ) (a : Attributes) (ring : List ℕ) (head tail budget : ℕ) (
     pub drain-scratch-kept : All (λ (c : Cut). liesWhole ring c ≡ true) records → end .state .scratch ≡ scratch
     drain-scratch-kept w =
         ap (λ (x : End). x .state .scratch) (drain-cutting editions e a ring head tail budget journal scratch)
-        ∙ all-whole (allowed editions e) ring head budget (begin tail (length journal) scratch) w
+        ∙ all-whole (askedOf editions e) ring head budget (begin tail (length journal) scratch) w
 
 -- ---- the writer
 

@@ -19,9 +19,9 @@ use Rattle.meaning.specs.Editions.{editions, allowed, known, outside, isUnknown
 use Rattle.meaning.specs.Records.{check}
 use Rattle.meaning.specs.Values.{readAnswered, read}
 use Rattle.meaning.specs.Drain.{drain}
-use Rattle.editions.specs.Fairness.{rising, Words, dependsOf, Fair, framed}
-use Rattle.editions.specs.Cutting.{cutting}
-use Rattle.editions.specs.Promise.{Demand3, EntryFair, OneFair, recordOf}
+use Rattle.editions.specs.Fairness.{rising, Words, dependsOf, Fair}
+use Rattle.runs.specs.Cutting.{cutting, recordOf, framed}
+use Rattle.editions.specs.Promise.{Demand3, EntryFair, OneFair}
 use Rattle.editions.specs.OneRecord.{either, check-fair, editions-rise}
 use Rattle.editions.specs.Demand3.{demand3, demand3-entry}
 use Rattle.editions.specs.Readers.{read-fair, one-fair}

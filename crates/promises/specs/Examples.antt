@@ -11,8 +11,10 @@ use Rattle.meaning.specs.declared.One.{One}
 use Rattle.meaning.specs.Bytes.{num, spell, bit, ones, zeros, zeroIn, put}
 use Rattle.meaning.specs.Refusals.{first}
 use Rattle.meaning.specs.Items.{span, rule, holds, counted, before, past, part, settle, shapeStep, step, walk}
-use Rattle.meaning.specs.Editions.{editions, known, unread}
-use Rattle.meaning.specs.Records.{layout, kindOf, miscOf, sizeOf, roomShape, room, fieldsOf, closed, fieldsAnswer, judge, checkBy, check}
+use Rattle.meaning.specs.Editions.{editions, known, unreadable}
+use Rattle.meaning.specs.Records.{layout, kindOf, miscOf, sizeOf, roomShape, room, fieldsOf, closed, fieldsAnswer, judge, checkBy, check, recordCheck}
+use Rattle.meaning.specs.declared.Bit13.the-variants.{SwitchedOut}
+use Rattle.meaning.specs.Misc.{types13, types14, means13, means14, number13, miscMeaning}
 use Rattle.meaning.specs.Values.{tell, slotShape, words, wordsBy, recordWords, readAnswered}
 use Rattle.meaning.specs.Ring.{lengthAllowed, distance, recordAt, stopped, sized, frame, scratchAfter, taken, notTaken, readOne, oneScratch}
 
@@ -24,7 +26,7 @@ pub data Case : Type 0 where
   stops : List ℕ → ℕ → ℕ → List ℕ → ℕ → Case
   -- the record is taken: its answer, the next tail, the scratch then
   takes : List ℕ → ℕ → ℕ → List ℕ → ℕ → ℕ → List ℕ → Case
-  -- a switch out: accepted, with the mode bit 13 of misc in the value
+  -- a switch out: accepted, and that is what its misc means
   switchesOut : ℕ → List ℕ → Case
 
 abbrev attributes : ℕ → Attributes
@@ -115,15 +117,15 @@ abbrev isTaken : One → List ℕ → ℕ → ℕ → List ℕ → Bool
 isTaken o after answer next scratch = o .frame .go && (eqb (o .answer) answer && (eqb (o .tail) next && same after scratch))
 
 pub passes : Case → Bool
-passes (checked e a xs answer) = eqb (check editions e a xs) answer
+passes (checked e a xs answer) = eqb (recordCheck editions e a xs) answer
 passes (stops xs head tail scratch number) = isStop (one xs head tail scratch) (scratchThen xs head tail scratch) scratch tail number
 passes (takes xs head tail scratch answer next after) = isTaken (one xs head tail scratch) (scratchThen xs head tail scratch) answer next after
-passes (switchesOut e xs) = eqb (check editions e (attributes 0) xs) 0 && (eqb (kindOf xs) 14 && bit (miscOf xs) 13)
+passes (switchesOut e xs) = eqb (recordCheck editions e (attributes 0) xs) 0 && eqb (miscMeaning (kindOf xs) (miscOf xs)) (number13 SwitchedOut)
 
 pub all : List Case → Bool
 all [] = true
 all (c ∷ cs) = passes c && all cs
 
 pub every-example : all cases ≡ true
-unfolding all passes cases num spell bit ones zeroIn put first span rule holds counted before past part settle shapeStep step walk known unread layout kindOf miscOf sizeOf roomShape room fieldsOf closed fieldsAnswer judge checkBy check tell slotShape words wordsBy recordWords readAnswered lengthAllowed distance recordAt stopped sized frame scratchAfter taken notTaken readOne oneScratch
+unfolding all passes cases num spell bit ones zeroIn put first span rule holds counted before past part settle shapeStep step walk known unreadable layout kindOf miscOf sizeOf roomShape room fieldsOf closed fieldsAnswer judge checkBy check types13 types14 means13 means14 miscMeaning tell slotShape words wordsBy recordWords readAnswered lengthAllowed distance recordAt stopped sized frame scratchAfter taken notTaken readOne oneScratch
 every-example = refl

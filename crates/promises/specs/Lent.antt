@@ -17,9 +17,10 @@ use Rattle.record.specs.Into.{readIntoAnswer, readIntoWords}
 use Rattle.laws.specs.Answers.{or-zero, tested}
 use Rattle.laws.specs.Answer42.{check-of}
 use Rattle.laws.specs.Told.{words-told}
-use Rattle.editions.specs.InTable.{in-more, in-cond, check-in}
+use Rattle.laws.specs.Rows.{in-more, in-cond}
+use Rattle.runs.specs.Scratches.{put-holds}
+use Rattle.editions.specs.InTable.{check-in}
 use Rattle.editions.specs.Numbers.{checkNumbers}
-use Rattle.promises.specs.Scratch.{put-holds}
 
 abbrev pub readNumbers : List ℕ
 readNumbers = 40 ∷ checkNumbers

@@ -1,10 +1,11 @@
 pub mod Examples
 pub mod Scratch
-pub mod Reasons
+pub mod Checked
 pub mod Demand1
 pub mod Names
 pub mod Lent
 pub mod Demand2
+pub mod Exported
 pub mod Demand3
 pub mod Unique
 pub mod Counts

@@ -16,7 +16,7 @@ use Rattle.meaning.specs.Editions.{isIn}
 use Rattle.meaning.specs.Names.{nameAnswer, nameBuffer}
 use Rattle.editions.specs.Numbers.{nameNumbers}
 use Rattle.editions.specs.InTable.{name-in}
-use Rattle.promises.specs.Scratch.{put-holds}
+use Rattle.runs.specs.Scratches.{put-holds}
 
 module _ (xs : List ℕ) (place count : ℕ) (buffer : List ℕ) where
   -- what is told, the buffer then, and the name

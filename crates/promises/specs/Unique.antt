@@ -3,9 +3,10 @@
 -- same arguments are equal, and so is what each lent slice holds at exit. `Learnt` is what a caller learns of a call: the claims of the
 -- contract's clauses, as the check of that crate reads them, so a contract that is weakened is refused here. What a contract leaves open is
 -- listed in docs/UNIQUENESS.md. Assumes nothing.
-use mathlib.Core.Path.{_≡_, sym, _∙_}
-use mathlib.Core.List.{List, map}
+use mathlib.Core.Path.{_≡_, refl, sym, ap, _∙_}
+use mathlib.Core.List.{List, [], _∷_, map}
 use Prim.Native.Nat.{ℕ}
+use native.Mathlib.Nat.{add-zero}
 use lib.Seq.{slice}
 use contract.Lifetimes.{Lfts}
 use denote.Ref.{now, ptr}
@@ -20,17 +21,40 @@ use prog.Routine.{Routine}
 use prog.Wp.{Heap}
 use borrow.Fn.Kinds.{PK, RK, Out, Dens, resT, endedOf}
 use Rattle.meaning.specs.declared.Attributes.{Attributes}
+use Rattle.meaning.specs.declared.Shape.the-variants.{Bytes}
+use Rattle.meaning.specs.Items.{span}
+use Rattle.meaning.specs.Schema.{always}
+use Rattle.meaning.specs.Values.{Slot}
 use Rattle.table.specs.Rows.{rows, itemOf}
+use Rattle.blocks.specs.Seen.{Leaves, Closes}
+use Rattle.blocks.specs.Steady.{oneWidth, widthOf, steady, total}
+use Rattle.put.proofs as put
 use Rattle.wire.proofs as wire
+use Rattle.spans.proofs as spans
+use Rattle.shapes.proofs as shapes
 use Rattle.fields.proofs as fields
+use Rattle.misc.proofs as misc
 use Rattle.table.proofs as table
+use Rattle.rules.proofs as rules
+use Rattle.answers.proofs as answers
 use Rattle.record.proofs as records
+use Rattle.blocks.proofs as blocks
+use Rattle.exact.proofs as exact
+use Rattle.plan.proofs as plan
 use Rattle.names.proofs as names
 use Rattle.ring.proofs as ring
+use Rattle.shown.proofs as shown
+use Rattle.one.proofs as one
 use Rattle.reader.proofs as reader
 use Rattle.drain.proofs as drains
-use Rattle.rapid.proofs as rapid
+use Rattle.fast_drain.proofs as fast
 use Rattle.ollskuvan.proofs as ollskuvan
+use Rattle.writer_words.proofs as words
+use Rattle.writer_forms.proofs as forms
+use Rattle.writer_items.proofs as items
+use Rattle.writer_parts.proofs as parts
+use Rattle.writer_parts.specs.Parts.{partItems}
+use Rattle.writer_record.proofs as whole
 use Rattle.writer.proofs as writer
 
 -- the law: a contract is an equation for each result and each slice, so one law settles it
@@ -46,7 +70,7 @@ abbrev pub Seen : {n : ℕ} (ps : List (PK n)) (r : RK n) → Out n ps r → {S 
 Seen {n} ps r Learnt see =
     (κs : Lfts n) (a : Dens κs ps) (x y : resT r κs .Denot) (s t : AtExit (endedOf n ps r) κs) → Learnt κs a x s → Learnt κs a y t → see κs x s ≡ see κs y t
 
--- ---- wire: bytes, numbers and bits in lent slices
+-- ---- put, wire: bytes, numbers and bits in lent slices
 
 pub wire-wide : Result wire.wide.Kinds.ps wire.wide.Kinds.r wire.wide.Reads.Learnt
 wire-wide κs a x y s t p q = same (p .0) (q .0)
@@ -63,32 +87,32 @@ wire-u32-at κs a x y s t p q = same (p .0) (q .0)
 pub wire-u64-at : Result wire.u64_at.Kinds.ps wire.u64_at.Kinds.r wire.u64_at.Reads.Learnt
 wire-u64-at κs a x y s t p q = same p q
 
-pub wire-copy-at : Seen wire.copy_at.Kinds.ps wire.copy_at.Kinds.r wire.copy_at.Reads.Learnt (λ κs x s. now (s .1 .0))
-wire-copy-at κs a x y s t p q = same p q
+pub put-copy-at : Seen put.copy_at.Kinds.ps put.copy_at.Kinds.r put.copy_at.Reads.Learnt (λ κs x s. now (s .1 .0))
+put-copy-at κs a x y s t p q = same p q
 
-pub wire-zero-at : Seen wire.zero_at.Kinds.ps wire.zero_at.Kinds.r wire.zero_at.Reads.Learnt (λ κs x s. now (s .0))
-wire-zero-at κs a x y s t p q = same p q
+pub put-zero-at : Seen put.zero_at.Kinds.ps put.zero_at.Kinds.r put.zero_at.Reads.Learnt (λ κs x s. now (s .0))
+put-zero-at κs a x y s t p q = same p q
 
-pub wire-le16 : Result wire.le16.Kinds.ps wire.le16.Kinds.r wire.le16.Reads.Learnt
-wire-le16 κs a x y s t p q = same p q
+pub put-le16 : Result put.le16.Kinds.ps put.le16.Kinds.r put.le16.Reads.Learnt
+put-le16 κs a x y s t p q = same p q
 
-pub wire-le32 : Result wire.le32.Kinds.ps wire.le32.Kinds.r wire.le32.Reads.Learnt
-wire-le32 κs a x y s t p q = same p q
+pub put-le32 : Result put.le32.Kinds.ps put.le32.Kinds.r put.le32.Reads.Learnt
+put-le32 κs a x y s t p q = same p q
 
-pub wire-le64 : Result wire.le64.Kinds.ps wire.le64.Kinds.r wire.le64.Reads.Learnt
-wire-le64 κs a x y s t p q = same p q
+pub put-le64 : Result put.le64.Kinds.ps put.le64.Kinds.r put.le64.Reads.Learnt
+put-le64 κs a x y s t p q = same p q
 
-pub wire-put8 : Seen wire.put8.Kinds.ps wire.put8.Kinds.r wire.put8.Reads.Learnt (λ κs x s. now (s .0))
-wire-put8 κs a x y s t p q = same p q
+pub put-put8 : Seen put.put8.Kinds.ps put.put8.Kinds.r put.put8.Reads.Learnt (λ κs x s. now (s .0))
+put-put8 κs a x y s t p q = same p q
 
-pub wire-put16 : Seen wire.put16.Kinds.ps wire.put16.Kinds.r wire.put16.Reads.Learnt (λ κs x s. now (s .0))
-wire-put16 κs a x y s t p q = same p q
+pub put-put16 : Seen put.put16.Kinds.ps put.put16.Kinds.r put.put16.Reads.Learnt (λ κs x s. now (s .0))
+put-put16 κs a x y s t p q = same p q
 
-pub wire-put32 : Seen wire.put32.Kinds.ps wire.put32.Kinds.r wire.put32.Reads.Learnt (λ κs x s. now (s .0))
-wire-put32 κs a x y s t p q = same p q
+pub put-put32 : Seen put.put32.Kinds.ps put.put32.Kinds.r put.put32.Reads.Learnt (λ κs x s. now (s .0))
+put-put32 κs a x y s t p q = same p q
 
-pub wire-put64 : Seen wire.put64.Kinds.ps wire.put64.Kinds.r wire.put64.Reads.Learnt (λ κs x s. now (s .0))
-wire-put64 κs a x y s t p q = same p q
+pub put-put64 : Seen put.put64.Kinds.ps put.put64.Kinds.r put.put64.Reads.Learnt (λ κs x s. now (s .0))
+put-put64 κs a x y s t p q = same p q
 
 pub wire-has-bit : Result wire.has_bit.Kinds.ps wire.has_bit.Kinds.r wire.has_bit.Reads.Learnt
 wire-has-bit κs a x y s t p q = same p q
@@ -99,67 +123,67 @@ wire-low3 κs a x y s t p q = same p q
 pub wire-count-ones : Result wire.count_ones.Kinds.ps wire.count_ones.Kinds.r wire.count_ones.Reads.Learnt
 wire-count-ones κs a x y s t p q = same (p .0) (q .0)
 
--- ---- fields: one function for each shape of item
+-- ---- spans, shapes, fields: one function for each shape of item; the step; the words
 
-pub fields-width-of : Result fields.width_of.Kinds.ps fields.width_of.Kinds.r fields.width_of.Reads.Learnt
-fields-width-of κs a x y s t p q = same (p .0) (q .0)
+pub spans-width-of : Result spans.width_of.Kinds.ps spans.width_of.Kinds.r spans.width_of.Reads.Learnt
+spans-width-of κs a x y s t p q = same (p .0) (q .0)
 
-pub fields-left : Result fields.left.Kinds.ps fields.left.Kinds.r fields.left.Reads.Learnt
-fields-left κs a x y s t p q = same p q
+pub spans-left : Result spans.left.Kinds.ps spans.left.Kinds.r spans.left.Reads.Learnt
+spans-left κs a x y s t p q = same p q
 
-pub fields-refuse : Result fields.refuse.Kinds.ps fields.refuse.Kinds.r fields.refuse.Reads.Learnt
-fields-refuse κs a x y s t p q = same p q
+pub spans-refuse : Result spans.refuse.Kinds.ps spans.refuse.Kinds.r spans.refuse.Reads.Learnt
+spans-refuse κs a x y s t p q = same p q
 
-pub fields-ignored : Result fields.ignored.Kinds.ps fields.ignored.Kinds.r fields.ignored.Reads.Learnt
-fields-ignored κs a x y s t p q = same p q
+pub spans-ignored : Result spans.ignored.Kinds.ps spans.ignored.Kinds.r spans.ignored.Reads.Learnt
+spans-ignored κs a x y s t p q = same p q
 
-pub fields-number : Result fields.number.Kinds.ps fields.number.Kinds.r fields.number.Reads.Learnt
-fields-number κs a x y s t p q = same p q
+pub spans-number : Result spans.number.Kinds.ps spans.number.Kinds.r spans.number.Reads.Learnt
+spans-number κs a x y s t p q = same p q
 
-pub fields-listed : Result fields.listed.Kinds.ps fields.listed.Kinds.r fields.listed.Reads.Learnt
-fields-listed κs a x y s t p q = same p q
+pub spans-listed : Result spans.listed.Kinds.ps spans.listed.Kinds.r spans.listed.Reads.Learnt
+spans-listed κs a x y s t p q = same p q
 
-pub fields-bytes : Result fields.bytes.Kinds.ps fields.bytes.Kinds.r fields.bytes.Reads.Learnt
-fields-bytes κs a x y s t p q = same p q
+pub spans-bytes : Result spans.bytes.Kinds.ps spans.bytes.Kinds.r spans.bytes.Reads.Learnt
+spans-bytes κs a x y s t p q = same p q
 
-pub fields-pad : Result fields.pad.Kinds.ps fields.pad.Kinds.r fields.pad.Reads.Learnt
-fields-pad κs a x y s t p q = same p q
+pub spans-pad : Result spans.pad.Kinds.ps spans.pad.Kinds.r spans.pad.Reads.Learnt
+spans-pad κs a x y s t p q = same p q
 
-pub fields-elements : Result fields.elements.Kinds.ps fields.elements.Kinds.r fields.elements.Reads.Learnt
-fields-elements κs a x y s t p q = same p q
+pub spans-elements : Result spans.elements.Kinds.ps spans.elements.Kinds.r spans.elements.Reads.Learnt
+spans-elements κs a x y s t p q = same p q
 
-pub fields-times : Result fields.times.Kinds.ps fields.times.Kinds.r fields.times.Reads.Learnt
-fields-times κs a x y s t p q = same p q
+pub spans-times : Result spans.times.Kinds.ps spans.times.Kinds.r spans.times.Reads.Learnt
+spans-times κs a x y s t p q = same p q
 
-pub fields-earlier : Result fields.earlier.Kinds.ps fields.earlier.Kinds.r fields.earlier.Reads.Learnt
-fields-earlier κs a x y s t p q = same p q
+pub spans-earlier : Result spans.earlier.Kinds.ps spans.earlier.Kinds.r spans.earlier.Reads.Learnt
+spans-earlier κs a x y s t p q = same p q
 
-pub fields-registers : Result fields.registers.Kinds.ps fields.registers.Kinds.r fields.registers.Reads.Learnt
-fields-registers κs a x y s t p q = same p q
+pub spans-registers : Result spans.registers.Kinds.ps spans.registers.Kinds.r spans.registers.Reads.Learnt
+spans-registers κs a x y s t p q = same p q
 
-pub fields-zero-from : Result fields.zero_from.Kinds.ps fields.zero_from.Kinds.r fields.zero_from.Reads.Learnt
-fields-zero-from κs a x y s t p q = same (p .0) (q .0)
+pub shapes-zero-from : Result shapes.zero_from.Kinds.ps shapes.zero_from.Kinds.r shapes.zero_from.Reads.Learnt
+shapes-zero-from κs a x y s t p q = same (p .0) (q .0)
 
-pub fields-name : Result fields.name.Kinds.ps fields.name.Kinds.r fields.name.Reads.Learnt
-fields-name κs a x y s t p q = same p q
+pub shapes-name : Result shapes.name.Kinds.ps shapes.name.Kinds.r shapes.name.Reads.Learnt
+shapes-name κs a x y s t p q = same p q
 
-pub fields-word-at : Result fields.word_at.Kinds.ps fields.word_at.Kinds.r fields.word_at.Reads.Learnt
-fields-word-at κs a x y s t p q = same p q
+pub shapes-word-at : Result shapes.word_at.Kinds.ps shapes.word_at.Kinds.r shapes.word_at.Reads.Learnt
+shapes-word-at κs a x y s t p q = same p q
 
-pub fields-count : Result fields.count.Kinds.ps fields.count.Kinds.r fields.count.Reads.Learnt
-fields-count κs a x y s t p q = same p q
+pub shapes-count : Result shapes.count.Kinds.ps shapes.count.Kinds.r shapes.count.Reads.Learnt
+shapes-count κs a x y s t p q = same p q
 
-pub fields-sized : Result fields.sized.Kinds.ps fields.sized.Kinds.r fields.sized.Reads.Learnt
-fields-sized κs a x y s t p q = same p q
+pub shapes-sized : Result shapes.sized.Kinds.ps shapes.sized.Kinds.r shapes.sized.Reads.Learnt
+shapes-sized κs a x y s t p q = same p q
 
-pub fields-filled : Result fields.filled.Kinds.ps fields.filled.Kinds.r fields.filled.Reads.Learnt
-fields-filled κs a x y s t p q = same p q
+pub shapes-filled : Result shapes.filled.Kinds.ps shapes.filled.Kinds.r shapes.filled.Reads.Learnt
+shapes-filled κs a x y s t p q = same p q
 
-pub fields-abi : Result fields.abi.Kinds.ps fields.abi.Kinds.r fields.abi.Reads.Learnt
-fields-abi κs a x y s t p q = same p q
+pub shapes-abi : Result shapes.abi.Kinds.ps shapes.abi.Kinds.r shapes.abi.Reads.Learnt
+shapes-abi κs a x y s t p q = same p q
 
-pub fields-limit : Result fields.limit.Kinds.ps fields.limit.Kinds.r fields.limit.Reads.Learnt
-fields-limit κs a x y s t p q = same p q
+pub shapes-limit : Result shapes.limit.Kinds.ps shapes.limit.Kinds.r shapes.limit.Reads.Learnt
+shapes-limit κs a x y s t p q = same p q
 
 pub fields-step : Result fields.step.Kinds.ps fields.step.Kinds.r fields.step.Reads.Learnt
 fields-step κs a x y s t p q = same p q
@@ -170,14 +194,19 @@ fields-words-of κs a x y s t p q = same (p .0) (q .0)
 pub fields-told : Result fields.told.Kinds.ps fields.told.Kinds.r fields.told.Reads.Learnt
 fields-told κs a x y s t p q = same p q
 
-pub fields-cpu-mode : Result fields.cpu_mode.Kinds.ps fields.cpu_mode.Kinds.r fields.cpu_mode.Reads.Learnt
-fields-cpu-mode κs a x y s t p q = same p q
+-- ---- misc: what misc means
 
-pub fields-bit-13-means : Result fields.bit_13_means.Kinds.ps fields.bit_13_means.Kinds.r fields.bit_13_means.Reads.Learnt
-fields-bit-13-means κs a x y s t p q = same p q
+pub misc-meaning-of : Result misc.meaning_of.Kinds.ps misc.meaning_of.Kinds.r misc.meaning_of.Reads.Learnt
+misc-meaning-of κs a x y s t p q = same p q
 
-pub fields-bit-14-means : Result fields.bit_14_means.Kinds.ps fields.bit_14_means.Kinds.r fields.bit_14_means.Reads.Learnt
-fields-bit-14-means κs a x y s t p q = same p q
+pub misc-cpu-mode : Result misc.cpu_mode.Kinds.ps misc.cpu_mode.Kinds.r misc.cpu_mode.Reads.Learnt
+misc-cpu-mode κs a x y s t p q = same (p .0) (q .0)
+
+pub misc-bit-13-means : Result misc.bit_13_means.Kinds.ps misc.bit_13_means.Kinds.r misc.bit_13_means.Reads.Learnt
+misc-bit-13-means κs a x y s t p q = same p q
+
+pub misc-bit-14-means : Result misc.bit_14_means.Kinds.ps misc.bit_14_means.Kinds.r misc.bit_14_means.Reads.Learnt
+misc-bit-14-means κs a x y s t p q = same p q
 
 -- ---- table: the rows of the layouts
 
@@ -202,28 +231,31 @@ pub table-part-of : (κs : Lfts 0) (a : Dens κs table.part_of.Kinds.ps) (x y : 
     → (misc : ℕ) (b : Attributes) → map (itemOf b misc (a .0)) (slice (x .from) (x .to) rows) ≡ map (itemOf b misc (a .0)) (slice (y .from) (y .to) rows)
 table-part-of κs a x y s t p q misc b = same (p .layout-is misc b) (q .layout-is misc b)
 
--- ---- record: one record: editions, 20 to 24, the walk, record check, the reader of its words
+-- ---- rules, answers, record: one record: editions, 20 to 24, the walk, record check, the reader of its words
 
-pub record-allowed : Result records.allowed.Kinds.ps records.allowed.Kinds.r records.allowed.Reads.Learnt
-record-allowed κs a x y s t p q = same p q
+pub rules-allowed : Result rules.allowed.Kinds.ps rules.allowed.Kinds.r rules.allowed.Reads.Learnt
+rules-allowed κs a x y s t p q = same p q
 
-pub record-edition : Result records.edition.Kinds.ps records.edition.Kinds.r records.edition.Reads.Learnt
-record-edition κs a x y s t p q = same p q
+pub rules-edition : Result rules.edition.Kinds.ps rules.edition.Kinds.r rules.edition.Reads.Learnt
+rules-edition κs a x y s t p q = same p q
 
-pub record-unread : Result records.unread.Kinds.ps records.unread.Kinds.r records.unread.Reads.Learnt
-record-unread κs a x y s t p q = same p q
+pub rules-unreadable : Result rules.unreadable.Kinds.ps rules.unreadable.Kinds.r rules.unreadable.Reads.Learnt
+rules-unreadable κs a x y s t p q = same p q
 
-pub record-walk : Result records.walk.Kinds.ps records.walk.Kinds.r records.walk.Reads.Learnt
-record-walk κs a x y s t p q = same p q
+pub answers-origin : Result answers.origin.Kinds.ps answers.origin.Kinds.r answers.origin.Reads.Learnt
+answers-origin κs a x y s t p q = same p q
 
-pub record-trailer-room : Result records.trailer_room.Kinds.ps records.trailer_room.Kinds.r records.trailer_room.Reads.Learnt
-record-trailer-room κs a x y s t p q = same (p .0) (q .0)
+pub answers-walk : Result answers.walk.Kinds.ps answers.walk.Kinds.r answers.walk.Reads.Learnt
+answers-walk κs a x y s t p q = same p q
 
-pub record-judge : Result records.judge.Kinds.ps records.judge.Kinds.r records.judge.Reads.Learnt
-record-judge κs a x y s t p q = same p q
+pub answers-trailer-room : Result answers.trailer_room.Kinds.ps answers.trailer_room.Kinds.r answers.trailer_room.Reads.Learnt
+answers-trailer-room κs a x y s t p q = same (p .0) (q .0)
 
-pub record-check : Result records.check.Kinds.ps records.check.Kinds.r records.check.Reads.Learnt
-record-check κs a x y s t p q = same p q
+pub answers-judge : Result answers.judge.Kinds.ps answers.judge.Kinds.r answers.judge.Reads.Learnt
+answers-judge κs a x y s t p q = same p q
+
+pub answers-check : Result answers.check.Kinds.ps answers.check.Kinds.r answers.check.Reads.Learnt
+answers-check κs a x y s t p q = same p q
 
 pub record-read : Result records.read.Kinds.ps records.read.Kinds.r records.read.Reads.Learnt
 record-read κs a x y s t p q = same p q
@@ -233,6 +265,78 @@ record-read-into κs a x y s t p q = same (p .0) (q .0)
 
 pub record-read-into-words : Seen records.read_into.Kinds.ps records.read_into.Kinds.r records.read_into.Reads.Learnt (λ κs x s. now (s .1 .1 .1 .0))
 record-read-into-words κs a x y s t p q = same (p .1) (q .1)
+
+-- ---- blocks, exact, plan: the exact judge by a plan. `Leaves` and `Closes` are equations whatever the walk remembered before, so also where it
+-- remembered nothing
+
+-- a sum stands for every list of items of one width with that sum: one of them is as many bytes
+pub blocks-sum : Result blocks.sum.Kinds.ps blocks.sum.Kinds.r blocks.sum.Reads.Learnt
+unfolding Leaves steady oneWidth total widthOf span
+blocks-sum κs a x y s t p q = let is = always (Bytes (a .1 .1 .0)) ∷ [] in same (p .0 is refl (add-zero _) 0 0) (q .0 is refl (add-zero _) 0 0)
+
+pub blocks-elements : Result blocks.elements.Kinds.ps blocks.elements.Kinds.r blocks.elements.Reads.Learnt
+blocks-elements κs a x y s t p q = same p q
+
+pub blocks-counted : Result blocks.counted.Kinds.ps blocks.counted.Kinds.r blocks.counted.Reads.Learnt
+unfolding Leaves
+blocks-counted κs a x y s t p q = same (p .0 0 0) (q .0 0 0)
+
+pub blocks-raw : Result blocks.raw.Kinds.ps blocks.raw.Kinds.r blocks.raw.Reads.Learnt
+unfolding Leaves
+blocks-raw κs a x y s t p q = same (p .0 0 0) (q .0 0 0)
+
+pub blocks-aux : Result blocks.aux.Kinds.ps blocks.aux.Kinds.r blocks.aux.Reads.Learnt
+unfolding Leaves
+blocks-aux κs a x y s t p q = same (p .0 0 0) (q .0 0 0)
+
+pub blocks-registers : Result blocks.registers.Kinds.ps blocks.registers.Kinds.r blocks.registers.Reads.Learnt
+unfolding Leaves
+blocks-registers κs a x y s t p q = same (p .0 0 0) (q .0 0 0)
+
+pub blocks-stack : Result blocks.stack.Kinds.ps blocks.stack.Kinds.r blocks.stack.Reads.Learnt
+unfolding Leaves
+blocks-stack κs a x y s t p q = same (p .0 0 0) (q .0 0 0)
+
+pub blocks-scan-name-ok : Result blocks.scan.name_ok.Kinds.ps blocks.scan.name_ok.Kinds.r blocks.scan.name_ok.Reads.Learnt
+blocks-scan-name-ok κs a x y s t p q = same p q
+
+pub exact-ended : Result exact.ended.Kinds.ps exact.ended.Kinds.r exact.ended.Reads.Learnt
+exact-ended κs a x y s t p q = same p q
+
+pub exact-sized : Result exact.sized.Kinds.ps exact.sized.Kinds.r exact.sized.Reads.Learnt
+exact-sized κs a x y s t p q = same p q
+
+pub exact-sample-sample : Result exact.sample.sample.Kinds.ps exact.sample.sample.Kinds.r exact.sample.sample.Reads.Learnt
+unfolding Closes
+exact-sample-sample κs a x y s t p q = same (p 0 0) (q 0 0)
+
+pub exact-types-named : Result exact.types.named.Kinds.ps exact.types.named.Kinds.r exact.types.named.Reads.Learnt
+exact-types-named κs a x y s t p q = same p q
+
+pub exact-types-built : Result exact.types.built.Kinds.ps exact.types.built.Kinds.r exact.types.built.Reads.Learnt
+unfolding Closes
+exact-types-built κs a x y s t p q = same (p 0 0) (q 0 0)
+
+pub exact-types-namespaces : Result exact.types.namespaces.Kinds.ps exact.types.namespaces.Kinds.r exact.types.namespaces.Reads.Learnt
+unfolding Closes
+exact-types-namespaces κs a x y s t p q = same (p 0 0) (q 0 0)
+
+pub exact-types-group-read : Result exact.types.group_read.Kinds.ps exact.types.group_read.Kinds.r exact.types.group_read.Reads.Learnt
+unfolding Closes
+exact-types-group-read κs a x y s t p q = same (p 0 0) (q 0 0)
+
+pub exact-types-text-poke : Result exact.types.text_poke.Kinds.ps exact.types.text_poke.Kinds.r exact.types.text_poke.Reads.Learnt
+unfolding Closes
+exact-types-text-poke κs a x y s t p q = same (p 0 0) (q 0 0)
+
+pub plan-judge-judge : Result plan.judge.judge.Kinds.ps plan.judge.judge.Kinds.r plan.judge.judge.Reads.Learnt
+plan-judge-judge κs a x y s t p q = same p q
+
+pub plan-sums-read-values : Result plan.sums.read_values.Kinds.ps plan.sums.read_values.Kinds.r plan.sums.read_values.Reads.Learnt
+plan-sums-read-values κs a x y s t p q = same (p .0) (q .0)
+
+pub plan-sums-sums : Result plan.sums.sums.Kinds.ps plan.sums.sums.Kinds.r plan.sums.sums.Reads.Learnt
+plan-sums-sums κs a x y s t p q = same p q
 
 -- ---- names: the copier of names: the answer, and the buffer at exit
 
@@ -265,26 +369,34 @@ ring-shown κs a x y s t p q = same (p .0) (q .0)
 pub ring-shown-from : Seen ring.shown.Kinds.ps ring.shown.Kinds.r ring.shown.Reads.Learnt (λ κs x s. ptr x)
 ring-shown-from κs a x y s t p q = same (p .1) (q .1)
 
--- the reader of one record: what is told, and the scratch at exit
-pub ring-read-one : Result ring.read_one.Kinds.ps ring.read_one.Kinds.r ring.read_one.Reads.Learnt
-ring-read-one κs a x y s t p q = same (p .0) (q .0)
+-- the part shown, read into lent words: the answer, and the words at exit
+pub shown-read-shown : Result shown.read_shown.Kinds.ps shown.read_shown.Kinds.r shown.read_shown.Reads.Learnt
+shown-read-shown κs a x y s t p q = same (p .0) (q .0)
 
-pub ring-read-one-scratch : Seen ring.read_one.Kinds.ps ring.read_one.Kinds.r ring.read_one.Reads.Learnt (λ κs x s. now (s .1 .1 .1 .1 .1 .0))
-ring-read-one-scratch κs a x y s t p q = same (p .1) (q .1)
+pub shown-read-shown-words : Seen shown.read_shown.Kinds.ps shown.read_shown.Kinds.r shown.read_shown.Reads.Learnt (λ κs x s. now (s .1 .1 .1 .1 .1 .0))
+shown-read-shown-words κs a x y s t p q = same (p .1) (q .1)
+
+-- the reader of one record: what is told, and the scratch at exit
+pub one-read-one : Result one.read_one.Kinds.ps one.read_one.Kinds.r one.read_one.Reads.Learnt
+one-read-one κs a x y s t p q = same (p .0) (q .0)
+
+pub one-read-one-scratch : Seen one.read_one.Kinds.ps one.read_one.Kinds.r one.read_one.Reads.Learnt (λ κs x s. now (s .1 .1 .1 .1 .1 .0))
+one-read-one-scratch κs a x y s t p q = same (p .1) (q .1)
+
+-- the same into lent words: what is told, and the scratch and the words at exit
+pub one-read-one-into : Result one.read_one_into.Kinds.ps one.read_one_into.Kinds.r one.read_one_into.Reads.Learnt
+one-read-one-into κs a x y s t p q = same (p .0) (q .0)
+
+pub one-read-one-into-scratch : Seen one.read_one_into.Kinds.ps one.read_one_into.Kinds.r one.read_one_into.Reads.Learnt (λ κs x s. now (s .1 .1 .1 .1 .1 .0))
+one-read-one-into-scratch κs a x y s t p q = same (p .1 .0) (q .1 .0)
+
+pub one-read-one-into-words : Seen one.read_one_into.Kinds.ps one.read_one_into.Kinds.r one.read_one_into.Reads.Learnt (λ κs x s. now (s .1 .1 .1 .1 .1 .1 .0))
+one-read-one-into-words κs a x y s t p q = same (p .1 .1) (q .1 .1)
 
 -- ---- reader: fields read by place: of a part, its bytes alone
 
-pub reader-field8-at : Result reader.field8_at.Kinds.ps reader.field8_at.Kinds.r reader.field8_at.Reads.Learnt
-reader-field8-at κs a x y s t p q = same p q
-
-pub reader-field16-at : Result reader.field16_at.Kinds.ps reader.field16_at.Kinds.r reader.field16_at.Reads.Learnt
-reader-field16-at κs a x y s t p q = same p q
-
-pub reader-field32-at : Result reader.field32_at.Kinds.ps reader.field32_at.Kinds.r reader.field32_at.Reads.Learnt
-reader-field32-at κs a x y s t p q = same p q
-
-pub reader-field64-at : Result reader.field64_at.Kinds.ps reader.field64_at.Kinds.r reader.field64_at.Reads.Learnt
-reader-field64-at κs a x y s t p q = same p q
+pub reader-field-at : Result reader.field_at.Kinds.ps reader.field_at.Kinds.r reader.field_at.Reads.Learnt
+reader-field-at κs a x y s t p q = same p q
 
 pub reader-part-at : Seen reader.part_at.Kinds.ps reader.part_at.Kinds.r reader.part_at.Reads.Learnt (λ κs x s. now x)
 reader-part-at κs a x y s t p q = same p q
@@ -297,9 +409,6 @@ reader-place-after κs a x y s t p q = same p q
 
 pub reader-read-header : Result reader.read_header.Kinds.ps reader.read_header.Kinds.r reader.read_header.Reads.Learnt
 reader-read-header κs a x y s t p q = same p q
-
-pub reader-read-thread : Result reader.read_thread.Kinds.ps reader.read_thread.Kinds.r reader.read_thread.Reads.Learnt
-reader-read-thread κs a x y s t p q = same p q
 
 -- ---- reader::Reader: the methods of a struct that holds a reference. Their proofs are walks by hand, so the claim is taken out of the contract's
 -- clause itself: whatever entails what the contract says of two results entails that they are equal
@@ -315,17 +424,8 @@ module _ {M : Type 1} (𝓤 : URA M) (H : Heap 𝓤) (A : Atoms 𝓤) (mem : Mem
   pub reader-start : Walked reader.Reader.start.ended (reader.Reader.start.clauses 𝓤 H A mem run) (λ κs x. x)
   reader-start κs a g x y s t P p q = both P p q (λ e f i. record { «record» = same (e .0) (f .0) i; at = same (e .1) (f .1) i })
 
-  pub reader-next8 : Walked reader.Reader.next8.ended (reader.Reader.next8.clauses 𝓤 H A mem run) (λ κs x. x)
-  reader-next8 κs a g x y s t P p q = both P p q same
-
-  pub reader-next16 : Walked reader.Reader.next16.ended (reader.Reader.next16.clauses 𝓤 H A mem run) (λ κs x. x)
-  reader-next16 κs a g x y s t P p q = both P p q same
-
-  pub reader-next32 : Walked reader.Reader.next32.ended (reader.Reader.next32.clauses 𝓤 H A mem run) (λ κs x. x)
-  reader-next32 κs a g x y s t P p q = both P p q same
-
-  pub reader-next64 : Walked reader.Reader.next64.ended (reader.Reader.next64.clauses 𝓤 H A mem run) (λ κs x. x)
-  reader-next64 κs a g x y s t P p q = both P p q same
+  pub reader-next : Walked reader.Reader.next.ended (reader.Reader.next.clauses 𝓤 H A mem run) (λ κs x. x)
+  reader-next κs a g x y s t P p q = both P p q same
 
   pub reader-part : Walked reader.Reader.part.ended (reader.Reader.part.clauses 𝓤 H A mem run) (λ κs x. now x)
   reader-part κs a g x y s t P p q = both P p q same
@@ -342,6 +442,19 @@ module _ {M : Type 1} (𝓤 : URA M) (H : Heap 𝓤) (A : Atoms 𝓤) (mem : Mem
   pub reader-forward : Walked reader.Reader.forward.ended (reader.Reader.forward.clauses 𝓤 H A mem run) (λ κs x. x)
   reader-forward κs a g x y s t P p q = both P p q (λ e f i. record { «record» = same (e .0) (f .0) i; at = same (e .1) (f .1) i })
 
+  -- shown: of the struct that holds the part shown, the part's bytes, where it begins, and the status
+  pub shown-show : Walked shown.show.ended (shown.show.clauses 𝓤 H A mem run) (λ κs x. now (x .part))
+  shown-show κs a g x y s t P p q = both P p q (λ e f. same (e .0) (f .0))
+
+  pub shown-show-from : Walked shown.show.ended (shown.show.clauses 𝓤 H A mem run) (λ κs x. ptr (x .part))
+  shown-show-from κs a g x y s t P p q = both P p q (λ e f. same (e .1 .0) (f .1 .0))
+
+  pub shown-show-go : Walked shown.show.ended (shown.show.clauses 𝓤 H A mem run) (λ κs x. x .go)
+  shown-show-go κs a g x y s t P p q = both P p q (λ e f. same (e .1 .1 .0) (f .1 .1 .0))
+
+  pub shown-show-stop : Walked shown.show.ended (shown.show.clauses 𝓤 H A mem run) (λ κs x. x .stop)
+  shown-show-stop κs a g x y s t P p q = both P p q (λ e f. same (e .1 .1 .1) (f .1 .1 .1))
+
 -- ---- drain: the drain: what is told, and the journal and the scratch at exit
 
 pub drain-told : Result drains.drain.Kinds.ps drains.drain.Kinds.r drains.drain.Reads.Learnt
@@ -353,16 +466,29 @@ drain-journal κs a x y s t p q = same (p .1 .0) (q .1 .0)
 pub drain-scratch : Seen drains.drain.Kinds.ps drains.drain.Kinds.r drains.drain.Reads.Learnt (λ κs x s. now (s .1 .1 .1 .1 .1 .1 .0))
 drain-scratch κs a x y s t p q = same (p .1 .1) (q .1 .1)
 
--- ---- rapid: the fast drain, under the same contract
+-- an entry's bytes, and the journal with it; and of one record that is taken, the scratch and the journal at exit
+pub drain-entry : Result drains.entry.Kinds.ps drains.entry.Kinds.r drains.entry.Reads.Learnt
+drain-entry κs a x y s t p q = same p q
 
-pub rapid-told : Result rapid.drain.Kinds.ps rapid.drain.Kinds.r rapid.drain.Reads.Learnt
-rapid-told κs a x y s t p q = same (p .0) (q .0)
+pub drain-enter-journal : Seen drains.enter.Kinds.ps drains.enter.Kinds.r drains.enter.Reads.Learnt (λ κs x s. now (s .1 .1 .1 .0))
+drain-enter-journal κs a x y s t p q = same p q
 
-pub rapid-journal : Seen rapid.drain.Kinds.ps rapid.drain.Kinds.r rapid.drain.Reads.Learnt (λ κs x s. now (s .1 .1 .1 .1 .1 .1 .1 .0))
-rapid-journal κs a x y s t p q = same (p .1 .0) (q .1 .0)
+pub drain-take-one-scratch : Seen drains.take_one.Kinds.ps drains.take_one.Kinds.r drains.take_one.Reads.Learnt (λ κs x s. now (s .1 .1 .1 .1 .1 .0))
+drain-take-one-scratch κs a x y s t p q = same (p .0) (q .0)
 
-pub rapid-scratch : Seen rapid.drain.Kinds.ps rapid.drain.Kinds.r rapid.drain.Reads.Learnt (λ κs x s. now (s .1 .1 .1 .1 .1 .1 .0))
-rapid-scratch κs a x y s t p q = same (p .1 .1) (q .1 .1)
+pub drain-take-one-journal : Seen drains.take_one.Kinds.ps drains.take_one.Kinds.r drains.take_one.Reads.Learnt (λ κs x s. now (s .1 .1 .1 .1 .1 .1 .0))
+drain-take-one-journal κs a x y s t p q = same (p .1) (q .1)
+
+-- ---- fast_drain, under the same contract
+
+pub fast-told : Result fast.drain.Kinds.ps fast.drain.Kinds.r fast.drain.Reads.Learnt
+fast-told κs a x y s t p q = same (p .0) (q .0)
+
+pub fast-journal : Seen fast.drain.Kinds.ps fast.drain.Kinds.r fast.drain.Reads.Learnt (λ κs x s. now (s .1 .1 .1 .1 .1 .1 .1 .0))
+fast-journal κs a x y s t p q = same (p .1 .0) (q .1 .0)
+
+pub fast-scratch : Seen fast.drain.Kinds.ps fast.drain.Kinds.r fast.drain.Reads.Learnt (λ κs x s. now (s .1 .1 .1 .1 .1 .1 .0))
+fast-scratch κs a x y s t p q = same (p .1 .1) (q .1 .1)
 
 -- ---- ollskuvan: what C calls
 
@@ -375,8 +501,20 @@ ollskuvan-drain-journal κs a x y s t p q = same (p .1 .0) (q .1 .0)
 pub ollskuvan-drain-scratch : Seen ollskuvan.ollskuvan_drain.Kinds.ps ollskuvan.ollskuvan_drain.Kinds.r ollskuvan.ollskuvan_drain.Reads.Learnt (λ κs x s. now (s .1 .1 .1 .1 .1 .1 .1 .1 .1 .1 .0))
 ollskuvan-drain-scratch κs a x y s t p q = same (p .1 .1) (q .1 .1)
 
+pub ollskuvan-read-one : Result ollskuvan.ollskuvan_read_one.Kinds.ps ollskuvan.ollskuvan_read_one.Kinds.r ollskuvan.ollskuvan_read_one.Reads.Learnt
+ollskuvan-read-one κs a x y s t p q = same (p .0) (q .0)
+
+pub ollskuvan-read-one-scratch : Seen ollskuvan.ollskuvan_read_one.Kinds.ps ollskuvan.ollskuvan_read_one.Kinds.r ollskuvan.ollskuvan_read_one.Reads.Learnt (λ κs x s. now (s .1 .1 .1 .1 .1 .1 .1 .1 .1 .0))
+ollskuvan-read-one-scratch κs a x y s t p q = same (p .1 .0) (q .1 .0)
+
+pub ollskuvan-read-one-words : Seen ollskuvan.ollskuvan_read_one.Kinds.ps ollskuvan.ollskuvan_read_one.Kinds.r ollskuvan.ollskuvan_read_one.Reads.Learnt (λ κs x s. now (s .1 .1 .1 .1 .1 .1 .1 .1 .1 .1 .0))
+ollskuvan-read-one-words κs a x y s t p q = same (p .1 .1) (q .1 .1)
+
 pub ollskuvan-check : Result ollskuvan.ollskuvan_check.Kinds.ps ollskuvan.ollskuvan_check.Kinds.r ollskuvan.ollskuvan_check.Reads.Learnt
 ollskuvan-check κs a x y s t p q = same p q
+
+pub ollskuvan-misc-meaning : Result ollskuvan.ollskuvan_misc_meaning.Kinds.ps ollskuvan.ollskuvan_misc_meaning.Kinds.r ollskuvan.ollskuvan_misc_meaning.Reads.Learnt
+ollskuvan-misc-meaning κs a x y s t p q = same p q
 
 pub ollskuvan-copy-name : Result ollskuvan.ollskuvan_copy_name.Kinds.ps ollskuvan.ollskuvan_copy_name.Kinds.r ollskuvan.ollskuvan_copy_name.Reads.Learnt
 ollskuvan-copy-name κs a x y s t p q = same (p .0) (q .0)
@@ -396,7 +534,67 @@ ollskuvan-write κs a x y s t p q = same (p .0) (q .0)
 pub ollskuvan-write-buffer : Seen ollskuvan.ollskuvan_write.Kinds.ps ollskuvan.ollskuvan_write.Kinds.r ollskuvan.ollskuvan_write.Reads.Learnt (λ κs x s. now (s .1 .1 .1 .1 .1 .1 .1 .1 .0))
 ollskuvan-write-buffer κs a x y s t p q = same (p .1) (q .1)
 
--- ---- writer
+-- ---- writer: the words that tell an item, and its form
+
+pub writer-words-word : Result words.word.Kinds.ps words.word.Kinds.r words.word.Reads.Learnt
+writer-words-word κs a x y s t p q = same p q
+
+pub writer-words-choose : Result words.choose.Kinds.ps words.choose.Kinds.r words.choose.Reads.Learnt
+writer-words-choose κs a x y s t p q = same p q
+
+pub writer-words-start-at : Result words.start_at.Kinds.ps words.start_at.Kinds.r words.start_at.Reads.Learnt
+writer-words-start-at κs a x y s t p q = same p q
+
+pub writer-words-after : Result words.after.Kinds.ps words.after.Kinds.r words.after.Reads.Learnt
+writer-words-after κs a x y s t p q = same p q
+
+pub writer-words-given-by : Result words.given_by.Kinds.ps words.given_by.Kinds.r words.given_by.Reads.Learnt
+writer-words-given-by κs a x y s t p q = ap (λ (g : Slot). record { number = g .num; place = g .place; count = g .count }) (same p q)
+
+pub writer-forms-of-item : Result forms.of_item.Kinds.ps forms.of_item.Kinds.r forms.of_item.Reads.Learnt
+writer-forms-of-item κs a x y s t p q = same p q
+
+-- ---- writer: one item
+
+pub writer-items-beyond : Result items.beyond.Kinds.ps items.beyond.Kinds.r items.beyond.Reads.Learnt
+writer-items-beyond κs a x y s t p q = same p q
+
+pub writer-items-advance : Result items.advance.Kinds.ps items.advance.Kinds.r items.advance.Reads.Learnt
+writer-items-advance κs a x y s t p q = same p q
+
+pub writer-items-try-item : Result items.try_item.Kinds.ps items.try_item.Kinds.r items.try_item.Reads.Learnt
+writer-items-try-item κs a x y s t p q = same p q
+
+pub writer-items-put-item-buffer : Seen items.put_item.Kinds.ps items.put_item.Kinds.r items.put_item.Reads.Learnt (λ κs x s. now (s .1 .1 .1 .0))
+writer-items-put-item-buffer κs a x y s t p q = same p q
+
+-- ---- writer: the items of a part. As for `part_of`, which rows a part has stays open; what they stand for does not
+
+pub writer-parts-item-here : Result parts.item_here.Kinds.ps parts.item_here.Kinds.r parts.item_here.Reads.Learnt
+writer-parts-item-here κs a x y s t p q = same p q
+
+pub writer-parts-any-beyond : Result parts.any_beyond.Kinds.ps parts.any_beyond.Kinds.r parts.any_beyond.Reads.Learnt
+writer-parts-any-beyond κs a x y s t p q = same p q
+
+pub writer-parts-try-all : Result parts.try_all.Kinds.ps parts.try_all.Kinds.r parts.try_all.Reads.Learnt
+writer-parts-try-all κs a x y s t p q = same p q
+
+pub writer-parts-put-all-buffer : Seen parts.put_all.Kinds.ps parts.put_all.Kinds.r parts.put_all.Reads.Learnt (λ κs x s. now (s .1 .1 .1 .1 .1 .0))
+writer-parts-put-all-buffer κs a x y s t p q = same p q
+
+pub writer-parts-body : Seen parts.body.Kinds.ps parts.body.Kinds.r parts.body.Reads.Learnt (λ κs x s. partItems x)
+writer-parts-body κs a x y s t p q = same (p .items) (q .items)
+
+pub writer-parts-trailing : Seen parts.trailing.Kinds.ps parts.trailing.Kinds.r parts.trailing.Reads.Learnt (λ κs x s. partItems x)
+writer-parts-trailing κs a x y s t p q = same (p .items) (q .items)
+
+-- ---- writer: a whole record, and the answers
+
+pub writer-record-measure : Result whole.measure.Kinds.ps whole.measure.Kinds.r whole.measure.Reads.Learnt
+writer-record-measure κs a x y s t p q = same p q
+
+pub writer-record-put-record-buffer : Seen whole.put_record.Kinds.ps whole.put_record.Kinds.r whole.put_record.Reads.Learnt (λ κs x s. now (s .1 .1 .1 .1 .1 .1 .0))
+writer-record-put-record-buffer κs a x y s t p q = same p q
 
 pub write : Result writer.write.Kinds.ps writer.write.Kinds.r writer.write.Reads.Learnt
 write κs a x y s t p q = same (p .0) (q .0)

@@ -1,15 +1,14 @@
--- What the reader's contracts cite: a field at a place, with the place after it; a place moved forward; the header, and a thread's two numbers.
+-- What the reader's contracts cite: a field at a place, with the place after it; a place moved forward; the header.
 -- Assumes nothing: these are definitions.
 use Prim.Native.Nat.{ℕ, _+_}
-use mathlib.Core.Bool.{cond}
+use mathlib.Core.Bool.{Bool, cond, _&&_, _||_}
 use mathlib.Core.List.{List}
-use lib.Dec.{leb}
+use lib.Dec.{leb, eqb}
 use lib.ListN.{length}
 use Rattle.meaning.specs.Bytes.{numberAt}
 use Rattle.meaning.specs.Refusals.{orElse}
 use Rattle.reader.specs.declared.Field.{Field}
 use Rattle.reader.specs.declared.Header.{Header}
-use Rattle.reader.specs.declared.Thread.{Thread}
 
 abbrev pub taken : ℕ → ℕ → Field
 taken value next = record { why = 0; value = value; next = next }
@@ -18,9 +17,13 @@ taken value next = record { why = 0; value = value; next = next }
 abbrev pub passes : ℕ → Field
 passes at = record { why = 30; value = 0; next = at }
 
--- the field of k bytes at a place
+-- numbers have 1, 2, 4 or 8 bytes
+abbrev pub isWidth : ℕ → Bool
+isWidth k = eqb k 1 || (eqb k 2 || (eqb k 4 || eqb k 8))
+
+-- the field of k bytes at a place; of another width there is none
 unfoldable pub fieldAt : ℕ → List ℕ → ℕ → Field
-fieldAt k xs at = cond (leb (at + k) (length xs)) (taken (numberAt k xs at) (at + k)) (passes at)
+fieldAt k xs at = cond (isWidth k && leb (at + k) (length xs)) (taken (numberAt k xs at) (at + k)) (passes at)
 
 -- n bytes on, and at most at the end
 unfoldable pub forwardAt : List ℕ → ℕ → ℕ → ℕ
@@ -42,10 +45,3 @@ headerAt xs at =
     let misc = fieldAt 2 xs (kind .next) in
     let size = fieldAt 2 xs (misc .next) in
     headerOf kind misc size
-
--- "pid, tid u32", field after field
-abbrev pub threadOf : Field → Field → Thread
-threadOf pid tid = record { why = orElse (pid .why) (tid .why); pid = pid .value; tid = tid .value; next = tid .next }
-
-abbrev pub threadAt : List ℕ → ℕ → Thread
-threadAt xs at = let pid = fieldAt 4 xs at in threadOf pid (fieldAt 4 xs (pid .next))

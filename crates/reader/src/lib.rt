@@ -1,11 +1,13 @@
 // "Inside, field after field is taken by a reader that holds the record and its place": the struct over the record's slice.
 // Each function over it is thin: it takes the struct apart and calls a function over the slice and the place, which does the work.
 ghost use mathlib.Core.Path.{_≡_};
-ghost use Prim.Native.Nat.{_+_, _-_};
+ghost use mathlib.Core.Bool.{true};
+ghost use Prim.Native.Nat.{_+_, _-_, _≤_};
 ghost use lib.Dec.{leb};
 ghost use lib.ListN.{length, take, drop};
+ghost use Rattle.meaning.specs.Bytes.{numberAt};
 ghost use Rattle.meaning.specs.Refusals.{orElse};
-ghost use Rattle.reader.specs.Field.{fieldAt, taken, passes, forwardAt, headerOf, headerAt, threadOf, threadAt};
+ghost use Rattle.reader.specs.Field.{isWidth, fieldAt, taken, passes, forwardAt, headerOf, headerAt};
 
 // The record's bytes, and the place of the next field.
 pub struct Reader<'a> {
@@ -26,14 +28,6 @@ pub struct Header {
     pub kind: u64,
     pub misc: u64,
     pub size: u64,
-    pub next: usize,
-}
-
-// "pid, tid u32", and the place after them.
-pub struct Thread {
-    pub why: u16,
-    pub pid: u64,
-    pub tid: u64,
     pub next: usize,
 }
 
@@ -70,40 +64,34 @@ fn ends(at: usize) -> Field
     }
 }
 
-pub fn field8_at(bytes: &[u8], at: usize) -> Field
-    ensures { λ r. ⌜ r ≡ fieldAt 1 (now (bytes .entry)) at ⌝ }
+// Numbers have 1, 2, 4 or 8 bytes.
+fn is_width(k: usize) -> bool
+    ensures { λ r. ⌜ r ≡ isWidth k ⌝ }
 {
-    if !holds(bytes, at, 1) {
-        return ends(at);
-    }
-    took(wire::u8_at(bytes, at), at + 1)
+    (k == 1) | ((k == 2) | ((k == 4) | (k == 8)))
 }
 
-pub fn field16_at(bytes: &[u8], at: usize) -> Field
-    ensures { λ r. ⌜ r ≡ fieldAt 2 (now (bytes .entry)) at ⌝ }
+fn number_at(bytes: &[u8], at: usize, k: usize) -> u64
+    requires { ⌜ (isWidth k ≡ true) × (at + k ≤ length (now bytes)) ⌝ }
+    ensures { λ r. ⌜ r ≡ numberAt k (now (bytes .entry)) at ⌝ }
 {
-    if !holds(bytes, at, 2) {
-        return ends(at);
+    match k {
+        1 => wire::u8_at(bytes, at),
+        2 => wire::u16_at(bytes, at),
+        4 => wire::u32_at(bytes, at),
+        _ => wire::u64_at(bytes, at),
     }
-    took(wire::u16_at(bytes, at), at + 2)
 }
 
-pub fn field32_at(bytes: &[u8], at: usize) -> Field
-    ensures { λ r. ⌜ r ≡ fieldAt 4 (now (bytes .entry)) at ⌝ }
+// The field of k bytes at a place.
+pub fn field_at(bytes: &[u8], at: usize, k: usize) -> Field
+    ensures { λ r. ⌜ r ≡ fieldAt k (now (bytes .entry)) at ⌝ }
 {
-    if !holds(bytes, at, 4) {
+    let there = is_width(k) & holds(bytes, at, k);
+    if !there {
         return ends(at);
     }
-    took(wire::u32_at(bytes, at), at + 4)
-}
-
-pub fn field64_at(bytes: &[u8], at: usize) -> Field
-    ensures { λ r. ⌜ r ≡ fieldAt 8 (now (bytes .entry)) at ⌝ }
-{
-    if !holds(bytes, at, 8) {
-        return ends(at);
-    }
-    took(wire::u64_at(bytes, at), at + 8)
+    took(number_at(bytes, at, k), at + k)
 }
 
 // The bytes from a place on, at most n of them.
@@ -144,17 +132,6 @@ fn earlier(a: u16, b: u16) -> u16
     if a == 0 { b } else { a }
 }
 
-fn thread_of(pid: Field, tid: Field) -> Thread
-    ensures { λ r. ⌜ r ≡ threadOf pid tid ⌝ }
-{
-    Thread {
-        why: earlier(pid.why, tid.why),
-        pid: pid.value,
-        tid: tid.value,
-        next: tid.next,
-    }
-}
-
 fn header_of(kind: Field, misc: Field, size: Field) -> Header
     ensures { λ r. ⌜ r ≡ headerOf kind misc size ⌝ }
 {
@@ -180,29 +157,11 @@ impl<'a> Reader<'a> {
         }
     }
 
-    // The next field, of 1, 2, 4 or 8 bytes.
-    pub fn next8(self) -> Field
-        ensures { λ x. ⌜ x ≡ fieldAt 1 (now (self .entry .record)) (self .entry .at) ⌝ }
+    // The next field, of k bytes: 1, 2, 4 or 8.
+    pub fn next(self, k: usize) -> Field
+        ensures { λ x. ⌜ x ≡ fieldAt k (now (self .entry .record)) (self .entry .at) ⌝ }
     {
-        field8_at(self.record, self.at)
-    }
-
-    pub fn next16(self) -> Field
-        ensures { λ x. ⌜ x ≡ fieldAt 2 (now (self .entry .record)) (self .entry .at) ⌝ }
-    {
-        field16_at(self.record, self.at)
-    }
-
-    pub fn next32(self) -> Field
-        ensures { λ x. ⌜ x ≡ fieldAt 4 (now (self .entry .record)) (self .entry .at) ⌝ }
-    {
-        field32_at(self.record, self.at)
-    }
-
-    pub fn next64(self) -> Field
-        ensures { λ x. ⌜ x ≡ fieldAt 8 (now (self .entry .record)) (self .entry .at) ⌝ }
-    {
-        field64_at(self.record, self.at)
+        field_at(self.record, self.at, k)
     }
 
     // The bytes of a list or a name, at most n of them.
@@ -253,18 +212,8 @@ pub fn read_header(bytes: &[u8]) -> Header
     ensures { λ x. ⌜ x ≡ headerAt (now (bytes .entry)) 0 ⌝ }
 {
     let r = Reader::start(bytes);
-    let kind = r.next32();
-    let misc = r.moved(kind.next).next16();
-    let size = r.moved(misc.next).next16();
+    let kind = r.next(4);
+    let misc = r.moved(kind.next).next(2);
+    let size = r.moved(misc.next).next(2);
     header_of(kind, misc, size)
-}
-
-// The first two fields of the body of types 1, 3, 8, 10, 12, 15 and 16.
-pub fn read_thread(bytes: &[u8]) -> Thread
-    ensures { λ x. ⌜ x ≡ threadAt (now (bytes .entry)) 8 ⌝ }
-{
-    let r = Reader::start(bytes);
-    let pid = r.moved(8).next32();
-    let tid = r.moved(pid.next).next32();
-    thread_of(pid, tid)
 }

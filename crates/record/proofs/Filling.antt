@@ -13,13 +13,12 @@ use Rattle.meaning.specs.Bytes.{put}
 use Rattle.meaning.specs.Items.{step}
 use Rattle.meaning.specs.Values.{slotItem, tell, wordsOf, width, words}
 use Rattle.laws.specs.Again.{fine}
-use Rattle.wire.proofs.Laws.{put-nil, put-snoc, put-put, length-put}
+use Rattle.laws.specs.Put.{put-nil, put-snoc, put-put, length-put}
 use Rattle.fields.specs.declared.Words.{Words}
 use Rattle.fields.specs.Told.{toldOf, wordsIn, told-words, words-length}
-use Rattle.table.specs.Rows.{rows}
-use Rattle.table.proofs.Laws.{rows-next, rows-over}
+use Rattle.table.specs.Rows.{rows, allRows}
+use Rattle.table.specs.Turns.{rows-next, rows-over, walk-next}
 use Rattle.record.specs.Into.{Fills}
-use Rattle.record.proofs.Laws.{walk-next}
 
 -- ---- the words of one item
 
@@ -42,12 +41,12 @@ module _ (f : ℕ → Item) (xs : List ℕ) (from to : ℕ) (c₀ : Cursor) (d�
   -- what is still to come is the whole
   pub record Filling (d : List ℕ) (c : Cursor) (k at : ℕ) : Type 0 where
     pub low : k ≤ to
-    pub high : to ≤ 129
+    pub high : to ≤ allRows
     pub rest : Fills (items k) xs c d at
     pub same : put d at (words xs (items k) c) ≡ put d₀ at₀ (words xs (items from) c₀)
     pub long : length d ≡ length d₀
 
-  pub filling-start : from ≤ to → to ≤ 129 → Fills (items from) xs c₀ d₀ at₀ → Filling d₀ c₀ from at₀
+  pub filling-start : from ≤ to → to ≤ allRows → Fills (items from) xs c₀ d₀ at₀ → Filling d₀ c₀ from at₀
   filling-start h l g = record { low = h; high = l; rest = g; same = refl; long = refl }
 
   -- the next item is accepted
@@ -57,12 +56,12 @@ module _ (f : ℕ → Item) (xs : List ℕ) (from to : ℕ) (c₀ : Cursor) (d�
       fine xs (items (k + 1)) s (ap (λ (e : Cursor). e .why) (sym (walk-next f xs k to c s h (g .high) refl)) ∙ g .rest .fine)
 
   -- its words and those of the items after it
-  words-next : (k : ℕ) (c : Cursor) → k < to → to ≤ 129
+  words-next : (k : ℕ) (c : Cursor) → k < to → to ≤ allRows
       → words xs (items k) c ≡ tell (f (getD rows k 0) .shape) (slotItem xs (f (getD rows k 0)) c) ++ words xs (items (k + 1)) (step xs (f (getD rows k 0)) c)
   unfolding words
   words-next k c h l = rw (rows-next f k to h l)
 
-  width-next : (k : ℕ) → k < to → to ≤ 129 → width (items k) ≡ wordsOf (f (getD rows k 0) .shape) + width (items (k + 1))
+  width-next : (k : ℕ) → k < to → to ≤ allRows → width (items k) ≡ wordsOf (f (getD rows k 0) .shape) + width (items (k + 1))
   unfolding width
   width-next k h l = rw (rows-next f k to h l)
 

@@ -1,7 +1,7 @@
 -- What an accepted record gives the loops over its rows, and that the words they leave are the record's; the cases of both readers.
 -- Assumes nothing.
 use mathlib.Core.Path.{_≡_, refl, sym, ap, ap₂, _∙_, subst}
-use mathlib.Core.Bool.{false, cond}
+use mathlib.Core.Bool.{cond}
 use mathlib.Core.List.{List, _∷_}
 use Prim.Native.Nat.{ℕ, _+_, _-_, _<_, _≤_}
 use native.Mathlib.Omega.{arith}
@@ -16,31 +16,22 @@ use Rattle.meaning.specs.declared.Reading.{Reading}
 use Rattle.meaning.specs.Bytes.{put, zeros}
 use Rattle.meaning.specs.Items.{walk}
 use Rattle.meaning.specs.Schema.{schema, trailer}
-use Rattle.meaning.specs.Editions.{edition, known}
+use Rattle.meaning.specs.Editions.{known}
 use Rattle.meaning.specs.Records.{layout, kindOf, miscOf, sizeOf, room, origin, fieldsOf, fieldsAnswer, check}
-use Rattle.meaning.specs.Values.{width, words, wordsBy, recordWords, readAnswered, read}
+use Rattle.meaning.specs.Values.{bodyWords, trailWords, valueWords, words, wordsBy, recordWords, readAnswered, read}
 use Rattle.laws.specs.Fixed.{fixed-run}
 use Rattle.laws.specs.Answers.{fields-zero, check-zero}
-use Rattle.laws.specs.Every.{sound}
-use Rattle.laws.specs.Told.{worded}
+use Rattle.laws.specs.Every.{trailer-fixed}
+use Rattle.laws.specs.Told.{fields-few, trailer-few}
 use Rattle.laws.specs.Answer42.{check-of}
+use Rattle.table.specs.Rows.{fieldRows, allRows}
 use Rattle.table.specs.Same.{trailer-rows}
 use Rattle.record.specs.Into.{itemsOf, Fills, readIntoAnswer, readIntoWords}
 
 -- ---- the two loops of an accepted record
 
--- the facts of the layouts hold for every edition, so for one that knows nothing
-fields-wide : (kind misc : ℕ) (a : Attributes) → width (schema kind misc a) ≤ 45
-unfolding layout
-fields-wide kind misc a = worded (edition 0 0 0 false) a .wide kind misc
-
-trailer-wide : (kind : ℕ) (a : Attributes) → width (trailer kind a) ≤ 8
-unfolding layout
-trailer-wide kind a = worded (edition 0 0 0 false) a .few kind
-
 trailer-runs : (kind : ℕ) (a : Attributes) (xs : List ℕ) (at : ℕ) → at + room (trailer kind a) ≤ length xs → walk xs (trailer kind a) (origin at) .why ≡ 0
-unfolding layout
-trailer-runs kind a xs at h = fixed-run (trailer kind a) xs (origin at) (sound (edition 0 0 0 false) a .plain kind) refl h .0
+trailer-runs kind a xs at h = fixed-run (trailer kind a) xs (origin at) (trailer-fixed kind a) refl h .0
 
 -- what the code has read of an accepted record: type, misc and the trailer's room
 pub record Header (a : Attributes) (xs : List ℕ) (kind misc t : ℕ) : Type 0 where
@@ -66,20 +57,20 @@ module _ (a : Attributes) (xs : List ℕ) (kind misc t : ℕ) (g : Header a xs k
   pub trailer-fits : t ≤ length xs
   trailer-fits = let h = walked .0 in omega arith
 
-  pub fields-fill : (from to : ℕ) (c : Cursor) (out : List ℕ) → itemsOf a misc kind from to ≡ schema kind misc a → c ≡ origin 8 → length out ≡ 56
-      → Fills (itemsOf a misc kind from to) (take (length xs - t) xs) c out 3
+  pub fields-fill : (from to : ℕ) (c : Cursor) (out : List ℕ) → itemsOf a misc kind from to ≡ schema kind misc a → c ≡ origin 8 → length out ≡ valueWords
+      → Fills (itemsOf a misc kind from to) (take (length xs - t) xs) c out bodyWords
   fields-fill from to c out e ec l = record {
     fine = rw (e, ec) (walked .1);
-    space = rw (e, l) (let h = fields-wide kind misc a in omega arith);
+    space = rw (e, l) (let h = fields-few kind misc a in omega arith);
   }
 
-  pub trailer-fill : (c : Cursor) (out : List ℕ) → c ≡ origin (length xs - t) → length out ≡ 56 → Fills (itemsOf a misc kind 121 129) xs c out 48
+  pub trailer-fill : (c : Cursor) (out : List ℕ) → c ≡ origin (length xs - t) → length out ≡ valueWords → Fills (itemsOf a misc kind fieldRows allRows) xs c out trailWords
   trailer-fill c out ec l =
       let h = walked .0 in
       let e = g .room-is in
       record {
         fine = rw (trailer-rows misc kind a, ec) (trailer-runs kind a xs (length xs - t) (omega arith));
-        space = rw (trailer-rows misc kind a, l) (let h = trailer-wide kind a in omega arith);
+        space = rw (trailer-rows misc kind a, l) (let h = trailer-few kind a in omega arith);
       }
 
   abbrev whole : ℕ → ℕ → ℕ → ℕ → List ℕ
@@ -89,7 +80,7 @@ module _ (a : Attributes) (xs : List ℕ) (kind misc t : ℕ) (g : Header a xs k
   pub words-are : (size from to : ℕ) (c d : Cursor) (one two : List ℕ) → size ≡ sizeOf xs → itemsOf a misc kind from to ≡ schema kind misc a
       → c ≡ origin 8 → d ≡ origin (length xs - t)
       → one ≡ put (kind ∷ misc ∷ size ∷ zeros 53) 3 (words (take (length xs - t) xs) (itemsOf a misc kind from to) c)
-      → two ≡ put one 48 (words xs (itemsOf a misc kind 121 129) d)
+      → two ≡ put one 48 (words xs (itemsOf a misc kind fieldRows allRows) d)
       → two ≡ wordsBy (schema (kindOf xs) (miscOf xs) a) (trailer (kindOf xs) a) xs
   unfolding wordsBy fieldsOf
   words-are size from to c d one two es ei ec ed e₁ e₂ =
@@ -113,11 +104,11 @@ module _ (ks : List Known) (e : ℕ) (a : Attributes) (xs : List ℕ) where
   words-of = refl
 
   module _ (answer : ℕ) (ea : answer ≡ check ks e a xs) where
-    pub read-is : (ws : List ℕ) → ws ≡ cond (eqb answer 0) (recordWords (layout (known ks e) a) xs) (zeros 56)
+    pub read-is : (ws : List ℕ) → ws ≡ cond (eqb answer 0) (recordWords (layout (known ks e) a) xs) (zeros valueWords)
         → record { answer = answer; words = ws } ≡ read ks e a xs
     unfolding read readAnswered
     read-is ws ew =
-        ap₂ (λ (n : ℕ) (w : List ℕ). reading n w) ea (ew ∙ ap (λ (n : ℕ). cond (eqb n 0) (recordWords (layout (known ks e) a) xs) (zeros 56)) ea)
+        ap₂ (λ (n : ℕ) (w : List ℕ). reading n w) ea (ew ∙ ap (λ (n : ℕ). cond (eqb n 0) (recordWords (layout (known ks e) a) xs) (zeros valueWords)) ea)
       where
         reading : ℕ → List ℕ → Reading
         reading n w = record { answer = n; words = w }
@@ -126,8 +117,8 @@ module _ (ks : List Known) (e : ℕ) (a : Attributes) (xs : List ℕ) where
         → record { answer = answer; words = ws } ≡ read ks e a xs
     read-accepted ws z ew = read-is ws (ew ∙ words-of ∙ rw (eq-eqb answer 0 z) refl)
 
-    pub read-refused : (answer ≡ 0 → ⊥) → record { answer = answer; words = zeros 56 } ≡ read ks e a xs
-    read-refused n = read-is (zeros 56) (rw (ne-eqb answer 0 n) refl)
+    pub read-refused : (answer ≡ 0 → ⊥) → record { answer = answer; words = zeros valueWords } ≡ read ks e a xs
+    read-refused n = read-is (zeros valueWords) (rw (ne-eqb answer 0 n) refl)
 
     module _ (ws : List ℕ) where
       -- the words follow the answer
@@ -141,15 +132,15 @@ module _ (ks : List Known) (e : ℕ) (a : Attributes) (xs : List ℕ) where
           let q : answer ≡ readIntoAnswer ks e a xs ws = rw (sym ea, ne-eqb answer 0 n) refl in
           (q, rw (ne-eqb answer 0 n) at (words-by answer q))
 
-      pub into-short : answer ≡ 0 → length ws < 56 → (40 ≡ readIntoAnswer ks e a xs ws) × (ws ≡ readIntoWords ks e a xs ws)
+      pub into-short : answer ≡ 0 → length ws < valueWords → (40 ≡ readIntoAnswer ks e a xs ws) × (ws ≡ readIntoWords ks e a xs ws)
       unfolding readIntoAnswer
       into-short z h =
-          let q : 40 ≡ readIntoAnswer ks e a xs ws = rw (sym ea, eq-eqb answer 0 z, lt-leb 56 (length ws) h) refl in
+          let q : 40 ≡ readIntoAnswer ks e a xs ws = rw (sym ea, eq-eqb answer 0 z, lt-leb valueWords (length ws) h) refl in
           (q, words-by 40 q)
 
-      pub into-filled : (filled out : List ℕ) → answer ≡ 0 → 56 ≤ length ws → filled ≡ wordsBy (schema (kindOf xs) (miscOf xs) a) (trailer (kindOf xs) a) xs
+      pub into-filled : (filled out : List ℕ) → answer ≡ 0 → valueWords ≤ length ws → filled ≡ wordsBy (schema (kindOf xs) (miscOf xs) a) (trailer (kindOf xs) a) xs
           → out ≡ put ws 0 filled → (0 ≡ readIntoAnswer ks e a xs ws) × (out ≡ readIntoWords ks e a xs ws)
       unfolding readIntoAnswer
       into-filled filled out z h ef eo =
-          let q : 0 ≡ readIntoAnswer ks e a xs ws = rw (sym ea, eq-eqb answer 0 z, le-leb 56 (length ws) h) refl in
+          let q : 0 ≡ readIntoAnswer ks e a xs ws = rw (sym ea, eq-eqb answer 0 z, le-leb valueWords (length ws) h) refl in
           (q, eo ∙ ap (put ws 0) (ef ∙ words-of) ∙ words-by 0 q)

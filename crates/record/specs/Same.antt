@@ -7,12 +7,12 @@ use Rattle.meaning.specs.declared.Known.{Known}
 use Rattle.meaning.specs.declared.Reading.{Reading}
 use Rattle.meaning.specs.Refusals.{orElse}
 use Rattle.meaning.specs.Schema.{schema, trailer}
-use Rattle.meaning.specs.Editions.{unread}
+use Rattle.meaning.specs.Editions.{unreadable}
 use Rattle.meaning.specs.Records.{layout, kindOf, miscOf, room, fieldsAnswer, judge}
 use Rattle.meaning.specs.Values.{recordWords, read}
 
 -- "What a record decodes to depends on the edition only through refusals 20 to 24": where those agree, so do the answers
-pub same-answer : (k l : Known) (a : Attributes) (xs : List ℕ) → unread k a (kindOf xs) (miscOf xs) ≡ unread l a (kindOf xs) (miscOf xs)
+pub same-answer : (k l : Known) (a : Attributes) (xs : List ℕ) → unreadable k a (kindOf xs) (miscOf xs) ≡ unreadable l a (kindOf xs) (miscOf xs)
     → judge (layout k a) xs ≡ judge (layout l a) xs
 unfolding judge layout
 same-answer k l a xs e =

@@ -8,6 +8,7 @@ ghost use Rattle.meaning.specs.Records.{room, kindOf, miscOf, fieldsAnswer};
 ghost use Rattle.meaning.specs.Values.{words, wordsBy};
 ghost use Rattle.fields.specs.Told.{wordsIn};
 ghost use Rattle.record.specs.Into.{itemsOf, Fills};
+ghost use Rattle.table.specs.Rows.{allRows};
 use fields::Words;
 use meaning::Attributes;
 use meaning::Cursor;
@@ -45,7 +46,7 @@ pub fn fill(
     out: &mut [u64],
     start: usize,
 )
-    requires { ⌜ (from ≤ to) × (to ≤ 129) × Fills (itemsOf a misc kind from to) (now s) first (now out) start ⌝ }
+    requires { ⌜ (from ≤ to) × (to ≤ allRows) × Fills (itemsOf a misc kind from to) (now s) first (now out) start ⌝ }
     ensures { λ _. ⌜ now (out .exit) ≡ put (now (out .entry)) start (words (now (s .entry)) (itemsOf a misc kind from to) first) ⌝ }
 {
     let mut c = first;
@@ -66,14 +67,14 @@ pub fn of_record(r: &[u8], a: Attributes) -> [u64; 56]
     requires { ⌜ (8 ≤ length (now r)) × (fieldsAnswer (schema (kindOf (now r)) (miscOf (now r)) a) (room (trailer (kindOf (now r)) a)) (now r) ≡ 0) ⌝ }
     ensures { λ w. ⌜ w ≡ wordsBy (schema (kindOf (now (r .entry))) (miscOf (now (r .entry))) a) (trailer (kindOf (now (r .entry))) a) (now (r .entry)) ⌝ }
 {
-    let kind = wire::u32_at(r, 0);
-    let misc = wire::u16_at(r, 4);
-    let size = wire::u16_at(r, 6);
+    let h = reader::read_header(r);
+    let kind = h.kind;
+    let misc = h.misc;
     let mut out = [0u64; 56];
     out[0] = kind;
     out[1] = misc;
-    out[2] = size;
-    let end = r.len() - crate::trailer_room(kind, a);
+    out[2] = h.size;
+    let end = r.len() - answers::trailer_room(kind, a);
     let p = table::part_of(kind);
     let from = p.from;
     let to = p.to;
@@ -84,7 +85,7 @@ pub fn of_record(r: &[u8], a: Attributes) -> [u64; 56]
         a,
         from,
         to,
-        crate::origin(8),
+        answers::origin(8),
         &mut out,
         FIELDS_AT,
     );
@@ -95,7 +96,7 @@ pub fn of_record(r: &[u8], a: Attributes) -> [u64; 56]
         a,
         table::TRAILER_FROM,
         table::TRAILER_TO,
-        crate::origin(end),
+        answers::origin(end),
         &mut out,
         TRAILER_AT,
     );

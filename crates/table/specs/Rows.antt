@@ -42,6 +42,16 @@ rows =
     1024 ∷ 1028 ∷ 1028 ∷ 1036 ∷ 1031 ∷ 1044 ∷  -- 20 TEXT_POKE
     2081 ∷ 2081 ∷ 2112 ∷ 2240 ∷ 2336 ∷ 2273 ∷ 2295 ∷ 2560 ∷ []  -- the trailer
 
+-- the rows of the types' fields; all rows, with those of the trailer; the types, with 0, which has none
+abbrev pub fieldRows : ℕ
+fieldRows = 121
+
+abbrev pub allRows : ℕ
+allRows = 129
+
+abbrev pub types : ℕ
+types = 21
+
 -- where the rows of each type end, from type 0 on; the first type's start at 0
 abbrev pub ends : List ℕ
 ends = 0 ∷ 6 ∷ 8 ∷ 11 ∷ 16 ∷ 19 ∷ 22 ∷ 27 ∷ 36 ∷ 77 ∷ 92 ∷ 95 ∷ 97 ∷ 98 ∷ 98 ∷ 100 ∷ 104 ∷ 109 ∷ 113 ∷ 115 ∷ 121 ∷ []

@@ -1,92 +1,130 @@
 // The layouts of document 01 as one table of numbers: a row is a guard (when the item is selected) and a shape.
 // That the rows are the layouts, for all attributes, is proved by computation (specs/Same.antt): a row that is wrong is refused.
 
-// ---- guards, from 32 * 0 on: below 32 a bit of the sample type
+// ---- guards: below 32 a bit of the sample type; from 32 on one of these; from 64 on a bit of the sample type, in the trailer
+pub const IF_ALWAYS: u16 = 0;
+
+pub const IF_NEVER: u16 = 1;
+
+pub const IF_BUILD_ID: u16 = 2;
+
+pub const IF_NO_BUILD_ID: u16 = 3;
+
+pub const IF_WEIGHT: u16 = 4;
+
+pub const IF_SAMPLE_ALONE: u16 = 5;
+
+pub const IF_SAMPLE_GROUP: u16 = 6;
+
+pub const IF_SAMPLE_ENABLED: u16 = 7;
+
+pub const IF_SAMPLE_RUNNING: u16 = 8;
+
+pub const IF_SAMPLE_ID: u16 = 9;
+
+pub const IF_READ_ALONE: u16 = 10;
+
+pub const IF_READ_GROUP: u16 = 11;
+
+pub const IF_READ_ENABLED: u16 = 12;
+
+pub const IF_READ_RUNNING: u16 = 13;
+
+pub const IF_READ_ID: u16 = 14;
+
+// A row is a guard times 32, and a shape.
 const SAMPLE_BIT: u16 = 32;
 
-const ALWAYS: u16 = 32 * 32;
+const ALWAYS: u16 = 32 * (32 + IF_ALWAYS);
 
-const NEVER: u16 = 32 * 33;
+const NEVER: u16 = 32 * (32 + IF_NEVER);
 
-const BUILD_ID: u16 = 32 * 34;
+const BUILD_ID: u16 = 32 * (32 + IF_BUILD_ID);
 
-const NO_BUILD_ID: u16 = 32 * 35;
+const NO_BUILD_ID: u16 = 32 * (32 + IF_NO_BUILD_ID);
 
-const WEIGHT: u16 = 32 * 36;
+const WEIGHT: u16 = 32 * (32 + IF_WEIGHT);
 
-const SAMPLE_ALONE: u16 = 32 * 37;
+const SAMPLE_ALONE: u16 = 32 * (32 + IF_SAMPLE_ALONE);
 
-const SAMPLE_GROUP: u16 = 32 * 38;
+const SAMPLE_GROUP: u16 = 32 * (32 + IF_SAMPLE_GROUP);
 
-const SAMPLE_ENABLED: u16 = 32 * 39;
+const SAMPLE_ENABLED: u16 = 32 * (32 + IF_SAMPLE_ENABLED);
 
-const SAMPLE_RUNNING: u16 = 32 * 40;
+const SAMPLE_RUNNING: u16 = 32 * (32 + IF_SAMPLE_RUNNING);
 
-const SAMPLE_ID: u16 = 32 * 41;
+const SAMPLE_ID: u16 = 32 * (32 + IF_SAMPLE_ID);
 
-const READ_ALONE: u16 = 32 * 42;
+const READ_ALONE: u16 = 32 * (32 + IF_READ_ALONE);
 
-const READ_GROUP: u16 = 32 * 43;
+const READ_GROUP: u16 = 32 * (32 + IF_READ_GROUP);
 
-const READ_ENABLED: u16 = 32 * 44;
+const READ_ENABLED: u16 = 32 * (32 + IF_READ_ENABLED);
 
-const READ_RUNNING: u16 = 32 * 45;
+const READ_RUNNING: u16 = 32 * (32 + IF_READ_RUNNING);
 
-const READ_ID: u16 = 32 * 46;
-// from 64 on: a bit of the sample type, in the trailer
+const READ_ID: u16 = 32 * (32 + IF_READ_ID);
+
 const TRAILER: u16 = 32 * 64;
 
 // ---- shapes, from 0 on
-const U64: u16 = 0;
+pub const U64: u16 = 0;
 
-const U32: u16 = 1;
+pub const U32: u16 = 1;
 
-const U16: u16 = 2;
+pub const U16: u16 = 2;
 
-const COUNT_64: u16 = 3;
+pub const COUNT_64: u16 = 3;
 
-const COUNT_16: u16 = 4;
+pub const COUNT_16: u16 = 4;
 
-const SIZE_32: u16 = 5;
+pub const SIZE_32: u16 = 5;
 
-const SIZE_64: u16 = 6;
+pub const SIZE_64: u16 = 6;
 
-const BYTES: u16 = 7;
+pub const BYTES: u16 = 7;
 
-const WORDS: u16 = 8;
+pub const WORDS: u16 = 8;
 
-const PAIRS: u16 = 9;
+pub const PAIRS: u16 = 9;
 
-const BRANCHES: u16 = 10;
+pub const BRANCHES: u16 = 10;
 
-const VALUES: u16 = 11;
+pub const VALUES: u16 = 11;
 
-const EARLIER_BYTES: u16 = 12;
+pub const EARLIER_BYTES: u16 = 12;
 
-const REGISTERS: u16 = 13;
+pub const REGISTERS: u16 = 13;
 
-const FILLED: u16 = 14;
+pub const FILLED: u16 = 14;
 
-const USER_ABI: u16 = 15;
+pub const USER_ABI: u16 = 15;
 
-const INTERRUPT_ABI: u16 = 16;
+pub const INTERRUPT_ABI: u16 = 16;
 
-const BUILD_SIZE: u16 = 17;
+pub const BUILD_SIZE: u16 = 17;
 
-const BUILD_BYTES: u16 = 18;
+pub const BUILD_BYTES: u16 = 18;
 
-const TAG: u16 = 19;
+pub const TAG: u16 = 19;
 
-const PADDING: u16 = 20;
+pub const PADDING: u16 = 20;
 
-const NAME: u16 = 21;
+pub const NAME: u16 = 21;
 
-const IGNORED_3: u16 = 22;
+pub const IGNORED_3: u16 = 22;
 
-const IGNORED_4: u16 = 23;
+pub const IGNORED_4: u16 = 23;
+
+// The types, with 0, which has no rows; the rows of all types' fields; all rows, with those of the trailer.
+pub const TYPES: u64 = 21;
+
+pub const FIELD_ROWS: usize = 121;
+
+pub const ALL_ROWS: usize = 129;
 
 // The rows of one type after those of the other, by type; then those of the trailer.
-pub const ROWS: [u16; 129] = [
+pub const ROWS: [u16; ALL_ROWS] = [
     // 1 MMAP
     ALWAYS + U32, // pid
     ALWAYS + U32, // tid

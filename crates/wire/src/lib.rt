@@ -1,9 +1,18 @@
-// Bytes in lent slices: little-endian numbers read and written, runs of bytes copied or zeroed, single bits.
-// Every definition is of crate `meaning`, file Bytes; each reader and writer of a width cites one law over the width.
+// Bytes in lent slices: little-endian numbers read, single bits; what is written (crate `put`) is passed on.
+// Every definition is of crate `meaning`, file Bytes; each reader of a width cites one law over the width.
 ghost use mathlib.Core.Path.{_≡_};
 ghost use Prim.Native.Nat.{_+_, _≤_, _<_, _%_};
 ghost use lib.ListN.{length};
-ghost use Rattle.meaning.specs.Bytes.{numberAt, spell, bit, ones, zeros, put};
+ghost use Rattle.meaning.specs.Bytes.{numberAt, bit, ones};
+pub use put::copy_at;
+pub use put::le16;
+pub use put::le32;
+pub use put::le64;
+pub use put::put8;
+pub use put::put16;
+pub use put::put32;
+pub use put::put64;
+pub use put::zero_at;
 
 // A byte as a number of 64 bits.
 pub fn wide(x: u8) -> u64
@@ -40,113 +49,6 @@ pub fn u64_at(s: &[u8], at: usize) -> u64
     ensures { λ r. ⌜ r ≡ numberAt 8 (now (s .entry)) at ⌝ }
 {
     u32_at(s, at) + 4294967296 * u32_at(s, at + 4)
-}
-
-// Copies src into dst from `at` on; where it does not fit, dst stays as it was.
-pub fn copy_at(src: &[u8], dst: &mut [u8], at: usize)
-    ensures { λ _. ⌜ now (dst .exit) ≡ put (now (dst .entry)) at (now (src .entry)) ⌝ }
-{
-    if dst.len() < at {
-        return;
-    }
-    if dst.len() - at < src.len() {
-        return;
-    }
-    let mut j = 0;
-    while j < src.len() {
-        dst[at + j] = src[j];
-        j += 1;
-    }
-}
-
-// Writes k zero bytes into dst from `at` on; where they do not fit, dst stays as it was.
-pub fn zero_at(dst: &mut [u8], at: usize, k: usize)
-    ensures { λ _. ⌜ now (dst .exit) ≡ put (now (dst .entry)) at (zeros k) ⌝ }
-{
-    if dst.len() < at {
-        return;
-    }
-    if dst.len() - at < k {
-        return;
-    }
-    let mut j = 0;
-    while j < k {
-        dst[at + j] = 0;
-        j += 1;
-    }
-}
-
-// The bytes of a number, the lowest first; what is above them is left out.
-pub fn le16(x: u64) -> [u8; 2]
-    ensures { λ r. ⌜ r ≡ spell 2 x ⌝ }
-{
-    let a = x / 256;
-    [(x % 256) as u8, (a % 256) as u8]
-}
-
-pub fn le32(x: u64) -> [u8; 4]
-    ensures { λ r. ⌜ r ≡ spell 4 x ⌝ }
-{
-    let a = x / 256;
-    let b = a / 256;
-    let c = b / 256;
-    [
-        (x % 256) as u8,
-        (a % 256) as u8,
-        (b % 256) as u8,
-        (c % 256) as u8,
-    ]
-}
-
-pub fn le64(x: u64) -> [u8; 8]
-    ensures { λ r. ⌜ r ≡ spell 8 x ⌝ }
-{
-    let a = x / 256;
-    let b = a / 256;
-    let c = b / 256;
-    let d = c / 256;
-    let e = d / 256;
-    let f = e / 256;
-    let g = f / 256;
-    [
-        (x % 256) as u8,
-        (a % 256) as u8,
-        (b % 256) as u8,
-        (c % 256) as u8,
-        (d % 256) as u8,
-        (e % 256) as u8,
-        (f % 256) as u8,
-        (g % 256) as u8,
-    ]
-}
-
-// x written at `at` in 1, 2, 4 or 8 bytes; where they do not fit, d stays as it was.
-pub fn put8(d: &mut [u8], at: usize, x: u64)
-    ensures { λ _. ⌜ now (d .exit) ≡ put (now (d .entry)) at (spell 1 x) ⌝ }
-{
-    let b = [(x % 256) as u8];
-    copy_at(&b, d, at);
-}
-
-pub fn put16(d: &mut [u8], at: usize, x: u64)
-    ensures { λ _. ⌜ now (d .exit) ≡ put (now (d .entry)) at (spell 2 x) ⌝ }
-{
-    let b = le16(x);
-    copy_at(&b, d, at);
-}
-
-pub fn put32(d: &mut [u8], at: usize, x: u64)
-    ensures { λ _. ⌜ now (d .exit) ≡ put (now (d .entry)) at (spell 4 x) ⌝ }
-{
-    let b = le32(x);
-    copy_at(&b, d, at);
-}
-
-pub fn put64(d: &mut [u8], at: usize, x: u64)
-    ensures { λ _. ⌜ now (d .exit) ≡ put (now (d .entry)) at (spell 8 x) ⌝ }
-{
-    let b = le64(x);
-    copy_at(&b, d, at);
 }
 
 // Is bit b of x set?

@@ -5,33 +5,84 @@ use native.Mathlib.Omega.{arith}
 use mathlib.Core.Bool.{Bool, true, false, cond}
 use mathlib.Core.List.{List}
 use lib.ListN.{length, take, drop, getD, length-append}
-use lib.Dec.{leb}
+use lib.Dec.{leb, eqb}
 use borrow.Author.Tests.{eq-eqb, ne-eqb, le-leb, lt-leb}
 use Rattle.meaning.specs.declared.Attributes.{Attributes}
 use Rattle.meaning.specs.declared.Item.{Item}
-use Rattle.meaning.specs.declared.Known.{Known}
 use Rattle.meaning.specs.Bytes.{put}
-use Rattle.meaning.specs.Editions.{editions, known, allowed, unread}
-use Rattle.meaning.specs.Schema.{schema, trailer}
+use Rattle.meaning.specs.Editions.{editions, known, allowed, unreadable}
 use Rattle.meaning.specs.Writing.{write}
 use Rattle.meaning.specs.Records.{Layout, origin, layout, Value, header, fieldBytes, written, writeRecord, fits}
-use Rattle.meaning.specs.Values.{anyBeyond, slotsTold, meant, spare, writable, writeBy, writeAnswer, writeBuffer}
+use Rattle.meaning.specs.Values.{anyBeyond, slotsTold, meant, spare, writable, writeBy, writeAnswer, writeBuffer, bodyWords, valueWords}
 use Rattle.laws.specs.Whole.{header-length}
 use Rattle.laws.specs.Answer42.{buffer-kept}
-use Rattle.writer.specs.declared.Part.{Part}
-use Rattle.writer.specs.declared.Told.{Told}
-use Rattle.writer.specs.Tellings.{from}
-use Rattle.writer.specs.Tries.{itemsFrom, slotsFrom}
+use Rattle.writer_words.specs.declared.Reached.{Reached}
+use Rattle.writer_words.specs.Tellings.{startAt}
+use Rattle.writer_parts.specs.declared.TypePart.{TypePart}
+use Rattle.writer_parts.specs.Parts.{Lays, itemsFrom, slotsFrom}
+use Rattle.writer_record.specs.Measures.{valueMeant, measured, sizeMeant, bytesMeant}
+use Rattle.writer.specs.Known.{passes, knownAnswer, knownBuffer}
 use Rattle.writer.specs.Writer.{writeWordsAnswer, writeWordsBuffer}
-use Rattle.writer.specs.Measures.{Lays, toldValue, measured}
 
 -- the code's loop over the fields is the test of their slots
-pub beyond-lays : (src ws : List ℕ) (p : Part) (a : Attributes) (kind : ℕ) (is : List Item) (first : Told) (r : Bool) → Lays p a kind is → first ≡ from 3
-    → r ≡ anyBeyond src (itemsFrom p (p .from)) (slotsFrom (itemsFrom p (p .from)) first ws) → r ≡ anyBeyond src is (slotsTold is (drop 3 ws) 0 0)
+pub beyond-lays : (src ws : List ℕ) (p : TypePart) (a : Attributes) (kind : ℕ) (is : List Item) (first : Reached) (r : Bool) → Lays p a kind is → first ≡ startAt bodyWords
+    → r ≡ anyBeyond src (itemsFrom p (p .from)) (slotsFrom (itemsFrom p (p .from)) first ws) → r ≡ anyBeyond src is (slotsTold is (drop bodyWords ws) 0 0)
 unfolding slotsFrom
 beyond-lays src ws p a kind is first r l e h =
     h ∙ ap (λ (x : List Item). anyBeyond src x (slotsTold x (drop (first .at) ws) (first .n) (first .old))) (l .items)
-    ∙ ap (λ (x : Told). anyBeyond src is (slotsTold is (drop (x .at) ws) (x .n) (x .old))) e
+    ∙ ap (λ (x : Reached). anyBeyond src is (slotsTold is (drop (x .at) ws) (x .n) (x .old))) e
+
+-- ---- of a type that the edition knows
+
+module _ (src ws buffer : List ℕ) (a : Attributes) (kind misc : ℕ) where
+  abbrev answer : ℕ
+  answer = knownAnswer src ws a kind misc (length buffer)
+
+  -- both results
+  abbrev pub Known : ℕ → List ℕ → Type 0
+  Known r b = (r ≡ answer) × (b ≡ knownBuffer src ws a kind misc buffer)
+
+  refused : (r : ℕ) → answer ≡ r → (r ≡ 0 → ⊥) → Known r buffer
+  unfolding knownBuffer
+  refused r h n = (sym h, rw (ne-eqb answer 0 (λ z. n (sym h ∙ z))))
+
+  module _ (r : Bool) (eᵣ : passes src ws a kind misc ≡ r) where
+    is-41 : r ≡ true → answer ≡ 41
+    unfolding knownAnswer
+    is-41 h = rw (eᵣ, h)
+
+    pub known-41 : r ≡ true → Known 41 buffer
+    known-41 h = refused 41 (is-41 h) (λ q. omega (arith, q))
+
+    module _ (h : r ≡ false) (end : ℕ) (eₑ : end ≡ sizeMeant src ws a kind misc) where
+      past-41 : answer ≡ cond (eqb end 0) 42 (cond (leb end (length buffer)) 0 40)
+      unfolding knownAnswer
+      past-41 = rw (eᵣ, h, sym eₑ)
+
+      is-42 : end ≡ 0 → answer ≡ 42
+      is-42 z = past-41 ∙ rw (eq-eqb end 0 z)
+
+      pub known-42 : end ≡ 0 → Known 42 buffer
+      known-42 z = refused 42 (is-42 z) (λ q. omega (arith, q))
+
+      module _ (n : end ≡ 0 → ⊥) where
+        past-42 : answer ≡ cond (leb end (length buffer)) 0 40
+        past-42 = past-41 ∙ rw (ne-eqb end 0 n)
+
+        is-40 : length buffer < end → answer ≡ 40
+        is-40 l = past-42 ∙ rw (lt-leb end (length buffer) l)
+
+        pub known-40 : length buffer < end → Known 40 buffer
+        known-40 l = refused 40 (is-40 l) (λ q. omega (arith, q))
+
+        is-0 : end ≤ length buffer → answer ≡ 0
+        is-0 l = past-42 ∙ rw (le-leb end (length buffer) l)
+
+        pub known-0 : end ≤ length buffer → (b : List ℕ) → b ≡ put buffer 0 (bytesMeant src ws a kind misc) → Known 0 b
+        unfolding knownBuffer
+        known-0 l b q = (sym (is-0 l), q ∙ rw (eq-eqb answer 0 (is-0 l)))
+
+-- ---- as the definitions have it
 
 -- a record has a header
 long-enough : (is ts : List Item) (v : Value) → 8 ≤ length (written is ts v)
@@ -43,116 +94,86 @@ long-enough is ts v =
     let d = length-append (header v) (write is (v .body) (origin 8)) in
     omega (arith, h, e, d)
 
-module _ (rows : List Known) (e : ℕ) (a : Attributes) (src ws buffer : List ℕ) where
+-- a size of 0 says that nothing can be written
+size-test : (b : Bool) (n space : ℕ) → 8 ≤ n
+    → _≡_ {A = ℕ} (cond (eqb (cond b n 0) 0) 42 (cond (leb (cond b n 0) space) 0 40)) (cond b (cond (leb n space) 0 40) 42)
+size-test true n space h = rw (ne-eqb n 0 (λ z. omega (arith, z, h)))
+size-test false n space h = refl
+
+module _ (e : ℕ) (a : Attributes) (src ws buffer : List ℕ) (fine : allowed editions e ≡ true) where
   abbrev lay : Layout
-  lay = layout (known rows e) a
+  lay = layout (known editions e) a
 
-  abbrev answer : ℕ
-  answer = writeAnswer rows e a src ws (length buffer)
-
-  -- both results
   abbrev pub Answered : ℕ → List ℕ → Type 0
-  Answered r b = (r ≡ answer) × (b ≡ writeBuffer rows e a src ws buffer)
+  Answered r b = (r ≡ writeAnswer editions e a src ws (length buffer)) × (b ≡ writeBuffer editions e a src ws buffer)
 
-  refused : (r : ℕ) → answer ≡ r → (r ≡ 0 → ⊥) → Answered r buffer
-  refused r h n = (sym h, sym (buffer-kept rows e a src ws buffer (λ z. n (sym h ∙ z))))
-
-  is-2 : allowed rows e ≡ false → answer ≡ 2
-  unfolding writeAnswer
-  is-2 h = rw h
-
-  pub answers-2 : allowed rows e ≡ false → Answered 2 buffer
-  answers-2 h = refused 2 (is-2 h) (λ z. omega (arith, z))
-
-  module _ (fine : allowed rows e ≡ true) (kind misc : ℕ) (eₖ : kind ≡ getD ws 0 0) (eₘ : misc ≡ getD ws 1 0) (why : ℕ) (eᵤ : why ≡ unread (known rows e) a kind misc) where
+  module _ (kind misc : ℕ) (eₖ : kind ≡ getD ws 0 0) (eₘ : misc ≡ getD ws 1 0) (why : ℕ) (eᵤ : why ≡ unreadable (known editions e) a kind misc) where
     unknown-is : lay .unknown (getD ws 0 0) (getD ws 1 0) ≡ why
     unfolding layout
-    unknown-is = ap₂ (λ (x y : ℕ). unread (known rows e) a x y) (sym eₖ) (sym eₘ) ∙ sym eᵤ
+    unknown-is = ap₂ (λ (x y : ℕ). unreadable (known editions e) a x y) (sym eₖ) (sym eₘ) ∙ sym eᵤ
 
-    is-unknown : (why ≡ 0 → ⊥) → answer ≡ why
+    is-unknown : (why ≡ 0 → ⊥) → writeAnswer editions e a src ws (length buffer) ≡ why
     unfolding writeAnswer writeBy
     is-unknown n = rw (fine, unknown-is, ne-eqb why 0 n)
 
     pub answers-unknown : (why ≡ 0 → ⊥) → Answered why buffer
-    answers-unknown n = refused why (is-unknown n) n
+    answers-unknown n = (sym (is-unknown n), sym (buffer-kept editions e a src ws buffer (λ z. n (sym (is-unknown n) ∙ z))))
 
-    module _ (z : why ≡ 0) (r : Bool) (eᵣ : r ≡ anyBeyond src (schema kind misc a) (slotsTold (schema kind misc a) (drop 3 ws) 0 0)) where
-      abbrev passes : Bool
-      passes = anyBeyond src (lay .body (getD ws 0 0) (getD ws 1 0)) (slotsTold (lay .body (getD ws 0 0) (getD ws 1 0)) (drop 3 ws) 0 0)
+    module _ (z : why ≡ 0) where
+      past-unknown : writeAnswer editions e a src ws (length buffer)
+          ≡ cond (passes src ws a (getD ws 0 0) (getD ws 1 0)) 41 (cond (writable lay src ws) (cond (leb (length (writeRecord lay (meant lay src ws))) (length buffer)) 0 40) 42)
+      unfolding writeAnswer writeBy layout
+      past-unknown = rw (fine, unknown-is, eq-eqb why 0 z)
 
-      passes-is : passes ≡ r
-      unfolding layout
-      passes-is = ap₂ (λ (x y : ℕ). anyBeyond src (schema x y a) (slotsTold (schema x y a) (drop 3 ws) 0 0)) (sym eₖ) (sym eₘ) ∙ sym eᵣ
+      -- the size that is measured is the record's, or there is none
+      size-is : sizeMeant src ws a (getD ws 0 0) (getD ws 1 0) ≡ cond (writable lay src ws) (length (writeRecord lay (meant lay src ws))) 0
+      unfolding measured writable spare fits meant valueMeant writeRecord layout
+      size-is =
+          let u : unreadable (known editions e) a (getD ws 0 0) (getD ws 1 0) ≡ 0 = unknown-is ∙ z in
+          rw (eq-eqb (unreadable (known editions e) a (getD ws 0 0) (getD ws 1 0)) 0 u)
 
-      is-41 : r ≡ true → answer ≡ 41
-      unfolding writeAnswer writeBy
-      is-41 h = rw (fine, unknown-is, eq-eqb why 0 z, passes-is, h)
+      some : 8 ≤ length (writeRecord lay (meant lay src ws))
+      unfolding writeRecord
+      some = long-enough (lay .body (meant lay src ws .kind) (meant lay src ws .misc)) (lay .trail (meant lay src ws .kind)) (meant lay src ws)
 
-      pub answers-41 : r ≡ true → Answered 41 buffer
-      answers-41 h = refused 41 (is-41 h) (λ q. omega (arith, q))
+      answer-is : knownAnswer src ws a kind misc (length buffer) ≡ writeAnswer editions e a src ws (length buffer)
+      unfolding knownAnswer
+      answer-is =
+          ap₂ (λ (x y : ℕ). knownAnswer src ws a x y (length buffer)) eₖ eₘ
+          ∙ ap (λ (n : ℕ). cond (passes src ws a (getD ws 0 0) (getD ws 1 0)) 41 (cond (eqb n 0) 42 (cond (leb n (length buffer)) 0 40))) size-is
+          ∙ ap (λ (n : ℕ). cond (passes src ws a (getD ws 0 0) (getD ws 1 0)) 41 n) (size-test (writable lay src ws) (length (writeRecord lay (meant lay src ws))) (length buffer) some)
+          ∙ sym past-unknown
 
-      module _ (h : r ≡ false) (end : ℕ) (eₑ : end ≡ measured (schema kind misc a) (trailer kind a) src ws) where
-        past-41 : answer ≡ cond (writable lay src ws) (cond (leb (length (writeRecord lay (meant lay src ws))) (length buffer)) 0 40) 42
-        unfolding writeAnswer writeBy
-        past-41 = rw (fine, unknown-is, eq-eqb why 0 z, passes-is, h)
+      bytes-are : bytesMeant src ws a kind misc ≡ writeRecord lay (meant lay src ws)
+      unfolding meant valueMeant writeRecord layout
+      bytes-are = ap₂ (λ (x y : ℕ). bytesMeant src ws a x y) eₖ eₘ
 
-        -- the size that was measured is the record's, or there is none
-        size-is : end ≡ cond (writable lay src ws) (length (writeRecord lay (meant lay src ws))) 0
-        unfolding measured writable spare fits meant toldValue writeRecord layout
-        size-is =
-            let u : unread (known rows e) a (getD ws 0 0) (getD ws 1 0) ≡ 0 = unknown-is ∙ z in
-            eₑ ∙ ap₂ (λ (x y : ℕ). measured (schema x y a) (trailer x a) src ws) eₖ eₘ ∙ rw (eq-eqb (unread (known rows e) a (getD ws 0 0) (getD ws 1 0)) 0 u)
+      pub answers-known : (r : ℕ) (b : List ℕ) → Known src ws buffer a kind misc r b → Answered r b
+      unfolding knownBuffer writeBuffer
+      answers-known r b k =
+          (k .0 ∙ answer-is, k .1 ∙ ap₂ (λ (n : ℕ) (l : List ℕ). cond (eqb n 0) (put buffer 0 l) buffer) answer-is bytes-are)
 
-        some : 8 ≤ length (writeRecord lay (meant lay src ws))
-        unfolding writeRecord
-        some = long-enough (lay .body (meant lay src ws .kind) (meant lay src ws .misc)) (lay .trail (meant lay src ws .kind)) (meant lay src ws)
+-- ---- of words that a caller lends
 
-        none : (b : Bool) → end ≡ cond b (length (writeRecord lay (meant lay src ws))) 0 → end ≡ 0 → b ≡ false
-        none true q n = absurd (let s = some in omega (arith, q, n, s))
-        none false q n = refl
+module _ (e : ℕ) (a : Attributes) (src ws buffer : List ℕ) where
+  abbrev pub Lent : ℕ → List ℕ → Type 0
+  Lent r b = (r ≡ writeWordsAnswer e a src ws (length buffer)) × (b ≡ writeWordsBuffer e a src ws buffer)
 
-        full : (b : Bool) → end ≡ cond b (length (writeRecord lay (meant lay src ws))) 0 → 0 < end → (b ≡ true) × (end ≡ length (writeRecord lay (meant lay src ws)))
-        full true q n = (refl, q)
-        full false q n = absurd (omega (arith, q, n))
+  -- whatever the words, the buffer stays as it was
+  kept : allowed editions e ≡ false → (t : Bool) → buffer ≡ cond t (writeBuffer editions e a src (take valueWords ws) buffer) buffer
+  unfolding writeBuffer writeAnswer
+  kept h true = rw h
+  kept h false = refl
 
-        is-42 : end ≡ 0 → answer ≡ 42
-        is-42 n = past-41 ∙ ap (λ (b : Bool). cond b (cond (leb (length (writeRecord lay (meant lay src ws))) (length buffer)) 0 40) 42) (none (writable lay src ws) size-is n)
+  pub lent-2 : allowed editions e ≡ false → Lent 2 buffer
+  unfolding writeWordsAnswer writeWordsBuffer
+  lent-2 h = (rw h, kept h (leb valueWords (length ws)))
 
-        pub answers-42 : end ≡ 0 → Answered 42 buffer
-        answers-42 n = refused 42 (is-42 n) (λ q. omega (arith, q))
+  pub too-few : allowed editions e ≡ true → length ws < valueWords → Lent 42 buffer
+  unfolding writeWordsAnswer writeWordsBuffer
+  too-few f h = rw (f, lt-leb valueWords (length ws) h) (refl, refl)
 
-        module _ (n : 0 < end) where
-          past-42 : answer ≡ cond (leb end (length buffer)) 0 40
-          past-42 =
-              let f = full (writable lay src ws) size-is n in
-              past-41 ∙ ap (λ (b : Bool). cond b (cond (leb (length (writeRecord lay (meant lay src ws))) (length buffer)) 0 40) 42) (f .0)
-              ∙ ap (λ (k : ℕ). cond (leb k (length buffer)) 0 40) (sym (f .1))
-
-          is-40 : length buffer < end → answer ≡ 40
-          is-40 l = past-42 ∙ rw (lt-leb end (length buffer) l)
-
-          pub answers-40 : length buffer < end → Answered 40 buffer
-          answers-40 l = refused 40 (is-40 l) (λ q. omega (arith, q))
-
-          is-0 : end ≤ length buffer → answer ≡ 0
-          is-0 l = past-42 ∙ rw (le-leb end (length buffer) l)
-
-          bytes-are : written (schema kind misc a) (trailer kind a) (toldValue (schema kind misc a) (trailer kind a) src ws) ≡ writeRecord lay (meant lay src ws)
-          unfolding meant toldValue writeRecord layout
-          bytes-are = ap₂ (λ (x y : ℕ). written (schema x y a) (trailer x a) (toldValue (schema x y a) (trailer x a) src ws)) eₖ eₘ
-
-          pub answers-0 : end ≤ length buffer → (b : List ℕ)
-              → b ≡ put buffer 0 (written (schema kind misc a) (trailer kind a) (toldValue (schema kind misc a) (trailer kind a) src ws)) → Answered 0 b
-          unfolding writeBuffer
-          answers-0 l b q = (sym (is-0 l), q ∙ ap (λ (x : List ℕ). put buffer 0 x) bytes-are ∙ rw (eq-eqb answer 0 (is-0 l)))
-
--- of words that a caller lends
-pub too-few : (e : ℕ) (a : Attributes) (src ws buffer : List ℕ) → length ws < 56
-    → (42 ≡ writeWordsAnswer e a src ws (length buffer)) × (buffer ≡ writeWordsBuffer e a src ws buffer)
-unfolding writeWordsAnswer writeWordsBuffer
-too-few e a src ws buffer h = rw (lt-leb 56 (length ws) h) (refl, refl)
-
-pub enough : (e : ℕ) (a : Attributes) (src ws buffer b : List ℕ) (r : ℕ) → 56 ≤ length ws → r ≡ writeAnswer editions e a src (take 56 ws) (length buffer)
-    → b ≡ writeBuffer editions e a src (take 56 ws) buffer → (r ≡ writeWordsAnswer e a src ws (length buffer)) × (b ≡ writeWordsBuffer e a src ws buffer)
-unfolding writeWordsAnswer writeWordsBuffer
-enough e a src ws buffer b r h p q = rw (le-leb 56 (length ws) h) (p, q)
+  pub enough : allowed editions e ≡ true → valueWords ≤ length ws → (r : ℕ) (b : List ℕ) → r ≡ writeAnswer editions e a src (take valueWords ws) (length buffer)
+      → b ≡ writeBuffer editions e a src (take valueWords ws) buffer → Lent r b
+  unfolding writeWordsAnswer writeWordsBuffer
+  enough f h r b p q = rw (f, le-leb valueWords (length ws) h) (p, q)

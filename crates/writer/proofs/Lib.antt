@@ -1,11 +1,1 @@
-pub mod Laws
-pub mod Fitting
-pub mod Tests
-pub mod Tried
-pub mod Puts
-pub mod Turns
-pub mod Putting
-pub mod Measuring
-pub mod Spare
-pub mod Records
 pub mod Answers

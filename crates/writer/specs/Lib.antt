@@ -1,5 +1,2 @@
-pub mod Tellings
-pub mod Forms
-pub mod Tries
-pub mod Measures
 pub mod Writer
+pub mod Known

@@ -1,4 +1,4 @@
--- `fields::filled_length` meets its contract. Assumes nothing.
+-- `fields::filled_length` meets its contract: by the size of the stack, 0 or not. Assumes nothing.
 use borrow.Author.Tests.{eq-eqb, ne-eqb}
 use Rattle.meaning.specs.Bytes.{num}
 use Rattle.meaning.specs.Items.{span, part}

@@ -1,12 +1,12 @@
--- `fields::step` meets its contract. Assumes nothing.
+-- `fields::step` meets its contract: a refusal and a switch that is off change nothing; else each arm cites the step of its shape. Assumes nothing.
 use denote.Ref.{now}
 use mathlib.Core.Path.{_≡_, sym, _∙_}
 use lib.ListN.{drop}
 use borrow.Author.Tests.{not-true, not-false}
 use Rattle.meaning.specs.declared.Shape.{Shape}
 use Rattle.meaning.specs.Items.{shapeStep, step}
-use Rattle.fields.specs.Walks.{step-refused, step-off}
-use Rattle.fields.proofs.Laws.{step-is}
+use Rattle.laws.specs.Walks.{step-refused, step-off}
+use Rattle.laws.specs.Shapes.{step-is}
 use borrow.Author.Needs.{needs}
 use Rattle.fields.proofs.step.Statement.{statement}
 use Rattle.fields.proofs.step.Tie as tie
@@ -28,90 +28,6 @@ returns-2 : tie.Need-returns-2
 returns-2 c =
     let a = c .before .before .before .args in
     sym (step-off (now (a .s)) (a .i) (a .c) (not-true _ (c .if2 .taken)))
-
-enum-known-shape : tie.Need-enum-known-shape
-enum-known-shape c = search needs
-
-number-requires : tie.Need-number-requires
-number-requires c κs = search needs
-
-enum-known-shape-2 : tie.Need-enum-known-shape-2
-enum-known-shape-2 c = search needs
-
-ignored-requires : tie.Need-ignored-requires
-ignored-requires c κs = search needs
-
-enum-known-shape-3 : tie.Need-enum-known-shape-3
-enum-known-shape-3 c = search needs
-
-count-requires : tie.Need-count-requires
-count-requires c κs = search needs
-
-enum-known-shape-4 : tie.Need-enum-known-shape-4
-enum-known-shape-4 c = search needs
-
-sized-requires : tie.Need-sized-requires
-sized-requires c κs = search needs
-
-enum-known-shape-5 : tie.Need-enum-known-shape-5
-enum-known-shape-5 c = search needs
-
-times-requires : tie.Need-times-requires
-times-requires c κs = search needs
-
-enum-known-shape-6 : tie.Need-enum-known-shape-6
-enum-known-shape-6 c = search needs
-
-earlier-requires : tie.Need-earlier-requires
-earlier-requires c κs = search needs
-
-enum-told : tie.Need-enum-told
-enum-told c = search needs
-
-registers-requires : tie.Need-registers-requires
-registers-requires c κs = search needs
-
-enum-told-2 : tie.Need-enum-told-2
-enum-told-2 c = search needs
-
-filled-requires : tie.Need-filled-requires
-filled-requires c κs = search needs
-
-enum-known-shape-7 : tie.Need-enum-known-shape-7
-enum-known-shape-7 c = search needs
-
-abi-requires : tie.Need-abi-requires
-abi-requires c κs = search needs
-
-enum-known-shape-8 : tie.Need-enum-known-shape-8
-enum-known-shape-8 c = search needs
-
-limit-requires : tie.Need-limit-requires
-limit-requires c κs = search needs
-
-enum-known-shape-9 : tie.Need-enum-known-shape-9
-enum-known-shape-9 c = search needs
-
-listed-requires : tie.Need-listed-requires
-listed-requires c κs = search needs
-
-enum-known-shape-10 : tie.Need-enum-known-shape-10
-enum-known-shape-10 c = search needs
-
-bytes-requires : tie.Need-bytes-requires
-bytes-requires c κs = search needs
-
-enum-told-3 : tie.Need-enum-told-3
-enum-told-3 c = search needs
-
-pad-requires : tie.Need-pad-requires
-pad-requires c κs = search needs
-
-enum-told-4 : tie.Need-enum-told-4
-enum-told-4 c = search needs
-
-name-requires : tie.Need-name-requires
-name-requires c κs = search needs
 
 returns-3 : tie.Need-returns-3
 returns-3 c = c .number .ensures ∙ chosen (c .before .before .before .before) _ (c .before .before .shape .given .1)
@@ -161,34 +77,34 @@ step-spec =
     (tie.spec
     returns
     returns-2
-    enum-known-shape
-    number-requires
-    enum-known-shape-2
-    ignored-requires
-    enum-known-shape-3
-    count-requires
-    enum-known-shape-4
-    sized-requires
-    enum-known-shape-5
-    times-requires
-    enum-known-shape-6
-    earlier-requires
-    enum-told
-    registers-requires
-    enum-told-2
-    filled-requires
-    enum-known-shape-7
-    abi-requires
-    enum-known-shape-8
-    limit-requires
-    enum-known-shape-9
-    listed-requires
-    enum-known-shape-10
-    bytes-requires
-    enum-told-3
-    pad-requires
-    enum-told-4
-    name-requires
+    (λ c. search needs)
+    (λ c κs. search needs)
+    (λ c. search needs)
+    (λ c κs. search needs)
+    (λ c. search needs)
+    (λ c κs. search needs)
+    (λ c. search needs)
+    (λ c κs. search needs)
+    (λ c. search needs)
+    (λ c κs. search needs)
+    (λ c. search needs)
+    (λ c κs. search needs)
+    (λ c. search needs)
+    (λ c κs. search needs)
+    (λ c. search needs)
+    (λ c κs. search needs)
+    (λ c. search needs)
+    (λ c κs. search needs)
+    (λ c. search needs)
+    (λ c κs. search needs)
+    (λ c. search needs)
+    (λ c κs. search needs)
+    (λ c. search needs)
+    (λ c κs. search needs)
+    (λ c. search needs)
+    (λ c κs. search needs)
+    (λ c. search needs)
+    (λ c κs. search needs)
     returns-3
     returns-4
     returns-5

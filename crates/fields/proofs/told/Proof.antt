@@ -1,4 +1,4 @@
--- `fields::told` meets its contract. Assumes nothing.
+-- `fields::told` meets its contract: an item that is accepted has its bytes, and each arm tells the words of its shape. Assumes nothing.
 use mathlib.Core.Path.{sym, ap, _∙_}
 use mathlib.Core.List.{List, [], _∷_}
 use Prim.Native.Nat.{ℕ}
@@ -15,132 +15,45 @@ use borrow.Author.Needs.{needs}
 use Rattle.fields.proofs.told.Statement.{statement}
 use Rattle.fields.proofs.told.Tie as tie
 
-words-of-requires : tie.Need-words-of-requires
-words-of-requires c κs = search needs
-
 returns : tie.Need-returns
 returns c =
     let a = c .before .before .before .args in
     told-off (now (a .s)) (a .i) (a .c) _ (not-true _ (c .before .if1 .taken)) (c .words-of .ensures .0)
-
-enum-known-shape : tie.Need-enum-known-shape
-enum-known-shape c = search needs
 
 word-at-requires : tie.Need-word-at-requires
 word-at-requires c κs =
     let a = c .before .before .before .before .before .args in
     has-number (now (a .s)) (a .i) (a .c) (c .before .before .before .before .before .pre) (not-false _ (c .before .before .before .if1 .left)) _ (c .before .shape .given .1)
 
-one-word-requires : tie.Need-one-word-requires
-one-word-requires c κs = search needs
-
-enum-told : tie.Need-enum-told
-enum-told c = search needs
-
-no-word-requires : tie.Need-no-word-requires
-no-word-requires c κs = search needs
-
-enum-known-shape-2 : tie.Need-enum-known-shape-2
-enum-known-shape-2 c = search needs
-
 word-at-requires-2 : tie.Need-word-at-requires-2
 word-at-requires-2 c κs =
     let a = c .before .before .before .before .before .args in
     has-count (now (a .s)) (a .i) (a .c) (c .before .before .before .before .before .pre) (not-false _ (c .before .before .before .if1 .left)) _ (c .before .shape2 .given .1)
-
-one-word-requires-2 : tie.Need-one-word-requires-2
-one-word-requires-2 c κs = search needs
-
-enum-known-shape-3 : tie.Need-enum-known-shape-3
-enum-known-shape-3 c = search needs
 
 word-at-requires-3 : tie.Need-word-at-requires-3
 word-at-requires-3 c κs =
     let a = c .before .before .before .before .before .args in
     has-size (now (a .s)) (a .i) (a .c) (c .before .before .before .before .before .pre) (not-false _ (c .before .before .before .if1 .left)) _ (c .before .shape3 .given .1)
 
-one-word-requires-3 : tie.Need-one-word-requires-3
-one-word-requires-3 c κs = search needs
-
-enum-told-2 : tie.Need-enum-told-2
-enum-told-2 c = search needs
-
-one-word-requires-4 : tie.Need-one-word-requires-4
-one-word-requires-4 c κs = search needs
-
-enum-told-3 : tie.Need-enum-told-3
-enum-told-3 c = search needs
-
-one-word-requires-5 : tie.Need-one-word-requires-5
-one-word-requires-5 c κs = search needs
-
-enum-told-4 : tie.Need-enum-told-4
-enum-told-4 c = search needs
-
-two-words-requires : tie.Need-two-words-requires
-two-words-requires c κs = search needs
-
-enum-told-5 : tie.Need-enum-told-5
-enum-told-5 c = search needs
-
 filled-length-requires : tie.Need-filled-length-requires
 filled-length-requires c κs =
     let a = c .before .before .before .before .args in
     has-filled (now (a .s)) (a .i) (a .c) (c .before .before .before .before .pre) (not-false _ (c .before .before .if1 .left)) (c .enum-told5 .given .1)
-
-one-word-requires-6 : tie.Need-one-word-requires-6
-one-word-requires-6 c κs = search needs
-
-enum-told-6 : tie.Need-enum-told-6
-enum-told-6 c = search needs
 
 u64-at-requires : tie.Need-u64-at-requires
 u64-at-requires c κs =
     let a = c .before .before .before .before .args in
     has-abi (now (a .s)) (a .i) (a .c) (c .before .before .before .before .pre) (not-false _ (c .before .before .if1 .left)) _ (c .enum-told6 .given .1)
 
-one-word-requires-7 : tie.Need-one-word-requires-7
-one-word-requires-7 c κs = search needs
-
-enum-told-7 : tie.Need-enum-told-7
-enum-told-7 c = search needs
-
 u8-at-requires : tie.Need-u8-at-requires
 u8-at-requires c κs =
     let a = c .before .before .before .before .args in
     has-limit (now (a .s)) (a .i) (a .c) (c .before .before .before .before .pre) (not-false _ (c .before .before .if1 .left)) _ (c .enum-told7 .given .1)
 
-one-word-requires-8 : tie.Need-one-word-requires-8
-one-word-requires-8 c κs = search needs
-
-enum-told-8 : tie.Need-enum-told-8
-enum-told-8 c = search needs
-
-one-word-requires-9 : tie.Need-one-word-requires-9
-one-word-requires-9 c κs = search needs
-
-enum-known-shape-4 : tie.Need-enum-known-shape-4
-enum-known-shape-4 c = search needs
-
-two-words-requires-2 : tie.Need-two-words-requires-2
-two-words-requires-2 c κs = search needs
-
-enum-told-9 : tie.Need-enum-told-9
-enum-told-9 c = search needs
-
-no-word-requires-2 : tie.Need-no-word-requires-2
-no-word-requires-2 c κs = search needs
-
-enum-told-10 : tie.Need-enum-told-10
-enum-told-10 c = search needs
-
 name-length-requires : tie.Need-name-length-requires
 name-length-requires c κs =
     let a = c .before .before .before .before .args in
     has-name (now (a .s)) (a .i) (a .c) (c .before .before .before .before .pre) (not-false _ (c .before .before .if1 .left)) (c .enum-told10 .given .1)
-
-two-words-requires-3 : tie.Need-two-words-requires-3
-two-words-requires-3 c κs = search needs
 
 returns-2 : tie.Need-returns-2
 unfolding tell slotShape part span
@@ -231,43 +144,43 @@ pub told-spec : {M : Type 1} → statement M
 told-spec =
     tie.close
     (tie.spec
-    words-of-requires
+    (λ c κs. search needs)
     returns
-    enum-known-shape
+    (λ c. search needs)
     word-at-requires
-    one-word-requires
-    enum-told
-    no-word-requires
-    enum-known-shape-2
+    (λ c κs. search needs)
+    (λ c. search needs)
+    (λ c κs. search needs)
+    (λ c. search needs)
     word-at-requires-2
-    one-word-requires-2
-    enum-known-shape-3
+    (λ c κs. search needs)
+    (λ c. search needs)
     word-at-requires-3
-    one-word-requires-3
-    enum-told-2
-    one-word-requires-4
-    enum-told-3
-    one-word-requires-5
-    enum-told-4
-    two-words-requires
-    enum-told-5
+    (λ c κs. search needs)
+    (λ c. search needs)
+    (λ c κs. search needs)
+    (λ c. search needs)
+    (λ c κs. search needs)
+    (λ c. search needs)
+    (λ c κs. search needs)
+    (λ c. search needs)
     filled-length-requires
-    one-word-requires-6
-    enum-told-6
+    (λ c κs. search needs)
+    (λ c. search needs)
     u64-at-requires
-    one-word-requires-7
-    enum-told-7
+    (λ c κs. search needs)
+    (λ c. search needs)
     u8-at-requires
-    one-word-requires-8
-    enum-told-8
-    one-word-requires-9
-    enum-known-shape-4
-    two-words-requires-2
-    enum-told-9
-    no-word-requires-2
-    enum-told-10
+    (λ c κs. search needs)
+    (λ c. search needs)
+    (λ c κs. search needs)
+    (λ c. search needs)
+    (λ c κs. search needs)
+    (λ c. search needs)
+    (λ c κs. search needs)
+    (λ c. search needs)
     name-length-requires
-    two-words-requires-3
+    (λ c κs. search needs)
     returns-2
     returns-3
     returns-4

@@ -1,3 +1,4 @@
+-- 41 and 12 are asked before anything is written; then each turn puts one byte more of the name, and the zero comes last.
 use mathlib.Core.Path.{_≡_, ap, _∙_}
 use mathlib.Core.List.{List}
 use Prim.Native.Nat.{ℕ, _+_, _-_, _<_, _≤_}
@@ -9,7 +10,7 @@ use borrow.Author.Tests.{lt-ltb, le-ltb}
 use lib.ListN.{length-drop}
 use lib.Seq.{length-take-le}
 use Rattle.meaning.specs.Bytes.{put}
-use Rattle.wire.proofs.Laws.{put-snoc}
+use Rattle.laws.specs.Put.{put-snoc}
 use Rattle.meaning.specs.Refusals.{first}
 use Rattle.meaning.specs.Names.{nameAnswer, nameBuffer}
 use Rattle.names.proofs.copy_name.Statement.{statement}
@@ -21,9 +22,6 @@ returns c =
     let a = c .before .before .before .args in
     let h : length (now (a .bytes)) < a .place + a .count = omega arith in
     (simp (lt-ltb _ _ h), simp (lt-ltb _ _ h))
-
-sub-if2 : tie.Need-sub-if2
-sub-if2 c = search needs
 
 returns-2 : tie.Need-returns-2
 unfolding nameBuffer nameAnswer first
@@ -39,27 +37,6 @@ returns-3 c =
     let h : a .place + a .count ≤ length (now (a .bytes)) = omega arith in
     let k : length (now (a .buffer)) < a .count + 1 = omega arith in
     (simp (le-ltb _ _ h, lt-ltb _ _ k), simp (le-ltb _ _ h, lt-ltb _ _ k))
-
-add-copy-at : tie.Need-add-copy-at
-add-copy-at c = search needs
-
-sub-copy-at : tie.Need-sub-copy-at
-sub-copy-at c = search needs
-
-part-copy-at-start : tie.Need-part-copy-at-start
-part-copy-at-start c = search needs
-
-part-copy-at-end : tie.Need-part-copy-at-end
-part-copy-at-end c = search needs
-
-copy-at-requires : tie.Need-copy-at-requires
-copy-at-requires c κs = search needs
-
-slice-write-buffer : tie.Need-slice-write-buffer
-slice-write-buffer c = search needs
-
-same-length : tie.Need-same-length
-same-length c = search needs
 
 returns-4 : tie.Need-returns-4
 unfolding nameBuffer nameAnswer first
@@ -84,14 +61,14 @@ copy-name-spec =
     tie.close
     (tie.spec
     returns
-    sub-if2
+    (λ c. search needs)
     returns-2
     returns-3
-    add-copy-at
-    sub-copy-at
-    part-copy-at-start
-    part-copy-at-end
-    copy-at-requires
-    slice-write-buffer
-    same-length
+    (λ c. search needs)
+    (λ c. search needs)
+    (λ c. search needs)
+    (λ c. search needs)
+    (λ c κs. search needs)
+    (λ c. search needs)
+    (λ c. search needs)
     returns-4)

@@ -1,3 +1,4 @@
+-- The attributes are those that C gives, and the rest is the contract of `fast_drain::drain`.
 use mathlib.Core.Path.{ap, _∙_}
 use denote.Ref.{now}
 use borrow.Author.Needs.{needs}
@@ -6,18 +7,6 @@ use Rattle.meaning.specs.Editions.{editions}
 use Rattle.meaning.specs.Drain.{End, told, drain}
 use Rattle.ollskuvan.proofs.ollskuvan_drain.Statement.{statement}
 use Rattle.ollskuvan.proofs.ollskuvan_drain.Tie as tie
-
-attributes-requires : tie.Need-attributes-requires
-attributes-requires c κs = search needs
-
-drain-requires : tie.Need-drain-requires
-drain-requires c κs = search needs
-
-same-length : tie.Need-same-length
-same-length c = search needs
-
-same-length-2 : tie.Need-same-length-2
-same-length-2 c = search needs
 
 returns : tie.Need-returns
 returns c =
@@ -28,4 +17,4 @@ returns c =
 
 pub ollskuvan-drain-spec : {M : Type 1} → statement M
 ollskuvan-drain-spec =
-    tie.close (tie.spec attributes-requires drain-requires same-length same-length-2 returns)
+    tie.close (tie.spec (λ c κs. search needs) (λ c κs. search needs) (λ c. search needs) (λ c. search needs) returns)

@@ -1,3 +1,4 @@
+-- The attributes are those that C gives, and the rest is the contract of `record::read_into`.
 use mathlib.Core.Path.{ap, _∙_}
 use denote.Ref.{now}
 use borrow.Author.Needs.{needs}
@@ -6,18 +7,6 @@ use Rattle.meaning.specs.Editions.{editions}
 use Rattle.record.specs.Into.{readIntoAnswer, readIntoWords}
 use Rattle.ollskuvan.proofs.ollskuvan_read.Statement.{statement}
 use Rattle.ollskuvan.proofs.ollskuvan_read.Tie as tie
-
-attributes-requires : tie.Need-attributes-requires
-attributes-requires c κs = search needs
-
-read-into-requires : tie.Need-read-into-requires
-read-into-requires c κs = search needs
-
-cast-result : tie.Need-cast-result
-cast-result c = search needs
-
-same-length : tie.Need-same-length
-same-length c = search needs
 
 returns : tie.Need-returns
 returns c =
@@ -30,4 +19,4 @@ returns c =
 
 pub ollskuvan-read-spec : {M : Type 1} → statement M
 ollskuvan-read-spec =
-    tie.close (tie.spec attributes-requires read-into-requires cast-result same-length returns)
+    tie.close (tie.spec (λ c κs. search needs) (λ c κs. search needs) (λ c. search needs) (λ c. search needs) returns)

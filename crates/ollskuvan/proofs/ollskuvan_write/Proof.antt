@@ -1,3 +1,4 @@
+-- `ollskuvan::ollskuvan_write` meets its contract: the attributes are those given, and the rest is `writer::write`. Assumes nothing.
 use mathlib.Core.Path.{ap, _∙_}
 use lib.ListN.{length}
 use denote.Ref.{now}
@@ -6,18 +7,6 @@ use Rattle.meaning.specs.declared.Attributes.{Attributes}
 use Rattle.writer.specs.Writer.{writeWordsAnswer, writeWordsBuffer}
 use Rattle.ollskuvan.proofs.ollskuvan_write.Statement.{statement}
 use Rattle.ollskuvan.proofs.ollskuvan_write.Tie as tie
-
-attributes-requires : tie.Need-attributes-requires
-attributes-requires c κs = search needs
-
-write-requires : tie.Need-write-requires
-write-requires c κs = search needs
-
-cast-result : tie.Need-cast-result
-cast-result c = search needs
-
-same-length : tie.Need-same-length
-same-length c = search needs
 
 returns : tie.Need-returns
 returns c =
@@ -30,4 +19,4 @@ returns c =
 
 pub ollskuvan-write-spec : {M : Type 1} → statement M
 ollskuvan-write-spec =
-    tie.close (tie.spec attributes-requires write-requires cast-result same-length returns)
+    tie.close (tie.spec (λ c κs. search needs) (λ c κs. search needs) (λ c. search needs) (λ c. search needs) returns)

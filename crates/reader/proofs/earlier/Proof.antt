@@ -1,3 +1,4 @@
+-- `reader::earlier` meets its contract: by the first refusal. Assumes nothing.
 use borrow.Author.Tests.{eq-eqb, ne-eqb}
 use Rattle.reader.proofs.earlier.Statement.{statement}
 use Rattle.reader.proofs.earlier.Tie as tie

@@ -1,3 +1,4 @@
+-- `reader::header_of` meets its contract: field by field. Assumes nothing.
 use mathlib.Core.Path.{ap, _∙_}
 use Prim.Native.Nat.{ℕ}
 use borrow.Author.Needs.{needs}
@@ -6,12 +7,6 @@ use Rattle.reader.specs.declared.Header.{Header}
 use Rattle.reader.proofs.header_of.Statement.{statement}
 use Rattle.reader.proofs.header_of.Tie as tie
 
-earlier-requires : tie.Need-earlier-requires
-earlier-requires c κs = search needs
-
-earlier-requires-2 : tie.Need-earlier-requires-2
-earlier-requires-2 c κs = search needs
-
 returns : tie.Need-returns
 returns c =
     let a = c .before .before .args in
@@ -19,4 +14,4 @@ returns c =
     (c .earlier2 .ensures ∙ ap (orElse (a .kind .why)) (c .before .earlier .ensures))
 
 pub header-of-spec : {M : Type 1} → statement M
-header-of-spec = tie.close (tie.spec earlier-requires earlier-requires-2 returns)
+header-of-spec = tie.close (tie.spec (λ c κs. search needs) (λ c κs. search needs) returns)

@@ -1,3 +1,4 @@
+-- `record::read` meets its contract: the words of an accepted record are those of the definition; else zeros. Assumes nothing.
 use mathlib.Core.Path.{sym, _∙_}
 use denote.Ref.{now}
 use Rattle.meaning.specs.Editions.{editions}
@@ -5,9 +6,6 @@ use Rattle.record.proofs.Readers.{check-accepts, read-accepted, read-re
 use borrow.Author.Needs.{needs}
 use Rattle.record.proofs.read.Statement.{statement}
 use Rattle.record.proofs.read.Tie as tie
-
-check-requires : tie.Need-check-requires
-check-requires c κs = search needs
 
 of-record-requires : tie.Need-of-record-requires
 of-record-requires c κs = let a = c .before .before .before .args in check-accepts editions (a .e) (a .a) (now (a .r)) (sym (c .before .check .ensures) ∙ c .if1 .taken)
@@ -19,4 +17,4 @@ returns-2 : tie.Need-returns-2
 returns-2 c = let a = c .before .before .before .args in read-refused editions (a .e) (a .a) (now (a .r)) _ (c .before .check .ensures) (c .if1 .left)
 
 pub read-spec : {M : Type 1} → statement M
-read-spec = tie.close (tie.spec check-requires of-record-requires returns returns-2)
+read-spec = tie.close (tie.spec (λ c κs. search needs) of-record-requires returns returns-2)

@@ -1,3 +1,4 @@
+-- `record::read_into` meets its contract: refused and too few words leave them; else they are copied. Assumes nothing.
 use mathlib.Core.Path.{sym, _∙_}
 use denote.Ref.{now}
 use Rattle.meaning.specs.Editions.{editions}
@@ -5,9 +6,6 @@ use Rattle.record.proofs.Readers.{check-accepts, into-refused, into-sho
 use borrow.Author.Needs.{needs}
 use Rattle.record.proofs.read_into.Statement.{statement}
 use Rattle.record.proofs.read_into.Tie as tie
-
-check-requires : tie.Need-check-requires
-check-requires c κs = search needs
 
 returns : tie.Need-returns
 returns c = let a = c .before .before .before .before .args in into-refused editions (a .e) (a .a) (now (a .r)) _ (c .before .check .ensures) (now (a .words)) (c .if1 .taken)
@@ -18,15 +16,6 @@ returns-2 c = let a = c .before .before .before .before .before .args in into-sh
 of-record-requires : tie.Need-of-record-requires
 of-record-requires c κs = let a = c .before .before .before .before .before .args in check-accepts editions (a .e) (a .a) (now (a .r)) (sym (c .before .before .check .ensures) ∙ c .before .if1 .left)
 
-slice-aggregate-copy : tie.Need-slice-aggregate-copy
-slice-aggregate-copy c = search needs
-
-copy-requires : tie.Need-copy-requires
-copy-requires c κs = search needs
-
-same-length : tie.Need-same-length
-same-length c = search needs
-
 returns-3 : tie.Need-returns-3
 returns-3 c =
     let a = c .before .before .before .before .before .before .before .before .before .before .before .args in
@@ -36,11 +25,11 @@ pub read-into-spec : {M : Type 1} → statement M
 read-into-spec =
     tie.close
     (tie.spec
-    check-requires
+    (λ c κs. search needs)
     returns
     returns-2
     of-record-requires
-    slice-aggregate-copy
-    copy-requires
-    same-length
+    (λ c. search needs)
+    (λ c κs. search needs)
+    (λ c. search needs)
     returns-3)

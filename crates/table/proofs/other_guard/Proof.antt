@@ -1,3 +1,4 @@
+-- `table::other_guard` meets its contract: by the arms of the `match`, each an entry of the list of guards. Assumes nothing.
 use mathlib.Core.Path.{ap, ap₂}
 use mathlib.Core.Bool.{Bool, false, not, _&&_, _||_}
 use Rattle.table.specs.Rows.{guards}
@@ -5,45 +6,6 @@ use Rattle.table.proofs.Laws.{key, past}
 use borrow.Author.Needs.{needs}
 use Rattle.table.proofs.other_guard.Statement.{statement}
 use Rattle.table.proofs.other_guard.Tie as tie
-
-has-bit-requires : tie.Need-has-bit-requires
-has-bit-requires c κs = search needs
-
-has-bit-requires-2 : tie.Need-has-bit-requires-2
-has-bit-requires-2 c κs = search needs
-
-has-bit-requires-3 : tie.Need-has-bit-requires-3
-has-bit-requires-3 c κs = search needs
-
-has-bit-requires-4 : tie.Need-has-bit-requires-4
-has-bit-requires-4 c κs = search needs
-
-has-bit-requires-5 : tie.Need-has-bit-requires-5
-has-bit-requires-5 c κs = search needs
-
-has-bit-requires-6 : tie.Need-has-bit-requires-6
-has-bit-requires-6 c κs = search needs
-
-has-bit-requires-7 : tie.Need-has-bit-requires-7
-has-bit-requires-7 c κs = search needs
-
-has-bit-requires-8 : tie.Need-has-bit-requires-8
-has-bit-requires-8 c κs = search needs
-
-has-bit-requires-9 : tie.Need-has-bit-requires-9
-has-bit-requires-9 c κs = search needs
-
-has-bit-requires-10 : tie.Need-has-bit-requires-10
-has-bit-requires-10 c κs = search needs
-
-has-bit-requires-11 : tie.Need-has-bit-requires-11
-has-bit-requires-11 c κs = search needs
-
-returns : tie.Need-returns
-returns c = search needs
-
-returns-2 : tie.Need-returns-2
-returns-2 c = search needs
 
 returns-3 : tie.Need-returns-3
 returns-3 c = let a = c .before .before .before .before .args in key (guards (a .a) (a .misc)) false (c .match .keys3) (c .before .has-bit3 .ensures)
@@ -91,19 +53,19 @@ pub other-guard-spec : {M : Type 1} → statement M
 other-guard-spec =
     tie.close
     (tie.spec
-    has-bit-requires
-    has-bit-requires-2
-    has-bit-requires-3
-    has-bit-requires-4
-    has-bit-requires-5
-    has-bit-requires-6
-    has-bit-requires-7
-    has-bit-requires-8
-    has-bit-requires-9
-    has-bit-requires-10
-    has-bit-requires-11
-    returns
-    returns-2
+    (λ c κs. search needs)
+    (λ c κs. search needs)
+    (λ c κs. search needs)
+    (λ c κs. search needs)
+    (λ c κs. search needs)
+    (λ c κs. search needs)
+    (λ c κs. search needs)
+    (λ c κs. search needs)
+    (λ c κs. search needs)
+    (λ c κs. search needs)
+    (λ c κs. search needs)
+    (λ c. search needs)
+    (λ c. search needs)
     returns-3
     returns-4
     returns-5

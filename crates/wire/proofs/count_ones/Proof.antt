@@ -1,3 +1,4 @@
+-- `wire::count_ones` meets its contract: the machine's count is the definition's. Assumes nothing.
 use native.Mathlib.Omega.{arith}
 use lib.Count.{ones-le}
 use Rattle.wire.proofs.Laws.{ones-is}

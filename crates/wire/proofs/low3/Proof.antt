@@ -1,3 +1,4 @@
+-- `wire::low3` meets its contract: a mask of three ones is the remainder by 8. Assumes nothing.
 use lib.Bits.{and-mask}
 use Rattle.wire.proofs.low3.Statement.{statement}
 use Rattle.wire.proofs.low3.Tie as tie

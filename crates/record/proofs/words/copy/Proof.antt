@@ -1,3 +1,4 @@
+-- `record::words::copy` meets its contract: the loop has put the first j words. Assumes nothing.
 use mathlib.Core.Path.{_≡_, refl, sym, ap, _∙_}
 use mathlib.Core.List.{List}
 use Prim.Native.Nat.{ℕ, _-_, _<_, _≤_}
@@ -9,7 +10,7 @@ use lib.Seq.{length-take-le, take-suc, take-length}
 use denote.Ref.{now}
 use borrow.Author.Needs.{needs}
 use Rattle.meaning.specs.Bytes.{put}
-use Rattle.wire.proofs.Laws.{put-nil, put-snoc}
+use Rattle.laws.specs.Put.{put-nil, put-snoc}
 use Rattle.record.proofs.words.copy.Statement.{statement}
 use Rattle.record.proofs.words.copy.Tie as tie
 
@@ -22,14 +23,8 @@ abbrev μ-loop : tie.MeasureT-loop
 loop-holds : tie.Need-loop-holds Inv-loop μ-loop
 loop-holds c = (sym (put-nil (now (c .args .dst)) 0 (omega arith)), omega arith, refl)
 
-mul-dst : tie.Need-mul-dst Inv-loop μ-loop
-mul-dst c = search needs
-
 shared-slice-read-dst : tie.Need-shared-slice-read-dst Inv-loop μ-loop
 shared-slice-read-dst c = omega arith
-
-mul-dst-2 : tie.Need-mul-dst-2 Inv-loop μ-loop
-mul-dst-2 c = search needs
 
 slice-write-dst : tie.Need-slice-write-dst Inv-loop μ-loop
 slice-write-dst c = omega arith
@@ -55,9 +50,6 @@ loop-again c =
       length-set (l .dst) (l .j) (getD s (l .j) 0) ∙ l .inv .2,
     )
 
-same-length : tie.Need-same-length Inv-loop μ-loop
-same-length c = search needs
-
 returns : tie.Need-returns Inv-loop μ-loop
 returns c =
     let a = c .before .before .args in
@@ -72,12 +64,12 @@ copy-spec =
     Inv-loop
     μ-loop
     loop-holds
-    mul-dst
+    (λ c. search needs)
     shared-slice-read-dst
-    mul-dst-2
+    (λ c. search needs)
     slice-write-dst
     add-j
     loop-less
     loop-again
-    same-length
+    (λ c. search needs)
     returns)

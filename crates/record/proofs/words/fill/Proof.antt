@@ -1,3 +1,4 @@
+-- `record::words::fill` meets its contract: the loop has put the words of the rows so far. Assumes nothing.
 use mathlib.Core.Path.{ap, _∙_}
 use Prim.Native.Nat.{_-_}
 use native.Mathlib.Omega.{arith}
@@ -46,9 +47,6 @@ add-at c =
     let g = filling-room f (now (a .s)) (a .from) (a .to) (a .first) (now (a .out)) (a .start) (l .out) (l .c) (l .k) (l .at) (l .inv) (c .before .before .before .before .before .before .before .loop-test .taken) _ (c .before .before .before .before .before .told .ensures ∙ ap (λ (i : Item). toldOf (tell (i .shape) (slotItem (now (a .s)) i (l .c)))) (c .before .before .before .before .before .before .item-at .ensures)) in
     omega (arith, g .1, l .inv .long, c .before .before .before .before .before .before .before .before .before .before .before .good)
 
-step-requires : tie.Need-step-requires Inv-loop μ-loop
-step-requires c κs = search needs
-
 add-k : tie.Need-add-k Inv-loop μ-loop
 add-k c = omega arith
 
@@ -84,7 +82,7 @@ fill-spec =
     told-requires
     place-requires
     add-at
-    step-requires
+    (λ c κs. search needs)
     add-k
     loop-less
     loop-again

@@ -1,3 +1,4 @@
+-- `record::words::place` meets its contract: none, one or two words. Assumes nothing.
 use mathlib.Core.Path.{_≡_, sym, ap, _∙_}
 use mathlib.Core.List.{[], _∷_}
 use Prim.Native.Nat.{ℕ}
@@ -5,7 +6,7 @@ use native.Mathlib.Omega.{arith}
 use lib.ListN.{take, length-set}
 use denote.Ref.{now}
 use Rattle.meaning.specs.Bytes.{put}
-use Rattle.wire.proofs.Laws.{put-nil}
+use Rattle.laws.specs.Put.{put-nil}
 use Rattle.record.proofs.Filling.{put-one, put-two}
 use borrow.Author.Needs.{needs}
 use Rattle.record.proofs.words.place.Statement.{statement}
@@ -14,29 +15,11 @@ use Rattle.record.proofs.words.place.Tie as tie
 returns : tie.Need-returns
 returns c = let a = c .before .args in sym (ap (λ (n : ℕ). put (now (a .out)) (a .at) (take n (a .t .first ∷ a .t .second ∷ []))) (c .if1 .taken) ∙ put-nil (now (a .out)) (a .at) (omega arith))
 
-mul-out : tie.Need-mul-out
-mul-out c = search needs
-
-slice-write-out : tie.Need-slice-write-out
-slice-write-out c = search needs
-
-same-length : tie.Need-same-length
-same-length c = search needs
-
 returns-2 : tie.Need-returns-2
 returns-2 c = let a = c .before .before .args in put-one (now (a .out)) (a .at) (a .t .first) (omega arith) ∙ sym (ap (λ (n : ℕ). put (now (a .out)) (a .at) (take n (a .t .first ∷ a .t .second ∷ []))) (c .if2 .taken))
 
-add-out : tie.Need-add-out
-add-out c = search needs
-
-mul-out-2 : tie.Need-mul-out-2
-mul-out-2 c = search needs
-
 slice-write-out-2 : tie.Need-slice-write-out-2
 slice-write-out-2 c = let a = c .before .before .args in omega (arith, length-set (now (a .out)) (a .at) (a .t .first))
-
-same-length-2 : tie.Need-same-length-2
-same-length-2 c = search needs
 
 returns-3 : tie.Need-returns-3
 returns-3 c =
@@ -50,12 +33,12 @@ place-spec =
     tie.close
     (tie.spec
     returns
-    mul-out
-    slice-write-out
-    same-length
+    (λ c. search needs)
+    (λ c. search needs)
+    (λ c. search needs)
     returns-2
-    add-out
-    mul-out-2
+    (λ c. search needs)
+    (λ c. search needs)
     slice-write-out-2
-    same-length-2
+    (λ c. search needs)
     returns-3)

@@ -1,0 +1,84 @@
+/*
+ * Record check in careful C: the frame, then 20 to 24 and the sums of this
+ * record's type alone. The pieces are careful.c's; they are compiled once more
+ * here, so that the drain's own code stays as it is.
+ */
+#define careful_drain careful_drain_not_used
+#define careful_once_drain careful_once_drain_not_used
+#include "careful.c"
+
+#include "kinds.h"
+
+static uint32_t refused(uint32_t type, uint32_t edition, uint64_t sample_type, uint64_t read_format, bool id_all)
+{
+    if (type == 0 || type > last_type[edition])
+        return 20;
+    if (sample_type >> (last_bit[edition] + 1) != 0 && (type == 9 || id_all))
+        return 21;
+    if (read_format >> 4 != 0 && (type == 8 || (type == 9 && bit(sample_type, 4))))
+        return 22;
+    if (type == 9 && bit(sample_type, 14) && bit(sample_type, 24))
+        return 24;
+    return 0;
+}
+
+static uint32_t sized(uint64_t size, uint64_t want)
+{
+    return size == want ? 0 : size < want ? 30 : 31;
+}
+
+static void read_sums(struct plan *p, uint64_t read_format)
+{
+    p->read_words = 8 + words(read_format & 3);
+    p->read_entry = 0;
+    if (bit(read_format, 3))
+        p->read_entry = bit(read_format, 2) ? 16 : 8;
+    else
+        p->read_words += words(read_format & 4);
+}
+
+uint32_t careful_check(const uint8_t *record, size_t record_len, uint64_t sample_type, uint64_t read_format,
+    uint32_t sample_id_all, uint64_t user_mask, uint64_t interrupt_mask, uint32_t edition)
+{
+    if (edition - 1 > 2)
+        return 2;
+    if (record_len < HEADER)
+        return 7;
+    uint64_t size = load16(record + 6);
+    if (size < HEADER || size % 8 != 0)
+        return 6;
+    if (size != record_len)
+        return 7;
+    uint32_t type = load32(record);
+    uint32_t why = refused(type, edition, sample_type, read_format, sample_id_all != 0);
+    if (why != 0)
+        return why;
+    struct plan p;
+    if (type == 9) {
+        if (bit(sample_type, 4))
+            read_sums(&p, read_format);
+        else
+            p.read_entry = p.read_words = 0;
+        p.user = bit(sample_type, 12) ? words(user_mask) : 0;
+        p.interrupt = bit(sample_type, 18) ? words(interrupt_mask) : 0;
+        make_sample(&p, sample_type, read_format);
+        return p.form[9] == FORM_FIXED ? sized(size, p.want[9]) : judge_sample(&p, record, size);
+    }
+    p.trailer = sample_id_all != 0 ? words(sample_type & OLLSKUVAN_TRAILER_BITS) : 0;
+    if (fixed_size[type] != 0)
+        return sized(size, fixed_size[type] + p.trailer);
+    if (name_start[type] != 0) {
+        p.form[type] = type == 10 ? FORM_MMAP2 : FORM_NAME;
+        p.from[type] = name_start[type];
+        p.build_id_known = edition == 3;
+        return judge(&p, record, type, load16(record + 4), size);
+    }
+    p.form[type] = type == 16 ? FORM_NAMESPACES : FORM_TEXT_POKE;
+    if (type == 8) {
+        read_sums(&p, read_format);
+        if (p.read_entry == 0)
+            return sized(size, HEADER + 8 + p.read_words + p.trailer);
+        p.form[8] = FORM_READ;
+    }
+    return judge_seldom(&p, record, type, size);
+}

@@ -1,0 +1,31 @@
+-- Four bytes, each compared with zero.
+use borrow.Author.Needs.{needs}
+use Prim.Native.Nat.{_-_}
+use denote.Ref.{now}
+use Rattle.blocks.specs.ScanLaws.{four}
+use Rattle.blocks.proofs.scan.zero4.Statement.{statement}
+use Rattle.blocks.proofs.scan.zero4.Tie as tie
+
+-- src/lib.rt:11:6
+-- src/lib.rt:11:24
+-- src/lib.rt:11:22
+-- src/lib.rt:11:44
+-- src/lib.rt:11:42
+-- src/lib.rt:11:63
+-- src/lib.rt:11:61
+-- src/lib.rt:7:1
+returns : tie.Need-returns
+returns c = let a = c .before .before .before .before .args in four (now (a .s)) (a .at)
+
+pub zero4-spec : {M : Type 1} → statement M
+zero4-spec =
+    tie.close
+    (tie.spec
+    (λ c. search needs)
+    (λ c. search needs)
+    (λ c. search needs)
+    (λ c. search needs)
+    (λ c. search needs)
+    (λ c. search needs)
+    (λ c. search needs)
+    returns)

@@ -1,0 +1,4 @@
+pub mod Sums
+pub mod Judged
+pub mod Marks
+pub mod Bases

@@ -1,0 +1,85 @@
+// The exact answer for a record's bytes, by its type's mark.
+ghost use mathlib.Core.Path.{_≡_};
+ghost use Prim.Native.Nat.{_%_, _≤_, _<_};
+ghost use lib.ListN.{length};
+ghost use Rattle.meaning.specs.Schema.{schema};
+ghost use Rattle.meaning.specs.Records.{layout, kindOf, judge};
+ghost use Rattle.blocks.specs.Seen.{Closes};
+ghost use Rattle.exact.specs.Stretches.{groupFixed};
+ghost use Rattle.plan.specs.Sums.{sumsOf};
+ghost use Rattle.plan.specs.Marks.{Marked, Counted};
+use crate::marks;
+use meaning::Attributes;
+use meaning::Known;
+
+// READ of a group, NAMESPACES, TEXT_POKE.
+fn counted(f: &[u8], kind: u64, a: Attributes, fixed: usize) -> u16
+    requires { ⌜ 8 ≤ length (now f) ⌝ }
+    requires { ⌜ length (now f) < 65536 ⌝ }
+    requires { ⌜ length (now f) % 8 ≡ 0 ⌝ }
+    requires { ⌜ Counted a kind ⌝ }
+    requires { ⌜ fixed ≡ groupFixed (a .format) ⌝ }
+    ensures { λ r. ⌜ Closes (now (f .entry)) (schema kind 0 a) 8 r ⌝ }
+{
+    if kind == 8 {
+        return exact::types::group_read(f, a.format, fixed);
+    }
+    if kind == 16 {
+        return exact::types::namespaces(f);
+    }
+    exact::types::text_poke(f)
+}
+
+// A mark from OPEN on: a name, a build id, or a count decides.
+fn opened(r: &[u8], kind: u64, mark: u64, known: Known, a: Attributes, sums: &[u64; 8]) -> u16
+    requires { ⌜ 8 ≤ length (now r) ⌝ }
+    requires { ⌜ length (now r) < 65536 ⌝ }
+    requires { ⌜ length (now r) % 8 ≡ 0 ⌝ }
+    requires { ⌜ kind ≡ kindOf (now r) ⌝ }
+    requires { ⌜ Marked known a kind mark ⌝ }
+    requires { ⌜ now sums ≡ sumsOf a ⌝ }
+    requires { ⌜ 65536 ≤ mark ⌝ }
+    requires { ⌜ mark < 131072 ⌝ }
+    requires { ⌜ (mark ≡ 65537 → ⊥) ⌝ }
+    ensures { λ x. ⌜ x ≡ judge (layout known a) (now (r .entry)) ⌝ }
+{
+    let build = (kind == 10) & wire::has_bit(wire::u16_at(r, 4), 14);
+    if build & !known.builds {
+        return 23;
+    }
+    let trail = sums[exact::TRAIL] as usize;
+    if r.len() < 8 + trail {
+        return 30;
+    }
+    let end = r.len() - trail;
+    let f = &r[..end];
+    if build {
+        return exact::types::built(f);
+    }
+    if mark == marks::OPEN {
+        return counted(f, kind, a, sums[exact::GROUP] as usize);
+    }
+    exact::types::named(f, (mark - marks::OPEN) as usize)
+}
+
+// The answer for a record's bytes.
+pub fn judge(r: &[u8], kind: u64, mark: u64, known: Known, a: Attributes, sums: &[u64; 8]) -> u16
+    requires { ⌜ 8 ≤ length (now r) ⌝ }
+    requires { ⌜ length (now r) < 65536 ⌝ }
+    requires { ⌜ length (now r) % 8 ≡ 0 ⌝ }
+    requires { ⌜ kind ≡ kindOf (now r) ⌝ }
+    requires { ⌜ Marked known a kind mark ⌝ }
+    requires { ⌜ now sums ≡ sumsOf a ⌝ }
+    ensures { λ x. ⌜ x ≡ judge (layout known a) (now (r .entry)) ⌝ }
+{
+    if mark < marks::OPEN {
+        return exact::sized(r.len(), mark as usize);
+    }
+    if marks::REFUSED <= mark {
+        return (mark - marks::REFUSED) as u16;
+    }
+    if mark == marks::STRETCHED {
+        return exact::sample::sample(r, a, sums);
+    }
+    opened(r, kind, mark, known, a, sums)
+}

@@ -1,0 +1,16 @@
+-- `spans::registers` meets its contract: goes on as so many elements do. Assumes nothing.
+use denote.Ref.{now}
+use mathlib.Core.Path.{_∙_}
+use lib.ListN.{drop}
+use Rattle.laws.specs.Shapes.{as-registers}
+use borrow.Author.Needs.{needs}
+use Rattle.spans.proofs.registers.Statement.{statement}
+use Rattle.spans.proofs.registers.Tie as tie
+
+returns : tie.Need-returns
+returns c =
+    let a = c .before .before .args in
+    c .elements .ensures ∙ as-registers (a .c) (drop (a .c .at) (now (a .s)))
+
+pub registers-spec : {M : Type 1} → statement M
+registers-spec = tie.close (tie.spec (λ c κs. search needs) returns)

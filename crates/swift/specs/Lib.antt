@@ -1,7 +1,0 @@
-pub mod Seen
-pub mod Steady
-pub mod Blocks
-pub mod Scan
-pub mod ScanLaws
-pub mod Judged
-pub mod Plan

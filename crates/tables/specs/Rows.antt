@@ -1,0 +1,332 @@
+-- Document 01's "Bodies after the header" once more: for each type a record laid out byte by byte, and what it says, by places and bytes as plain
+-- numbers. Then records, slices and rings at the edges of a rule, with their answers. Nothing of `meaning` is used here. Assumes nothing: these are
+-- definitions.
+use Prim.Native.Nat.{ℕ, zero, suc, _+_, _-_, _*_, _/_, _%_, _^_}
+use mathlib.Core.Bool.{Bool, true, false, cond}
+use mathlib.Core.List.{List, [], _∷_, _++_}
+use Rattle.tables.specs.Numbers.{from, spelled, among, word, trailerMask}
+
+-- a word of a value: the number of so many bytes at a place; or this number: a place, a count, or 0 for what is not there
+pub data Told : Type 0 where
+  at : ℕ → ℕ → Told
+  is : ℕ → Told
+
+-- a record of edition 3 that decodes: the high byte of misc, the attributes, the bytes, its words, and the places of ignored bytes
+pub record Row : Type 0 where
+  pub kind : ℕ
+  pub high : ℕ
+  pub sample : ℕ
+  pub format : ℕ
+  pub trails : Bool
+  pub user : ℕ
+  pub interrupt : ℕ
+  pub size : ℕ
+  pub body : List ℕ
+  pub told : List Told
+  pub trail : List Told
+  pub ignored : List ℕ
+
+abbrev row : ℕ → ℕ → ℕ → ℕ → ℕ → List ℕ → List Told → List ℕ → Row
+row kind high sample format size body told ignored =
+    record {
+      kind = kind;
+      high = high;
+      sample = sample;
+      format = format;
+      trails = false;
+      user = 5;
+      interrupt = 8;
+      size = size;
+      body = body;
+      told = told;
+      trail = [];
+      ignored = ignored;
+    }
+
+-- a record of numbers alone: each byte after the header is its own place
+abbrev plain : ℕ → ℕ → List Told → Row
+plain kind size told = row kind 0 0 0 size (from 8 (size - 8)) told []
+
+-- the name "abc" in the last eight bytes; the four after its zero are ignored
+abbrev abc : List ℕ
+abc = 97 ∷ 98 ∷ 99 ∷ 0 ∷ 1 ∷ 2 ∷ 3 ∷ 4 ∷ []
+
+abbrev named : ℕ → ℕ → List Told → Row
+named kind place told = row kind 0 0 0 (place + 8) (from 8 (place - 8) ++ abc) (told ++ (is place ∷ is 3 ∷ [])) (from (place + 4) 4)
+
+-- READ by its format, with what stands behind pid and tid
+abbrev reading : ℕ → ℕ → List ℕ → List Told → Row
+reading format size values told = row 8 0 0 format size (from 8 8 ++ values) (at 8 4 ∷ at 12 4 ∷ told) []
+
+abbrev pub types : List Row
+types =
+    named 1 40 (at 8 4 ∷ at 12 4 ∷ at 16 8 ∷ at 24 8 ∷ at 32 8 ∷ [])  -- MMAP: pid, tid, addr, len, pgoff, name
+    ∷ plain 2 24 (at 8 8 ∷ at 16 8 ∷ [])  -- LOST: id, lost
+    ∷ named 3 16 (at 8 4 ∷ at 12 4 ∷ [])  -- COMM: pid, tid, name
+    ∷ plain 4 32 (at 8 4 ∷ at 12 4 ∷ at 16 4 ∷ at 20 4 ∷ at 24 8 ∷ [])  -- EXIT: pid, ppid, tid, ptid, time
+    ∷ plain 5 32 (at 8 8 ∷ at 16 8 ∷ at 24 8 ∷ [])  -- THROTTLE: time, id, stream id
+    ∷ plain 6 32 (at 8 8 ∷ at 16 8 ∷ at 24 8 ∷ [])  -- UNTHROTTLE
+    ∷ plain 7 32 (at 8 4 ∷ at 12 4 ∷ at 16 4 ∷ at 20 4 ∷ at 24 8 ∷ [])  -- FORK
+    ∷ plain 11 32 (at 8 8 ∷ at 16 8 ∷ at 24 8 ∷ [])  -- AUX: offset, size, flags
+    ∷ plain 12 16 (at 8 4 ∷ at 12 4 ∷ [])  -- ITRACE_START: pid, tid
+    ∷ plain 13 16 (at 8 8 ∷ [])  -- LOST_SAMPLES: lost
+    ∷ plain 14 8 []  -- SWITCH: nothing
+    ∷ plain 15 16 (at 8 4 ∷ at 12 4 ∷ [])  -- SWITCH_CPU_WIDE: pid, tid
+    ∷ row 16 0 0 0 56 (from 8 8 ++ (word 2 ++ from 24 32)) (at 8 4 ∷ at 12 4 ∷ is 2 ∷ is 24 ∷ []) []  -- NAMESPACES: pid, tid, n, two of dev, inode
+    ∷ named 17 24 (at 8 8 ∷ at 16 4 ∷ at 20 2 ∷ at 22 2 ∷ [])  -- KSYMBOL: addr, len, type, flags, name
+    ∷ plain 18 24 (at 8 2 ∷ at 10 2 ∷ at 12 4 ∷ is 16 ∷ is 8 ∷ [])  -- BPF_EVENT: type, flags, id, 8 bytes
+    ∷ named 19 16 (at 8 8 ∷ [])  -- CGROUP: id, name
+    -- TEXT_POKE: addr, old length 3, new length 2, both texts, 7 bytes of padding
+    ∷ row 20 0 0 0 32 (from 8 8 ++ (3 ∷ 0 ∷ 2 ∷ 0 ∷ from 20 12)) (at 8 8 ∷ is 3 ∷ is 2 ∷ is 20 ∷ is 23 ∷ []) (from 25 7)
+    ∷ []
+
+-- MMAP2: maj, min, ino, generation; or, by misc bit 14 (64 in the high byte), a build id of 5 bytes in a room of 20 after 3 reserved ones
+abbrev pub mappings : List Row
+mappings =
+    named 10 72
+    (at 8 4 ∷ at 12 4 ∷ at 16 8 ∷ at 24 8 ∷ at 32 8 ∷ at 40 4 ∷ at 44 4 ∷ at 48 8 ∷ at 56 8 ∷ is 0 ∷ is 0 ∷ at 64 4 ∷ at 68 4 ∷ [])
+    ∷ row 10 64 0 0 80 (from 8 32 ++ (5 ∷ from 41 31) ++ abc)
+    (at 8 4 ∷ at 12 4 ∷ at 16 8 ∷ at 24 8 ∷ at 32 8 ∷ is 0 ∷ is 0 ∷ is 0 ∷ is 0 ∷ is 5 ∷ is 44 ∷ at 64 4 ∷ at 68 4 ∷ is 72 ∷ is 3 ∷ [])
+    (from 41 3 ++ (from 49 15 ++ from 76 4))
+    ∷ []
+
+-- READ: the words are value, n, enabled, running, id, one that is in no record yet, the place of the entries
+abbrev pub readings : List Row
+readings =
+    reading 0 24 (from 16 8) (at 16 8 ∷ is 0 ∷ is 0 ∷ is 0 ∷ is 0 ∷ is 0 ∷ is 0 ∷ [])
+    ∷ reading 1 32 (from 16 16) (at 16 8 ∷ is 0 ∷ at 24 8 ∷ is 0 ∷ is 0 ∷ is 0 ∷ is 0 ∷ [])
+    ∷ reading 2 32 (from 16 16) (at 16 8 ∷ is 0 ∷ is 0 ∷ at 24 8 ∷ is 0 ∷ is 0 ∷ is 0 ∷ [])
+    ∷ reading 4 32 (from 16 16) (at 16 8 ∷ is 0 ∷ is 0 ∷ is 0 ∷ at 24 8 ∷ is 0 ∷ is 0 ∷ [])
+    ∷ reading 7 48 (from 16 32) (at 16 8 ∷ is 0 ∷ at 24 8 ∷ at 32 8 ∷ at 40 8 ∷ is 0 ∷ is 0 ∷ [])
+    ∷ reading 8 48 (word 3 ++ from 24 24) (is 0 ∷ is 3 ∷ is 0 ∷ is 0 ∷ is 0 ∷ is 0 ∷ is 24 ∷ [])
+    ∷ reading 12 56 (word 2 ++ from 24 32) (is 0 ∷ is 2 ∷ is 0 ∷ is 0 ∷ is 0 ∷ is 0 ∷ is 24 ∷ [])
+    ∷ reading 15 72 (word 2 ++ from 24 48) (is 0 ∷ is 2 ∷ at 24 8 ∷ at 32 8 ∷ is 0 ∷ is 0 ∷ is 40 ∷ [])
+    ∷ []
+
+-- SAMPLE with every bit of edition 3 but 14. Numbers to the read value at 80; callchain of 2 at 88; raw of 4 at 112; one branch at 120; two user
+-- registers at 152; a stack of 8 with 7 filled at 176; one interrupt register at 224; aux of 16 at 272
+abbrev sampleBody : List ℕ
+sampleBody =
+    from 8 80
+    ++ (word 2 ++ (from 96 16
+    ++ (4 ∷ 0 ∷ 0 ∷ 0 ∷ from 116 4
+    ++ (word 1 ++ (from 128 24
+    ++ (word 1 ++ (from 160 16
+    ++ (word 8 ++ (from 184 8 ++ (word 7
+    ++ (from 200 24
+    ++ (word 2 ++ (from 232 24
+    ++ (from 0 16
+    ++ (word 16 ++ from 24 16)))))))))))))))
+
+abbrev sampleNumbers : List Told
+sampleNumbers =
+    at 8 8 ∷ at 16 8 ∷ at 24 4 ∷ at 28 4 ∷ at 32 8 ∷ at 40 8 ∷ at 48 8 ∷ at 56 8 ∷ at 64 4 ∷ at 72 8  -- identifier to period
+    ∷ at 80 8 ∷ is 0 ∷ is 0 ∷ is 0 ∷ is 0 ∷ is 0 ∷ is 0  -- the read value
+    ∷ []
+
+abbrev sampleLists : List Told
+sampleLists =
+    is 2 ∷ is 96  -- callchain: n, place
+    ∷ is 4 ∷ is 116  -- raw: size, place
+    ∷ is 1 ∷ is 0 ∷ is 128  -- branches: n, a word that is in no record yet, place
+    ∷ is 1 ∷ is 160 ∷ is 2  -- user registers: abi, place, count
+    ∷ is 8 ∷ is 184 ∷ is 7  -- stack: size, place, filled length
+    ∷ at 200 8 ∷ at 208 8 ∷ at 216 8  -- weight, data source, transaction
+    ∷ is 2 ∷ is 232 ∷ is 1  -- interrupt registers
+    ∷ at 240 8 ∷ at 248 8 ∷ at 256 8 ∷ at 264 8  -- physical address, cgroup, page sizes
+    ∷ is 16 ∷ is 280  -- aux: size, place
+    ∷ []
+
+abbrev pub samples : List Row
+samples =
+    row 9 0 (2 ^ 25 - 1 - 2 ^ 14) 0 296 sampleBody (sampleNumbers ++ sampleLists) (from 68 4)
+    ∷ []
+
+-- a trailer of all its bits behind LOST: pid, tid, time, id, stream id, cpu, identifier
+abbrev pub trailed : List Row
+trailed =
+    record {
+      kind = 2;
+      high = 0;
+      sample = trailerMask;
+      format = 0;
+      trails = true;
+      user = 0;
+      interrupt = 0;
+      size = 72;
+      body = from 8 64;
+      told = at 8 8 ∷ at 16 8 ∷ [];
+      trail = at 24 4 ∷ at 28 4 ∷ at 32 8 ∷ at 40 8 ∷ at 48 8 ∷ at 56 4 ∷ at 64 8 ∷ [];
+      ignored = from 60 4;
+    }
+    ∷ []
+
+-- ---- what a row says
+
+-- "type u32, misc u16, size u16", then the body
+abbrev pub laid : Row → List ℕ
+laid r = r .kind ∷ 0 ∷ 0 ∷ 0 ∷ 0 ∷ r .high ∷ r .size % 256 ∷ r .size / 256 ∷ r .body
+
+abbrev tells : List ℕ → List Told → List ℕ
+tells xs [] = []
+tells xs (at place k ∷ ts) = spelled k place xs ∷ tells xs ts
+tells xs (is n ∷ ts) = n ∷ tells xs ts
+
+-- n numbers: those given, then zeros
+abbrev filled : ℕ → List ℕ → List ℕ
+filled zero xs = []
+filled (suc n) [] = 0 ∷ filled n []
+filled (suc n) (x ∷ xs) = x ∷ filled n xs
+
+-- 56 words: type, misc, size; 45 of the body; 8 of the trailer
+abbrev pub said : Row → List ℕ
+said r = r .kind ∷ 256 * r .high ∷ r .size ∷ (filled 45 (tells (laid r) (r .told)) ++ filled 8 (tells (laid r) (r .trail)))
+
+-- the bytes from a place on, with zero at the places that are ignored
+abbrev cleared : ℕ → List ℕ → List ℕ → List ℕ
+cleared i ignored [] = []
+cleared i ignored (x ∷ xs) = cond (among i ignored) 0 x ∷ cleared (i + 1) ignored xs
+
+abbrev pub clean : Row → List ℕ
+clean r = cleared 0 (r .ignored) (laid r)
+
+-- ---- the edges of the rules for a body, in edition 3: type, high byte of misc, sample type, body, answer
+
+pub record Judged : Type 0 where
+  pub kind : ℕ
+  pub high : ℕ
+  pub sample : ℕ
+  pub body : List ℕ
+  pub answer : ℕ
+
+abbrev judged : ℕ → ℕ → ℕ → List ℕ → ℕ → Judged
+judged kind high sample body answer = record { kind = kind; high = high; sample = sample; body = body; answer = answer }
+
+abbrev a : ℕ → List ℕ
+a n = filled n []
+
+abbrev raw : ℕ → ℕ → ℕ → Judged
+raw size follow answer = judged 9 0 (2 ^ 10) (size ∷ 0 ∷ 0 ∷ 0 ∷ a follow) answer
+
+abbrev stack : ℕ → ℕ → List ℕ → ℕ → Judged
+stack size follow last answer = judged 9 0 (2 ^ 13) (word size ++ (a follow ++ last)) answer
+
+abbrev aux : ℕ → ℕ → ℕ → Judged
+aux size follow answer = judged 9 0 (2 ^ 20) (word size ++ a follow) answer
+
+abbrev buildId : ℕ → ℕ → Judged
+buildId size answer = judged 10 64 0 (a 32 ++ (size ∷ a 39)) answer
+
+abbrev pub bodies : List Judged
+bodies =
+    raw 4 4 0 ∷ raw 12 12 0 ∷ raw 0 4 32 ∷ raw 5 12 32 ∷ raw 8 4 32 ∷ raw 12 4 30
+    ∷ stack 0 0 [] 0 ∷ stack 8 8 (word 8) 0 ∷ stack 8 8 (word 9) 32 ∷ stack 8 8 [] 30 ∷ stack 4 8 (word 4) 32 ∷ stack 0 8 [] 31
+    ∷ aux 0 0 0 ∷ aux 8 8 0 ∷ aux 8 0 30 ∷ aux 4 8 32 ∷ aux 12 16 32
+    -- registers: none after an abi of 0
+    ∷ judged 9 0 (2 ^ 12) (word 0) 0 ∷ judged 9 0 (2 ^ 12) (word 1) 30 ∷ judged 9 0 (2 ^ 12) (word 0 ++ word 0) 31
+    -- names: the first zero among the last eight bytes
+    ∷ judged 19 0 0 (a 8 ++ a 8) 0 ∷ judged 19 0 0 (a 8 ++ a 16) 33 ∷ judged 19 0 0 (a 8 ++ from 1 8) 33 ∷ judged 19 0 0 (a 8 ++ from 1 8 ++ a 8) 0 ∷ judged 19 0 0 (a 8 ++ from 1 7 ++ a 9) 33
+    ∷ judged 19 0 0 (a 8) 33
+    -- counts that would wrap if multiplied: 2^61 addresses, 2^60 namespaces
+    ∷ judged 9 0 (2 ^ 5) (a 7 ++ (32 ∷ [])) 30 ∷ judged 16 0 0 (a 8 ++ a 7 ++ (16 ∷ [])) 30
+    -- nothing of SWITCH; bytes left over; a field past the end
+    ∷ judged 14 0 0 (a 8) 31 ∷ judged 13 0 0 [] 30 ∷ judged 2 0 0 (a 24) 31
+    -- weight by one of its bits, and never by both
+    ∷ judged 9 0 (2 ^ 14) (a 8) 0 ∷ judged 9 0 (2 ^ 24) (a 8) 0 ∷ judged 9 0 (2 ^ 14 + 2 ^ 24) (a 8) 24 ∷ judged 9 0 (2 ^ 25) (a 8) 21
+    ∷ judged 0 0 0 [] 20 ∷ judged 21 0 0 [] 20
+    ∷ []
+
+-- "build id size at most 20"
+abbrev pub buildIds : List Judged
+buildIds = buildId 0 0 ∷ buildId 19 0 ∷ buildId 20 0 ∷ buildId 21 32 ∷ buildId 255 32 ∷ []
+
+-- a register for each of 64 bits of the mask: abi 1 and one register, or two under two bits
+abbrev pub oneRegister : List ℕ
+oneRegister = 9 ∷ 0 ∷ 0 ∷ 0 ∷ 0 ∷ 0 ∷ 24 ∷ 0 ∷ (word 1 ++ word 7)
+
+-- ---- record check at the edges of a slice: edition, slice, answer
+
+abbrev pub slices : List (ℕ × List ℕ × ℕ)
+slices =
+    (0, [], 2)
+    ∷ (4, a 8, 2)
+    ∷ (1, a 7, 7)
+    ∷ (1, 13 ∷ 0 ∷ 0 ∷ 0 ∷ 0 ∷ 0 ∷ 0 ∷ 0 ∷ [], 6)
+    ∷ (1, 14 ∷ 0 ∷ 0 ∷ 0 ∷ 0 ∷ 0 ∷ 4 ∷ 0 ∷ [], 6)
+    ∷ (1, 14 ∷ 0 ∷ 0 ∷ 0 ∷ 0 ∷ 0 ∷ 12 ∷ 0 ∷ a 4, 6)
+    ∷ (1, 14 ∷ 0 ∷ 0 ∷ 0 ∷ 0 ∷ 0 ∷ 16 ∷ 0 ∷ [], 7)
+    ∷ (1, 14 ∷ 0 ∷ 0 ∷ 0 ∷ 0 ∷ 0 ∷ 8 ∷ 0 ∷ a 8, 7)
+    ∷ (1, 14 ∷ 0 ∷ 0 ∷ 0 ∷ 0 ∷ 0 ∷ 8 ∷ 0 ∷ [], 20)
+    ∷ (2, 14 ∷ 0 ∷ 0 ∷ 0 ∷ 0 ∷ 0 ∷ 8 ∷ 0 ∷ [], 0)
+    ∷ []
+
+-- ---- the chain of stops at its edges, in a ring of 64 bytes
+
+-- the edition; the size in the header at place 0, and in the one at 56; head, tail, left of the budget, journal room, scratch; the stop
+pub record Stop : Type 0 where
+  pub edition : ℕ
+  pub size : ℕ
+  pub head : ℕ
+  pub tail : ℕ
+  pub left : ℕ
+  pub journal : ℕ
+  pub scratch : ℕ
+  pub number : ℕ
+
+abbrev stop : ℕ → ℕ → ℕ → ℕ → ℕ → ℕ → ℕ → ℕ → Stop
+stop e size head tail left journal scratch number =
+    record { edition = e; size = size; head = head; tail = tail; left = left; journal = journal; scratch = scratch; number = number }
+
+abbrev pub sizedRing : ℕ → List ℕ
+sizedRing size = a 6 ++ (size ∷ 0 ∷ a 48) ++ (a 6 ++ (size ∷ 0 ∷ []))
+
+-- a number that no row has: the record is taken
+abbrev pub go : ℕ
+go = 99
+
+abbrev pub stops : List Stop
+stops =
+    stop 0 8 64 0 1 16 0 2
+    ∷ stop 1 8 64 0 1 16 0 go
+    ∷ stop 1 8 72 0 1 16 0 4
+    ∷ stop 1 8 0 8 1 16 0 4
+    ∷ stop 1 8 56 (2 ^ 64 - 8) 1 16 0 go
+    ∷ stop 1 8 64 (2 ^ 64 - 8) 1 16 0 4
+    ∷ stop 1 8 12 0 1 16 0 5
+    ∷ stop 1 8 16 4 1 16 0 5
+    ∷ stop 1 8 4 4 1 16 0 5
+    ∷ stop 1 8 0 0 0 0 0 0
+    ∷ stop 1 8 8 0 0 0 0 8
+    ∷ stop 1 8 8 0 1 15 0 9
+    ∷ stop 1 8 8 0 1 16 0 go
+    ∷ stop 1 0 8 0 1 16 0 6
+    ∷ stop 1 4 8 0 1 16 0 6
+    ∷ stop 1 12 24 0 1 16 0 6
+    ∷ stop 1 32 24 0 1 16 0 7
+    ∷ stop 1 24 24 0 1 16 0 go
+    ∷ stop 1 24 16 (2 ^ 64 - 8) 1 16 23 3
+    ∷ stop 1 24 16 (2 ^ 64 - 8) 1 16 24 go
+    ∷ []
+
+-- ---- the copier of names: a record of 8 bytes, place, count, room; the answer, and the buffer of nines at exit
+
+pub record Copied : Type 0 where
+  pub place : ℕ
+  pub count : ℕ
+  pub buffer : List ℕ
+  pub answer : ℕ
+  pub after : List ℕ
+
+abbrev copied : ℕ → ℕ → List ℕ → ℕ → List ℕ → Copied
+copied place count buffer answer after = record { place = place; count = count; buffer = buffer; answer = answer; after = after }
+
+abbrev pub copies : List Copied
+copies =
+    copied 5 3 (9 ∷ 9 ∷ 9 ∷ 9 ∷ 9 ∷ []) 0 (6 ∷ 7 ∷ 8 ∷ 0 ∷ 9 ∷ [])
+    ∷ copied 5 3 (9 ∷ 9 ∷ 9 ∷ 9 ∷ []) 0 (6 ∷ 7 ∷ 8 ∷ 0 ∷ [])
+    ∷ copied 5 3 (9 ∷ 9 ∷ 9 ∷ []) 12 (9 ∷ 9 ∷ 9 ∷ [])
+    ∷ copied 6 3 (9 ∷ 9 ∷ 9 ∷ 9 ∷ []) 41 (9 ∷ 9 ∷ 9 ∷ 9 ∷ [])
+    ∷ copied (2 ^ 64 - 1) 1 (9 ∷ 9 ∷ []) 41 (9 ∷ 9 ∷ [])
+    ∷ copied 8 0 (9 ∷ []) 0 (0 ∷ [])
+    ∷ copied 8 0 [] 12 []
+    ∷ []

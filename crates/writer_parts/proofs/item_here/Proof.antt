@@ -1,0 +1,12 @@
+-- `writer_parts::item_here` meets its contract: it is the table's item at the row. Assumes nothing.
+use Rattle.writer_parts.specs.Parts.{itemHere}
+use borrow.Author.Needs.{needs}
+use Rattle.writer_parts.proofs.item_here.Statement.{statement}
+use Rattle.writer_parts.proofs.item_here.Tie as tie
+
+returns : tie.Need-returns
+unfolding itemHere
+returns c = c .item-at .ensures
+
+pub item-here-spec : {M : Type 1} → statement M
+item-here-spec = tie.close (tie.spec (λ c κs. search needs) returns)

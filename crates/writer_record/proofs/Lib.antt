@@ -1,0 +1,3 @@
+pub mod Measuring
+pub mod Spare
+pub mod Records

@@ -1,0 +1,46 @@
+#include "arguments.h"
+
+#include <ctype.h>
+#include <errno.h>
+#include <stdlib.h>
+
+#include "messages.h"
+
+/* Digits alone: no sign, no blank, nothing behind them. */
+static bool read_whole(const char *text, unsigned long long *number)
+{
+    char *end;
+    errno = 0;
+    *number = strtoull(text, &end, 10);
+    return errno == 0 && isdigit((unsigned char)*text) && *end == '\0';
+}
+
+bool whole_argument(const char *text, const char *option, unsigned long long least, unsigned long long most,
+    unsigned long long *number)
+{
+    if (read_whole(text, number) && *number >= least && *number <= most)
+        return true;
+    complain("%s: a number from %llu to %llu is wanted, not '%s'", option, least, most, text);
+    return false;
+}
+
+bool decimal_argument(const char *text, const char *option, double most, double *number)
+{
+    char *end;
+    *number = strtod(text, &end);
+    if (isdigit((unsigned char)*text) && *end == '\0' && *number > 0 && *number <= most)
+        return true;
+    complain("%s: more than 0 and at most %.0f are wanted, not '%s'", option, most, text);
+    return false;
+}
+
+bool pages_argument(const char *text, size_t *pages)
+{
+    unsigned long long n;
+    if (read_whole(text, &n) && n >= 1 && n <= PAGES_MAX && (n & (n - 1)) == 0) {
+        *pages = (size_t)n;
+        return true;
+    }
+    complain("--pages: a power of two from 1 to %d is wanted, not '%s'", PAGES_MAX, text);
+    return false;
+}

@@ -1,0 +1,22 @@
+/*
+ * Numbers among the arguments. False: it is no such number, and that is said.
+ */
+#ifndef EXAMPLES_ARGUMENTS_H
+#define EXAMPLES_ARGUMENTS_H
+
+#include <stdbool.h>
+#include <stddef.h>
+
+/* The longest ring that the library takes, in pages of 4096 bytes. */
+enum { PAGES_MAX = 256 };
+
+bool whole_argument(const char *text, const char *option, unsigned long long least, unsigned long long most,
+    unsigned long long *number);
+
+/* More than 0, at most `most`. */
+bool decimal_argument(const char *text, const char *option, double most, double *number);
+
+/* A ring's pages: a power of two. */
+bool pages_argument(const char *text, size_t *pages);
+
+#endif

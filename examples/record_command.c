@@ -1,0 +1,352 @@
+/*
+ * A controller's reading loop: one ring a cpu, drained in small budgets between
+ * two heating steps.
+ *
+ * It opens the switches, names, forks and exits of each cpu (and mappings with
+ * build ids: of everyone, or of PROGRAM and its children), drains the rings through
+ * libollskuvan.a, handles every stop, hands back each tail, and names what is
+ * refused. With --save nothing is drained until the end; the rings are then
+ * written as images that the report takes.
+ */
+#define _GNU_SOURCE
+#include <getopt.h>
+#include <stdio.h>
+#include <stdlib.h>
+#include <string.h>
+
+#include "arguments.h"
+#include "bytes.h"
+#include "commands.h"
+#include "live.h"
+#include "memory.h"
+#include "messages.h"
+#include "names.h"
+#include "ollskuvan.h"
+
+enum { BUDGET_MAX = 4096, REFUSALS_SHOWN = 20, PATH_ROOM = 512, STOPS = 11, REFUSALS = 64, TURNS = 64 };
+
+struct options {
+    struct live_want want;
+    uint64_t budget;
+    const char *save;
+};
+
+struct controller {
+    struct options options;
+    struct live live;
+    struct names names;
+    bool broken; /* a stop that is this program's own fault */
+    bool *full;  /* by ring: said already */
+    uint8_t scratch[OLLSKUVAN_RECORD_MAX]; /* so stop 3 cannot be */
+    uint8_t journal[BUDGET_MAX * OLLSKUVAN_JOURNAL_ENTRY];
+    /* what it saw */
+    uint64_t taken, bytes, drains, skipped, longest_ns, refused;
+    uint64_t by_kind[OLLSKUVAN_KIND_OTHER + 1u], by_refusal[REFUSALS], by_stop[STOPS];
+};
+
+/* ---- the loop ---- */
+
+static void look_at_entry(struct controller *c, const struct perf_ring *ring, const uint8_t *entry)
+{
+    unsigned kind = (unsigned)little(entry + OLLSKUVAN_JOURNAL_KIND, 2);
+    unsigned answer = (unsigned)little(entry + OLLSKUVAN_JOURNAL_ANSWER, 2);
+    c->by_kind[kind]++;
+    if (answer == OLLSKUVAN_OK)
+        return;
+    c->by_refusal[answer < REFUSALS ? answer : 0]++;
+    if (c->refused++ < REFUSALS_SHOWN)
+        printf("cpu %d: refused %s (type %u) at tail %llu: %u, %s\n", ring->cpu, ollskuvan_type_name(kind), kind,
+            (unsigned long long)little(entry + OLLSKUVAN_JOURNAL_TAIL, 8), answer, ollskuvan_refusal_text(answer));
+    else if (c->refused == REFUSALS_SHOWN + 1)
+        printf("further refusals are counted only\n");
+}
+
+/* The tail to hand back. A stop that no later call can get past would hold the
+ * ring for ever, so what lies between is given up and counted. */
+static uint64_t tail_after(struct controller *c, const struct perf_ring *ring, uint64_t head,
+    const struct ollskuvan_drained *done)
+{
+    switch (done->stop) {
+    case OLLSKUVAN_STOP_NOTHING:
+    case OLLSKUVAN_STOP_BUDGET:  /* the next call goes on */
+    case OLLSKUVAN_STOP_JOURNAL: /* the journal is read by now: the next call goes on */
+        return done->tail;
+    case OLLSKUVAN_STOP_DISTANCE:
+    case OLLSKUVAN_STOP_ALIGNMENT:
+    case OLLSKUVAN_STOP_SIZE:
+    case OLLSKUVAN_STOP_PAST_HEAD:
+        printf("cpu %d: stop %u at tail %llu: %s; given up: %llu bytes\n", ring->cpu, done->stop,
+            (unsigned long long)done->tail, ollskuvan_stop_text(done->stop), (unsigned long long)(head - done->tail));
+        c->skipped += head - done->tail;
+        return head;
+    default: /* 1, 2, 3, 10: this program is set up wrongly, and no ring can mend it */
+        complain("cpu %d: stop %u: %s", ring->cpu, done->stop, ollskuvan_stop_text(done->stop));
+        c->broken = true;
+        return done->tail;
+    }
+}
+
+/* One drain. True if there may be more. */
+static bool drain_some(struct controller *c, const struct perf_ring *ring)
+{
+    const struct ring_attributes *a = &ring->attributes;
+    uint64_t head = perf_ring_head(ring), tail = perf_ring_tail(ring), began = now_ns();
+    struct ollskuvan_drained done = ollskuvan_drain(ring->bytes, ring->length, head, tail, a->sample_type, a->read_format,
+        a->sample_id_all, a->user_mask, a->interrupt_mask, a->edition, c->options.budget, c->scratch, sizeof c->scratch,
+        c->journal, sizeof c->journal);
+    uint64_t took = now_ns() - began;
+    c->longest_ns = took > c->longest_ns ? took : c->longest_ns;
+    c->drains++;
+    c->taken += done.taken;
+    c->bytes += done.bytes;
+    c->by_stop[done.stop < STOPS ? done.stop : STOPS - 1]++;
+    for (uint64_t i = 0; i < done.taken; i++)
+        look_at_entry(c, ring, c->journal + i * OLLSKUVAN_JOURNAL_ENTRY);
+    perf_ring_give_back(ring, tail_after(c, ring, head, &done));
+    return !c->broken && (done.stop == OLLSKUVAN_STOP_BUDGET || done.stop == OLLSKUVAN_STOP_JOURNAL);
+}
+
+/* A ring may fill as fast as it is drained: after some turns the next one is looked at. */
+static void drain_ring(struct controller *c, const struct perf_ring *ring, unsigned turns)
+{
+    for (unsigned turn = 0; turn < turns && drain_some(c, ring); turn++)
+        ;
+}
+
+static void drain_all(struct controller *c, unsigned turns)
+{
+    for (size_t i = 0; i < c->live.count && !c->broken; i++)
+        drain_ring(c, &c->live.rings[i], turns);
+}
+
+/* A ring that is saved is not drained: once it is full, what follows is lost. */
+static void look_at_room(struct controller *c)
+{
+    uint64_t held = 0;
+    for (size_t i = 0; i < c->live.count; i++) {
+        const struct perf_ring *ring = &c->live.rings[i];
+        uint64_t head = perf_ring_head(ring), tail = perf_ring_tail(ring);
+        held += head - tail;
+        if (!c->full[i] && ring_is_full(ring->length, head, tail)) {
+            c->full[i] = true;
+            complain("cpu %d: the ring is full after %.1f s: what follows there is lost%s", ring->cpu,
+                (double)(now_ns() - c->live.began) / 1e9, c->options.want.pages < PAGES_MAX ? " (more --pages hold more)" : "");
+        }
+    }
+    progress_in("recording", held, "byte", "bytes");
+}
+
+static void look(void *context)
+{
+    struct controller *c = context;
+    if (c->options.save != NULL) {
+        look_at_room(c);
+    } else {
+        drain_all(c, TURNS);
+        progress_in("recording", c->taken, "record", "records");
+    }
+}
+
+/* ---- saving ---- */
+
+static bool path_for(char path[PATH_ROOM], const char *name, const char *end)
+{
+    int length = snprintf(path, PATH_ROOM, "%s%s", name, end);
+    if (length >= 0 && length < PATH_ROOM)
+        return true;
+    complain("--save: the name is too long");
+    return false;
+}
+
+static bool save_names(struct controller *c)
+{
+    char path[PATH_ROOM], why[WHY_ROOM];
+    if (!path_for(path, c->options.save, "-names.txt"))
+        return false;
+    if (names_save(&c->names, path, why))
+        return true;
+    complain("%s: %s", path, why);
+    return false;
+}
+
+static bool save_ring(const struct controller *c, size_t number)
+{
+    const struct perf_ring *ring = &c->live.rings[number];
+    char path[PATH_ROOM], why[WHY_ROOM], end[32];
+    snprintf(end, sizeof end, "-cpu%d.img", ring->cpu);
+    if (!path_for(path, c->options.save, end))
+        return false;
+    uint64_t head = perf_ring_head(ring), tail = perf_ring_tail(ring);
+    if (!ring_image_save(path, &ring->attributes, head, tail, ring->bytes, ring->length, why)) {
+        complain("%s: %s", path, why);
+        return false;
+    }
+    printf("saved %s: a ring of %zu bytes, %llu of them to read%s%s\n", path, ring->length, (unsigned long long)(head - tail),
+        ring->length > RINGDUMP_RING_MAX ? " (longer than ringdump takes)" : "", c->full[number] ? "; it is full" : "");
+    return true;
+}
+
+static bool save_all(struct controller *c)
+{
+    bool saved = true;
+    names_from_proc(&c->names, true);
+    look_at_room(c);
+    for (size_t i = 0; i < c->live.count; i++)
+        saved = save_ring(c, i) && saved;
+    saved = save_names(c) && saved;
+    if (saved)
+        printf("saved %s-names.txt: the names of threads, for --names of the report\n", c->options.save);
+    return saved;
+}
+
+/* ---- the end ---- */
+
+static void print_kinds(const struct controller *c)
+{
+    for (unsigned kind = 0; kind <= OLLSKUVAN_KIND_OTHER; kind++)
+        if (c->by_kind[kind] != 0)
+            printf("  %-16s %11llu\n", ollskuvan_type_name(kind), (unsigned long long)c->by_kind[kind]);
+}
+
+static void print_counts(const char *what, const uint64_t *counts, unsigned most, const char *(*words)(uint32_t number))
+{
+    for (unsigned number = 0; number < most; number++)
+        if (counts[number] != 0)
+            printf("  %s %-2u %*llu  %s\n", what, number, (int)(24 - strlen(what)), (unsigned long long)counts[number], words(number));
+}
+
+static void summary(const struct controller *c)
+{
+    printf("%llu %s, %llu %s, in %llu %s of at most %llu %s; the longest took %.1f us\n", (unsigned long long)c->taken,
+        plural(c->taken, "record", "records"), (unsigned long long)c->bytes, plural(c->bytes, "byte", "bytes"),
+        (unsigned long long)c->drains, plural(c->drains, "drain", "drains"), (unsigned long long)c->options.budget,
+        plural(c->options.budget, "record", "records"), (double)c->longest_ns / 1000);
+    print_kinds(c);
+    print_counts("stop", c->by_stop, STOPS, ollskuvan_stop_text);
+    print_counts("refused with", c->by_refusal, REFUSALS, ollskuvan_refusal_text);
+    if (c->skipped != 0)
+        printf("  given up at stops: %llu %s\n", (unsigned long long)c->skipped, plural(c->skipped, "byte", "bytes"));
+}
+
+/* ---- set-up ---- */
+
+static void usage(FILE *out)
+{
+    fprintf(out,
+        "usage: %s [OPTION..] [-- PROGRAM ARG..]\n"
+        "Reads live rings, one a cpu, and counts what they hold; or saves them.\n"
+        "  --seconds S   how long (2); with PROGRAM until it ends, and it is ended after S\n"
+        "  --budget N    records of one drain (32; at most 4096)\n"
+        "  --pages N     pages of a ring (4, with --save 256; a power of two up to 256)\n"
+        "  --cpu N       this cpu alone (all that are online)\n"
+        "  --clock       samples of the cpu clock too\n"
+        "  --edition N   what the reader knows: 1, 2 or 3 (3)\n"
+        "  --save NAME   drain nothing until the end, then write NAME-cpuN.img for each\n"
+        "                ring, and NAME-names.txt\n"
+        "  --help        this\n"
+        "Exit status: 0 done; 1 something failed; 2 wrong arguments; 3 the kernel does\n"
+        "not allow perf events.\n",
+        own_name());
+}
+
+static bool take_option(struct options *o, int letter)
+{
+    unsigned long long n;
+    switch (letter) {
+    case 's':
+        return decimal_argument(optarg, "--seconds", 86400, &o->want.seconds);
+    case 'b':
+        if (!whole_argument(optarg, "--budget", 1, BUDGET_MAX, &n))
+            return false;
+        o->budget = n;
+        return true;
+    case 'p':
+        return pages_argument(optarg, &o->want.pages);
+    case 'c':
+        if (!whole_argument(optarg, "--cpu", 0, 65535, &n))
+            return false;
+        o->want.cpu = (int)n;
+        return true;
+    case 'k':
+        return o->want.clock = true;
+    case 'e':
+        if (!whole_argument(optarg, "--edition", 1, 3, &n))
+            return false;
+        o->want.edition = (uint32_t)n;
+        return true;
+    case 'w':
+        o->save = optarg;
+        return true;
+    default:
+        usage(stderr);
+        return false;
+    }
+}
+
+static bool read_options(struct options *o, int argc, char **argv, bool *help)
+{
+    static const struct option names[] = {
+        { "seconds", 1, NULL, 's' }, { "budget", 1, NULL, 'b' }, { "pages", 1, NULL, 'p' }, { "cpu", 1, NULL, 'c' },
+        { "clock", 0, NULL, 'k' }, { "edition", 1, NULL, 'e' }, { "save", 1, NULL, 'w' }, { "help", 0, NULL, 'h' },
+        { NULL, 0, NULL, 0 },
+    };
+    int letter;
+    optind = 0; /* a program of several commands has looked at its own arguments before */
+    while ((letter = getopt_long(argc, argv, "+h", names, NULL)) != -1) {
+        if (letter == 'h')
+            return *help = true;
+        if (!take_option(o, letter))
+            return false;
+    }
+    o->want.program = optind < argc ? argv + optind : NULL;
+    if (o->want.seconds == 0 && o->want.program == NULL)
+        o->want.seconds = 2;
+    if (o->want.pages == 0)
+        o->want.pages = o->save != NULL ? PAGES_MAX : 4;
+    return true;
+}
+
+static int control(struct controller *c)
+{
+    if (c->options.save != NULL && !save_names(c)) /* none yet: where nothing can be written it is said before anything is recorded */
+        return STATUS_FAILED;
+    int status = live_open(&c->live, &c->options.want);
+    if (status != STATUS_DONE)
+        return status;
+    if (c->options.save != NULL)
+        names_from_proc(&c->names, false);
+    c->full = must(calloc(c->live.count + 1, sizeof *c->full));
+    progress_begin();
+    status = live_start(&c->live);
+    if (status == STATUS_DONE)
+        live_record(&c->live, look, c);
+    int stopped = live_stop(&c->live);
+    if (status != STATUS_DONE || stopped != STATUS_DONE)
+        return status != STATUS_DONE ? status : stopped;
+    if (c->options.save != NULL && !save_all(c))
+        status = STATUS_FAILED;
+    drain_all(c, UINT32_MAX); /* the events are stopped: this comes to an end */
+    summary(c);
+    return c->broken || c->skipped != 0 ? STATUS_FAILED : status;
+}
+
+int record_command(int argc, char **argv)
+{
+    bool help = false;
+    called_as(argv[0]);
+    struct controller *c = must(calloc(1, sizeof *c)); /* its buffers are long for a stack */
+    c->options = (struct options){ .budget = 32, .want = { .cpu = -1, .edition = OLLSKUVAN_EDITION_3 } };
+    c->live.program = PROGRAM_NONE;
+    int status = read_options(&c->options, argc, argv, &help) ? STATUS_DONE : STATUS_USAGE;
+    if (help)
+        usage(stdout);
+    else if (status == STATUS_DONE)
+        status = control(c);
+    if (!output_written())
+        status = STATUS_FAILED;
+    live_close(&c->live);
+    names_free(&c->names);
+    free(c->full);
+    free(c);
+    return status;
+}

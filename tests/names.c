@@ -1,0 +1,462 @@
+/*
+ * Reads every constant of include/ollskuvan.h by its name. names.inc has a row for each: the records of document 01
+ * laid out by hand, field after field, each with the word that must read as the field's own bytes; the kernel's
+ * numbers, compared with linux/perf_event.h; the bounds, the journal and the answers, each with a call that shows it.
+ *
+ * With SWAPS defined, the rows are judged again for every pair of constants that tests/swaps.sh has swapped in the
+ * header's text: each must fail.
+ */
+#include "ollskuvan.h"
+
+#include <linux/perf_event.h>
+#include <stdio.h>
+#include <stdlib.h>
+#include <string.h>
+
+enum { WORDS = 56, RECORD_ROOM = 2048, LONGEST = 1 << 21 };
+
+/* ---- attributes of the records ---- */
+
+struct attributes {
+    uint64_t sample_type, read_format;
+    uint32_t sample_id_all;
+    uint64_t user_mask, interrupt_mask;
+};
+
+/* The trailer's bits are 1, 2, 6, 7, 9 and 16. Of the masks the one has five ones, the other seven. */
+enum { TRAILER_SELECTED = 1 << 1 | 1 << 2 | 1 << 6 | 1 << 7 | 1 << 9 | 1 << 16, ALL_BITS = (1 << 25) - 1 };
+#define FIVE_ONES UINT64_C(0x8000000000010046)
+#define SEVEN_ONES UINT64_C(0xc000000800000017)
+
+static const struct attributes PLAIN = {0, 0, 0, 0, 0};
+static const struct attributes TRAILED = {TRAILER_SELECTED, 0, 1, 0, 0};
+static const struct attributes READ_ONE = {TRAILER_SELECTED, 7, 1, 0, 0};
+static const struct attributes READ_GROUP = {TRAILER_SELECTED, 15, 1, 0, 0};
+static const struct attributes READ_BARE_GROUP = {0, 8, 0, 0, 0};
+static const struct attributes SAMPLE_ONE = {ALL_BITS ^ 1 << 24, 7, 1, FIVE_ONES, SEVEN_ONES};
+static const struct attributes SAMPLE_GROUP = {ALL_BITS ^ 1 << 14, 15, 1, FIVE_ONES, SEVEN_ONES};
+
+/* ---- the rows ---- */
+
+enum kind {
+    RECORD_BEGINS, /* a record of this type and misc, under these attributes, up to the next row of this kind */
+    TYPE_WORD, MISC_WORD, SIZE_WORD,
+    NUMBER,        /* lays a number of so many bytes; the word reads it */
+    COUNTED,       /* the same, of a given value */
+    LISTED,        /* lays so many elements of so many bytes; the word reads their place */
+    NAMED,         /* lays a name and its zeros, up to a multiple of 8; the word reads its place */
+    LENGTH_WORD,   /* the word reads the elements of the last list, or the bytes of the last name */
+    SKIPPED,       /* lays bytes that no word reads */
+    KEPT_WORD,     /* the word reads 0 */
+    AFTER_WORD,    /* the kept word before this row has this word's number plus one */
+    SAME_NUMBER,
+    LEAST_WORDS_READ, OLDEST_EDITION, RING_SHORTEST, RING_LONGEST, RECORD_LONGEST,
+    ENTRY_BYTES, ENTRY_OFFSET, ENTRY_KIND_GIVEN,
+    MEANING_GIVEN, STOP_GIVEN, CHECK_GIVEN, COPY_GIVEN, WRITE_GIVEN
+};
+
+struct row {
+    enum kind kind;
+    const char *name;
+    const struct attributes *with;
+    uint64_t n[8];
+};
+
+/* What names.inc calls its rows. ROW takes the kind, the constant's name and its number. */
+#define RECORD(type, misc, with) ROW(RECORD_BEGINS, #type, 0, &with, type, misc)
+#define OF_TYPE(w) ROW(TYPE_WORD, #w, w, NULL, 0)
+#define OF_MISC(w) ROW(MISC_WORD, #w, w, NULL, 0)
+#define OF_SIZE(w) ROW(SIZE_WORD, #w, w, NULL, 0)
+#define U16(w) ROW(NUMBER, #w, w, NULL, 2)
+#define U32(w) ROW(NUMBER, #w, w, NULL, 4)
+#define U64(w) ROW(NUMBER, #w, w, NULL, 8)
+#define COUNT8(w, n) ROW(COUNTED, #w, w, NULL, 1, n)
+#define COUNT16(w, n) ROW(COUNTED, #w, w, NULL, 2, n)
+#define COUNT32(w, n) ROW(COUNTED, #w, w, NULL, 4, n)
+#define COUNT64(w, n) ROW(COUNTED, #w, w, NULL, 8, n)
+#define LIST(w, n, each) ROW(LISTED, #w, w, NULL, n, each)
+#define NAME(w, n) ROW(NAMED, #w, w, NULL, n)
+#define LENGTH(w) ROW(LENGTH_WORD, #w, w, NULL, 0)
+#define SKIP(n) ROW(SKIPPED, "", 0, NULL, n)
+#define KEPT(w) ROW(KEPT_WORD, #w, w, NULL, 0)
+#define AFTER(w) ROW(AFTER_WORD, #w, w, NULL, 0)
+#define SAME(w, n) ROW(SAME_NUMBER, #w, w, NULL, n)
+#define LEAST_WORDS(w) ROW(LEAST_WORDS_READ, #w, w, NULL, 0)
+#define OLDEST_WITH(w, type) ROW(OLDEST_EDITION, #w, w, NULL, type)
+#define SHORTEST_RING(w) ROW(RING_SHORTEST, #w, w, NULL, 0)
+#define LONGEST_RING(w) ROW(RING_LONGEST, #w, w, NULL, 0)
+#define LONGEST_RECORD(w) ROW(RECORD_LONGEST, #w, w, NULL, 0)
+#define ENTRY_LENGTH(w) ROW(ENTRY_BYTES, #w, w, NULL, 0)
+#define ENTRY_PLACE(w, number, bytes) ROW(ENTRY_OFFSET, #w, w, NULL, number, bytes)
+#define KIND_OF(w, type) ROW(ENTRY_KIND_GIVEN, #w, w, NULL, type)
+#define MEANS(w, type, misc) ROW(MEANING_GIVEN, #w, w, NULL, type, misc)
+#define STOP(w, ...) ROW(STOP_GIVEN, #w, w, NULL, __VA_ARGS__)
+#define ANSWER(w, ...) ROW(CHECK_GIVEN, #w, w, NULL, __VA_ARGS__)
+#define COPY(w, ...) ROW(COPY_GIVEN, #w, w, NULL, __VA_ARGS__)
+#define WRITTEN(w, ...) ROW(WRITE_GIVEN, #w, w, NULL, __VA_ARGS__)
+
+/* The entry that ENTRY_PLACE looks at: a type that no edition knows, at this tail. */
+#define ENTRY_KIND 0x7766
+#define ENTRY_TAIL UINT64_C(0x8a8988878685a4a8)
+
+#define ROW(kind, name, number, with, ...) {kind, name, with, {__VA_ARGS__}},
+static const struct row rows[] = {
+#include "names.inc"
+};
+enum { ROWS = sizeof rows / sizeof rows[0] };
+
+/* The constants alone, by row. */
+#undef ROW
+#define ROW(kind, name, number, with, ...) (uint32_t)(number),
+static const uint32_t constants[ROWS] = {
+#include "names.inc"
+};
+
+/* ---- calls that show a bound or an answer ---- */
+
+static uint8_t zeros[LONGEST];
+
+static void spell(uint8_t *at, uint64_t n, int bytes)
+{
+    int i;
+    for (i = 0; i < bytes; i++)
+        at[i] = (uint8_t)(n >> 8 * i);
+}
+
+/* Record check of zeros behind a header. */
+static uint32_t checked(uint32_t edition, uint64_t sample_type, uint64_t read_format, uint64_t type, uint64_t misc,
+    uint64_t size, uint64_t length)
+{
+    static uint8_t record[65536];
+    memset(record, 0, (size_t)length);
+    spell(record, type, 4);
+    spell(record + 4, misc, 2);
+    spell(record + 6, size, 2);
+    return ollskuvan_check(record, (size_t)length, sample_type, read_format, 0, 0, 0, edition);
+}
+
+/* The entry of one record of 8 bytes, of a type, at a tail. */
+static size_t journalled(uint64_t type, uint64_t tail, uint8_t entry[64])
+{
+    uint8_t ring[64] = {0};
+    size_t length = 64;
+    spell(ring + tail % 64, type, 4);
+    spell(ring + tail % 64 + 6, 8, 2);
+    memset(entry, 0xc3, length);
+    ollskuvan_drain(ring, 64, tail + 8, tail, 0, 0, 0, 0, 0, 3, 1, NULL, 0, entry, length);
+    while (length && entry[length - 1] == 0xc3)
+        length--;
+    return length;
+}
+
+static uint64_t entry_offset(uint64_t number, int bytes)
+{
+    uint8_t entry[64], due[8];
+    size_t at, length = journalled(ENTRY_KIND, ENTRY_TAIL, entry);
+    spell(due, number, bytes);
+    for (at = 0; at + (size_t)bytes <= length; at++)
+        if (memcmp(entry + at, due, (size_t)bytes) == 0)
+            return at;
+    return 999;
+}
+
+/* Of the powers of two the first, or the last, that is allowed. */
+static uint64_t ring_length(int longest)
+{
+    uint64_t length, found = 0;
+    for (length = 1; length <= LONGEST; length *= 2)
+        if (ollskuvan_drain(zeros, (size_t)length, 0, 0, 0, 0, 0, 0, 0, 3, 1, NULL, 0, NULL, 0).stop != 1)
+            if (longest || !found)
+                found = length;
+    return found;
+}
+
+static uint64_t longest_record(void)
+{
+    uint64_t size = 65535;
+    while (size && checked(3, 0, 0, 14, 0, size, size) == 6)
+        size--;
+    return size;
+}
+
+static uint64_t oldest_edition(uint64_t type)
+{
+    uint32_t edition = 1;
+    while (edition < 9 && checked(edition, 0, 0, type, 0, 8, 8) == 20)
+        edition++;
+    return edition;
+}
+
+static uint64_t least_words(void)
+{
+    uint8_t record[8] = {14, 0, 0, 0, 0, 0, 8, 0};
+    uint64_t words[99];
+    size_t length = 0;
+    while (length < 99 && ollskuvan_read(record, 8, 0, 0, 0, 0, 0, 3, words, length) == 40)
+        length++;
+    return length;
+}
+
+static uint64_t stopped(const uint64_t n[8])
+{
+    uint8_t ring[64] = {0}, scratch[64], journal[64];
+    spell(ring + n[2] % 64 / 8 * 8, 14, 4);
+    spell(ring + n[2] % 64 / 8 * 8 + 6, n[7], 2);
+    return ollskuvan_drain(ring, (size_t)n[0], n[1], n[2], 0, 0, 0, 0, 0, (uint32_t)n[3], n[4], scratch, (size_t)n[6],
+        journal, (size_t)n[5]).stop;
+}
+
+/* A LOST with this size word, into a buffer of this length: words 0, 1 and 2 are type, misc and size. */
+static uint64_t written(uint64_t size, uint64_t length)
+{
+    uint64_t words[WORDS] = {2, 0, size};
+    uint8_t buffer[64];
+    return ollskuvan_write(words, WORDS, NULL, 0, 0, 0, 0, 0, 0, 3, buffer, (size_t)length);
+}
+
+static uint64_t shown(const struct row *row)
+{
+    const uint64_t *n = row->n;
+    uint8_t buffer[64];
+    switch (row->kind) {
+    case LEAST_WORDS_READ: return least_words();
+    case OLDEST_EDITION: return oldest_edition(n[0]);
+    case RING_SHORTEST: return ring_length(0);
+    case RING_LONGEST: return ring_length(1);
+    case RECORD_LONGEST: return longest_record();
+    case ENTRY_BYTES: return journalled(ENTRY_KIND, ENTRY_TAIL, buffer);
+    case ENTRY_OFFSET: return entry_offset(n[0], (int)n[1]);
+    case ENTRY_KIND_GIVEN: return journalled(n[0], 0, buffer) ? (uint64_t)buffer[4] | (uint64_t)buffer[5] << 8 : 0;
+    case MEANING_GIVEN: return ollskuvan_misc_meaning(n[0], n[1]);
+    case STOP_GIVEN: return stopped(n);
+    case CHECK_GIVEN: return checked((uint32_t)n[0], n[1], n[2], n[3], n[4], n[5], n[6]);
+    case COPY_GIVEN: return ollskuvan_copy_name(zeros, 8, n[0], n[1], buffer, (size_t)n[2]);
+    case WRITE_GIVEN: return written(n[0], n[1]);
+    default: return n[0]; /* SAME_NUMBER */
+    }
+}
+
+/* ---- a record laid out by hand, and read ---- */
+
+static uint8_t record[RECORD_ROOM];
+static size_t laid;        /* its bytes so far */
+static uint64_t due[ROWS]; /* what each row's word must read */
+
+static void lay(uint64_t n, int bytes)
+{
+    if (laid + 8 > RECORD_ROOM)
+        abort();
+    spell(record + laid, n, bytes);
+    laid += (size_t)bytes;
+}
+
+/* A number unlike all others of the record; its highest byte is not zero. */
+static uint64_t fresh(int bytes)
+{
+    static unsigned serial;
+    uint64_t n = 0;
+    int i;
+    serial = serial % 240 + 1;
+    for (i = 0; i < bytes; i++)
+        n |= (uint64_t)((serial + 37u * (unsigned)i) % 255 + 1) << 8 * i;
+    return n;
+}
+
+/* Bytes that are not zero; then, for a name, zeros up to a multiple of 8, one at least. */
+static void lay_bytes(uint64_t count, int name)
+{
+    while (count--)
+        lay(0xe0 | (laid & 15), 1);
+    if (name)
+        do
+            lay(0, 1);
+        while (laid % 8);
+}
+
+static uint64_t lay_row(const struct row *row, uint64_t *length)
+{
+    uint64_t n = row->n[0], place = laid;
+    switch (row->kind) {
+    case NUMBER:
+        n = fresh((int)row->n[0]);
+        lay(n, (int)row->n[0]);
+        return n;
+    case COUNTED:
+        lay(row->n[1], (int)n);
+        return row->n[1];
+    case LISTED:
+    case NAMED:
+        lay_bytes(row->kind == NAMED ? n : n * row->n[1], row->kind == NAMED);
+        *length = n;
+        return place;
+    case LENGTH_WORD: return *length;
+    case SKIPPED: lay_bytes(n, 0); return 0;
+    default: return 0; /* kept words; type, misc and size are known at the end */
+    }
+}
+
+/* Lays the record whose first row is `from`: the number of its rows, that one included. */
+static int lay_record(int from)
+{
+    const uint64_t type = rows[from].n[0], misc = rows[from].n[1];
+    uint64_t length = 0;
+    int i;
+    laid = 0;
+    lay(type, 4);
+    lay(misc, 2);
+    lay(0, 2);
+    for (i = from + 1; i < ROWS && rows[i].kind != RECORD_BEGINS && rows[i].kind < SAME_NUMBER; i++)
+        due[i] = lay_row(&rows[i], &length);
+    spell(record + 6, laid, 2);
+    due[from + 1] = type;
+    due[from + 2] = misc;
+    due[from + 3] = laid;
+    return i - from;
+}
+
+static uint64_t values[ROWS][WORDS]; /* by the row that begins the record */
+static uint32_t answers[ROWS];
+
+static int has_word(enum kind kind)
+{
+    return kind != RECORD_BEGINS && kind != SKIPPED && kind != AFTER_WORD && kind < SAME_NUMBER;
+}
+
+/* Reads every record once, and makes every call. */
+static void lay_all(void)
+{
+    int i, count;
+    for (i = 0; i < ROWS; i += count) {
+        const struct attributes *with = rows[i].with;
+        count = 1;
+        if (rows[i].kind != RECORD_BEGINS) {
+            due[i] = shown(&rows[i]);
+            continue;
+        }
+        count = lay_record(i);
+        answers[i] = ollskuvan_read(record, laid, with->sample_type, with->read_format, with->sample_id_all,
+            with->user_mask, with->interrupt_mask, 3, values[i], WORDS);
+    }
+}
+
+/* ---- the rows judged, with the header's constants or with swapped ones ---- */
+
+static int told; /* 1: a fault is printed */
+
+static int fault(int at, const char *name, uint64_t got, uint64_t expected)
+{
+    if (told && rows[at].kind == RECORD_BEGINS)
+        printf("names: in a record of type %s: ", rows[at].name);
+    else if (told)
+        printf("names: ");
+    if (told)
+        printf("%s is %llu where %llu is due\n", name, (unsigned long long)got, (unsigned long long)expected);
+    return 1;
+}
+
+/* Each word reads as its field; a kept word has its place; the words that no row names are zero. */
+static int judge_record(int from, int count, const uint32_t *numbers)
+{
+    const uint64_t *value = values[from];
+    uint64_t named[WORDS] = {0};
+    int i, faults = answers[from] ? fault(from, "the answer", answers[from], 0) : 0;
+    for (i = from + 1; i < from + count; i++) {
+        const uint32_t number = numbers[i];
+        if (rows[i].kind == AFTER_WORD && numbers[i - 1] != number + 1)
+            faults += fault(from, rows[i - 1].name, numbers[i - 1], number + 1);
+        if (!has_word(rows[i].kind))
+            continue;
+        if (number >= WORDS)
+            return faults + fault(from, rows[i].name, number, WORDS - 1);
+        named[number] = 1;
+        if (value[number] != due[i])
+            faults += fault(from, rows[i].name, value[number], due[i]);
+    }
+    for (i = 0; i < WORDS; i++)
+        if (!named[i] && value[i])
+            faults += fault(from, "a word that no row names", value[i], 0);
+    return faults;
+}
+
+static int judge(const uint32_t *numbers)
+{
+    int i, count, faults = 0;
+    for (i = 0; i < ROWS; i += count) {
+        count = 1;
+        if (rows[i].kind != RECORD_BEGINS) {
+            if (numbers[i] != due[i])
+                faults += fault(i, rows[i].name, numbers[i], due[i]);
+            continue;
+        }
+        while (i + count < ROWS && rows[i + count].kind != RECORD_BEGINS && rows[i + count].kind < SAME_NUMBER)
+            count++;
+        faults += judge_record(i, count, numbers);
+    }
+    return faults;
+}
+
+/* The fields of a record all differ, or a swapped pair of them would pass unseen. The type differs in other records. */
+static int judge_differences(void)
+{
+    int i, j, faults = 0, from = 0;
+    for (i = 0; i < ROWS; i++) {
+        if (rows[i].kind == RECORD_BEGINS)
+            from = i;
+        for (j = from; j < i; j++) {
+            if (!has_word(rows[i].kind) || !has_word(rows[j].kind) || rows[j].kind == TYPE_WORD)
+                continue;
+            if (due[i] && due[i] == due[j]) {
+                printf("names: %s and %s have the same value here\n", rows[i].name, rows[j].name);
+                faults++;
+            }
+        }
+    }
+    return faults;
+}
+
+#ifdef SWAPS
+#include SWAPS
+
+/* Where a row's constant stands among all constants of the header; -1 for a row without one. */
+static int constant_of(int row)
+{
+    int i;
+    for (i = 0; i < CONSTANTS; i++)
+        if (strcmp(rows[row].name, constant_names[i]) == 0)
+            return i;
+    return -1;
+}
+
+static int judge_swaps(void)
+{
+    uint32_t numbers[ROWS];
+    int at[ROWS], i, j, unseen = 0;
+    told = 0;
+    for (j = 0; j < ROWS; j++)
+        at[j] = constant_of(j);
+    for (i = 0; i < (int)(sizeof swaps / sizeof swaps[0]); i++) {
+        for (j = 0; j < ROWS; j++)
+            numbers[j] = at[j] < 0 ? 0 : swaps[i].numbers[at[j]];
+        if (judge(numbers) == 0) {
+            printf("names: swapped unseen: %s\n", swaps[i].names);
+            unseen++;
+        }
+    }
+    return unseen;
+}
+#endif
+
+int main(void)
+{
+    int faults;
+    told = 1;
+    lay_all();
+    faults = judge(constants) + judge_differences();
+    if (faults)
+        return 1;
+    printf("names: every constant of the header reads as document 01 says: %d rows\n", (int)ROWS);
+#ifdef SWAPS
+    faults = judge_swaps();
+#endif
+    return faults != 0;
+}

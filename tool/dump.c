@@ -1,0 +1,92 @@
+/*
+ * ollskuvan dump: every record of a saved ring as text.
+ */
+#include <inttypes.h>
+#include <stdio.h>
+#include <stdlib.h>
+
+#include "bytes.h"
+#include "command.h"
+#include "image.h"
+#include "show.h"
+
+static bool all;
+static const struct flag flags[] = { { "--all", &all }, { NULL, NULL } };
+static const struct takes takes = {
+    "usage: ollskuvan dump [--all] IMAGE\n"
+    "Prints every record with its place, type, misc and size, and each of its fields by name. A record\n"
+    "that is refused is printed with the refusal and its bytes. Lists show their count, their bytes, their\n"
+    "place in the record, and what comes first.\n"
+    "  --all   lists and bytes whole\n",
+    flags, 1, 1,
+};
+
+static void print_image(const struct image *image)
+{
+    printf("ring        %zu bytes, head %" PRIu64 ", tail %" PRIu64 "\n", image->length, image->head, image->tail);
+    printf("edition     %" PRIu32 ", sample_id_all %s\n", image->edition,
+        image->sample_id_all != 0 ? "set" : "not set");
+    fputs("sample type ", stdout);
+    show_sample_type(image->sample_type);
+    fputs("\nread format ", stdout);
+    show_read_format(image->read_format);
+    printf("\nmasks       user 0x%" PRIx64 ", interrupt 0x%" PRIx64 "\n", image->user_mask, image->interrupt_mask);
+}
+
+/* The header is told also of a record that is refused. */
+static void print_header(uint64_t number, uint64_t tail, const uint8_t *record, size_t size)
+{
+    uint64_t type = little(record, 4);
+    printf("record %" PRIu64 " at tail %" PRIu64 ": %s, type %" PRIu64 ", misc ", number, tail,
+        ollskuvan_type_name(type), type);
+    show_misc(type, little(record + 4, 2));
+    printf(", size %zu\n", size);
+}
+
+static bool print_record(const struct image *image, uint64_t number, uint64_t tail)
+{
+    const uint8_t *record;
+    uint64_t fields[OLLSKUVAN_FIELDS];
+    struct ollskuvan_one one = image_read_one(image, tail, fields, &record);
+    const struct value value = { image, record, fields, all };
+    print_header(number, tail, record, (size_t)one.size);
+    if (one.answer == OLLSKUVAN_OK) {
+        show_fields(&value);
+        return true;
+    }
+    printf("    refused: %" PRIu32 ", %s\n", one.answer, ollskuvan_refusal_text(one.answer));
+    show_bytes(record, (size_t)one.size, all);
+    return false;
+}
+
+static int print_records(const struct image *image)
+{
+    struct ollskuvan_drained done;
+    uint64_t refused = 0;
+    uint8_t *journal = image_drain(image, &done);
+    if (journal == NULL)
+        return STATUS_FAILED;
+    print_image(image);
+    for (uint64_t i = 0; i < done.taken && !ferror(stdout); i++) {
+        const uint8_t *entry = journal + i * OLLSKUVAN_JOURNAL_ENTRY;
+        refused += !print_record(image, i, little(entry + OLLSKUVAN_JOURNAL_TAIL, 8));
+    }
+    printf("stop %" PRIu32 " tail %" PRIu64 ": %s\n", done.stop, done.tail, ollskuvan_stop_text(done.stop));
+    printf("%" PRIu64 " %s, %" PRIu64 " bytes, %" PRIu64 " refused\n", done.taken,
+        done.taken == 1 ? "record" : "records", done.bytes, refused);
+    free(journal);
+    return image_end(image, &done);
+}
+
+int dump_command(int argc, char **argv)
+{
+    struct image image;
+    int status;
+    if (take_words(argc, argv, &takes, &status) < 0)
+        return status;
+    if (!image_read(&image, argv[1]))
+        return STATUS_FAILED;
+    status = image_is_none(&image) ? STATUS_FAILED : print_records(&image);
+    image_free(&image);
+    return finished(status);
+}

@@ -1,0 +1,120 @@
+/*
+ * ollskuvan explain: the numbers of stops and refusals in words.
+ */
+#include <inttypes.h>
+#include <stdio.h>
+#include <stdlib.h>
+#include <string.h>
+
+#include "command.h"
+#include "messages.h"
+#include "ollskuvan.h"
+#include "ollskuvan_words.h"
+
+static bool all;
+static const struct flag flags[] = { { "--all", &all }, { NULL, NULL } };
+static const struct takes takes = {
+    "usage: ollskuvan explain NUMBER.. | --all\n"
+    "Says in words why a drain stopped or why a record, a name or a value was refused.\n"
+    "  --all   every number that is used\n",
+    flags, 0, 99,
+};
+
+/* What the short text leaves out. */
+static const struct {
+    uint32_t number;
+    const char *text;
+} notes[] = {
+    { OLLSKUVAN_STOP_RING_LENGTH, "It is a power of two from 64 to 1,048,576 bytes." },
+    { OLLSKUVAN_STOP_SCRATCH, "A scratch as long as the ring, or of 65,528 bytes, is long enough for any record." },
+    { OLLSKUVAN_STOP_DISTANCE, "No later call can go on: the image is damaged, or head and tail are of another ring." },
+    { OLLSKUVAN_STOP_ALIGNMENT,
+        "No later call can go on: the image is damaged, or head and tail are of another ring." },
+    { OLLSKUVAN_STOP_SIZE, "A drain cannot go on from there: what lies between tail and head is no record." },
+    { OLLSKUVAN_STOP_PAST_HEAD, "A drain cannot go on from there. A record must be as long as its size says." },
+    { OLLSKUVAN_STOP_BUDGET, "The next call goes on from the new tail." },
+    { OLLSKUVAN_STOP_JOURNAL, "Fewer than 16 bytes are left. The next call goes on from the new tail." },
+    { OLLSKUVAN_STOP_HEADER_CROSSES, "This cannot happen once 1 and 5 pass." },
+    { OLLSKUVAN_REFUSED_NAME_ROOM, "The name and one zero are copied whole or not at all." },
+    { OLLSKUVAN_REFUSED_TYPE, "Edition 1 knows types 1 to 9, edition 2 types 1 to 15, edition 3 types 1 to 20." },
+    { OLLSKUVAN_REFUSED_SAMPLE_TYPE,
+        "Edition 1 knows sample bits 0 to 15, edition 2 0 to 18, edition 3 0 to 24. It is the\n"
+        "    answer to every SAMPLE then, and to all other records if sample_id_all is set." },
+    { OLLSKUVAN_REFUSED_READ_FORMAT,
+        "Bits 0 to 3 are known. A READ is answered so, and a SAMPLE with sample bit 4." },
+    { OLLSKUVAN_REFUSED_BUILD_ID, "An MMAP2 with misc bit 14, in edition 1 or 2." },
+    { OLLSKUVAN_REFUSED_WEIGHTS, "A SAMPLE where sample bits 14 and 24 are both set." },
+    { OLLSKUVAN_REFUSED_SHORT, "Or the trailer does. A count is too great, or the attributes are not those of the event." },
+    { OLLSKUVAN_REFUSED_LEFT_OVER, "Mostly the attributes are not those of the event." },
+    { OLLSKUVAN_REFUSED_INNER,
+        "Raw size plus 4, stack size and aux size are multiples of 8; the filled length is at\n"
+        "    most the stack size; a build id has at most 20 bytes." },
+    { OLLSKUVAN_REFUSED_NAME,
+        "The first zero must be among the last 8 bytes before the trailer or the record's end." },
+    { OLLSKUVAN_REFUSED_ROOM, "The buffer is too short, or there are fewer words than OLLSKUVAN_FIELDS." },
+    { OLLSKUVAN_REFUSED_PLACE, "Of a name in its record, or of a list or name in the source of a writing." },
+    { OLLSKUVAN_REFUSED_VALUE, "ollskuvan.h says how a value is built from nothing." },
+};
+
+static void print_note(uint32_t number)
+{
+    for (size_t i = 0; i < sizeof notes / sizeof notes[0]; i++)
+        if (notes[i].number == number)
+            printf("    %s\n", notes[i].text);
+}
+
+static void print_answer(const struct ollskuvan_answer *answer)
+{
+    if (answer->stop != NULL)
+        printf("stop %" PRIu32 ": %s\n", answer->number, answer->stop);
+    if (answer->refusal != NULL)
+        printf("%s %" PRIu32 ": %s\n", answer->number == 0 ? "answer" : "refusal", answer->number, answer->refusal);
+    print_note(answer->number);
+}
+
+static bool print_number(unsigned long long number)
+{
+    for (size_t i = 0; i < ollskuvan_answers_count; i++)
+        if (ollskuvan_answers[i].number == number) {
+            print_answer(&ollskuvan_answers[i]);
+            return true;
+        }
+    return false;
+}
+
+/* Up to nine digits and nothing else. */
+static bool is_number(const char *word)
+{
+    size_t digits = strspn(word, "0123456789");
+    return digits >= 1 && digits <= 9 && word[digits] == '\0';
+}
+
+static int explain(int count, char **words)
+{
+    int status = STATUS_DONE;
+    for (int i = 0; i < count; i++) {
+        if (!is_number(words[i])) {
+            complain("a number is wanted, not %s", words[i]);
+            return STATUS_USAGE;
+        }
+        if (!print_number(strtoull(words[i], NULL, 10))) {
+            complain("no stop or refusal has the number %s", words[i]);
+            status = STATUS_FAILED;
+        }
+    }
+    return status;
+}
+
+int explain_command(int argc, char **argv)
+{
+    int status, count = take_words(argc, argv, &takes, &status);
+    if (count < 0)
+        return status;
+    if (all == (count > 0)) {
+        complain("a NUMBER or --all is wanted");
+        return STATUS_USAGE;
+    }
+    for (size_t i = 0; all && i < ollskuvan_answers_count; i++)
+        print_answer(&ollskuvan_answers[i]);
+    return finished(explain(count, argv + 1));
+}

@@ -1,0 +1,139 @@
+#include "image.h"
+
+#include <errno.h>
+#include <inttypes.h>
+#include <stdio.h>
+#include <stdlib.h>
+#include <string.h>
+
+#include "bytes.h"
+#include "commands.h"
+#include "messages.h"
+
+enum { MOST = IMAGE_HEADER_BYTES + OLLSKUVAN_RING_MAX };
+
+/* ---- reading ---- */
+
+/* One byte more than the longest image, so that a longer input is seen. */
+static bool read_bytes(struct image *image, FILE *file)
+{
+    image->bytes = malloc(MOST + 1);
+    if (image->bytes == NULL) {
+        complain("%s: no memory", image->name);
+        return false;
+    }
+    errno = 0;
+    image->present = fread(image->bytes, 1, MOST + 1, file);
+    if (!ferror(file))
+        return true;
+    complain("%s: %s", image->name, errno != 0 ? strerror(errno) : "it cannot be read");
+    image_free(image);
+    return false;
+}
+
+static void split(struct image *image)
+{
+    const uint8_t *at = image->bytes;
+    if (image->present < IMAGE_HEADER_BYTES)
+        return;
+    image->head = little(at, 8);
+    image->tail = little(at + 8, 8);
+    image->sample_type = little(at + 16, 8);
+    image->read_format = little(at + 24, 8);
+    image->user_mask = little(at + 32, 8);
+    image->interrupt_mask = little(at + 40, 8);
+    image->edition = at[48];
+    image->sample_id_all = at[49];
+    image->ring = at + IMAGE_HEADER_BYTES;
+    image->length = image->present - IMAGE_HEADER_BYTES;
+}
+
+bool image_read(struct image *image, const char *path)
+{
+    bool standard_input = strcmp(path, "-") == 0;
+    memset(image, 0, sizeof *image);
+    image->name = standard_input ? "standard input" : path;
+    FILE *file = standard_input ? stdin : fopen(path, "rb");
+    if (file == NULL) {
+        complain("%s: %s", path, strerror(errno));
+        return false;
+    }
+    bool done = read_bytes(image, file);
+    if (!standard_input)
+        fclose(file);
+    if (done)
+        split(image);
+    return done;
+}
+
+void image_free(struct image *image)
+{
+    free(image->bytes);
+    image->bytes = NULL;
+}
+
+/* ---- what is wrong with it ---- */
+
+static bool length_is_allowed(size_t length)
+{
+    return length >= OLLSKUVAN_RING_MIN && length <= OLLSKUVAN_RING_MAX && (length & (length - 1)) == 0;
+}
+
+bool image_is_none(const struct image *image)
+{
+    static const char perf_data[8] = { 'P', 'E', 'R', 'F', 'I', 'L', 'E', '2' };
+    if (image->present == 0)
+        complain("%s: no ring image: it is empty", image->name);
+    else if (image->present >= sizeof perf_data && memcmp(image->bytes, perf_data, sizeof perf_data) == 0)
+        complain("%s: no ring image: it is a file of perf record (perf.data)", image->name);
+    else if (image->present < IMAGE_HEADER_BYTES)
+        complain("%s: no ring image: it has %zu bytes, and %d stand before the ring", image->name, image->present,
+            IMAGE_HEADER_BYTES);
+    else if (image->length > OLLSKUVAN_RING_MAX)
+        complain("%s: no ring image: more than %u bytes follow the first %d, and no ring is longer", image->name,
+            OLLSKUVAN_RING_MAX, IMAGE_HEADER_BYTES);
+    else if (!length_is_allowed(image->length))
+        complain("%s: no ring image: %zu bytes follow the first %d, and a ring's length is a power of two "
+            "from %u to %u", image->name, image->length, IMAGE_HEADER_BYTES, OLLSKUVAN_RING_MIN, OLLSKUVAN_RING_MAX);
+    else
+        return false;
+    return true;
+}
+
+int image_end(const struct image *image, const struct ollskuvan_drained *done)
+{
+    if (done->stop == OLLSKUVAN_STOP_NOTHING)
+        return STATUS_DONE;
+    complain("%s: not read to its end: stop %" PRIu32 " at tail %" PRIu64 ": %s", image->name, done->stop,
+        done->tail, ollskuvan_stop_text(done->stop));
+    return STATUS_FAILED;
+}
+
+/* ---- its records ---- */
+
+/* No record is shorter than 8 bytes, so the journal has room for all of them. */
+uint8_t *image_drain(const struct image *image, struct ollskuvan_drained *done)
+{
+    static uint8_t scratch[OLLSKUVAN_RECORD_MAX];
+    size_t room = image->length / 8 * OLLSKUVAN_JOURNAL_ENTRY;
+    uint8_t *journal = malloc(room + 1);
+    if (journal == NULL) {
+        complain("%s: no memory", image->name);
+        return NULL;
+    }
+    *done = ollskuvan_drain(image->ring, image->length, image->head, image->tail, image->sample_type,
+        image->read_format, image->sample_id_all, image->user_mask, image->interrupt_mask, image->edition, UINT64_MAX,
+        scratch, sizeof scratch, journal, room);
+    return journal;
+}
+
+struct ollskuvan_one image_read_one(const struct image *image, uint64_t tail, uint64_t fields[OLLSKUVAN_FIELDS],
+    const uint8_t **record)
+{
+    static uint8_t scratch[OLLSKUVAN_RECORD_MAX];
+    struct ollskuvan_one one = ollskuvan_read_one(image->ring, image->length, image->head, tail, image->sample_type,
+        image->read_format, image->sample_id_all, image->user_mask, image->interrupt_mask, image->edition, scratch,
+        sizeof scratch, fields, OLLSKUVAN_FIELDS);
+    *record = (one.in_scratch != 0 ? scratch : image->ring) + one.place;
+    return one;
+}

@@ -1,0 +1,245 @@
+#!/usr/bin/env bash
+# The program as a user meets it: every command, every shipped ring, every kind of bad input and output, damaged
+# images under the sanitizers; and what ollskuvan.h says of words, widths, sizes and stack, tried over the exports.
+#
+#   tool/test.sh            needs target/tool/ollskuvan (make tool)
+#   tool/test.sh --write    writes the expected dumps anew: read the difference before you keep it
+set -u
+cd "$(dirname "$0")/.." || exit 2
+tool=target/tool/ollskuvan
+out=target/tool/test
+header=include/ollskuvan.h
+archives='target/staticlib/libollskuvan_words.a target/staticlib/libollskuvan.a'
+failures=0
+tried=0
+wrong() { echo "WRONG: $*"; failures=$((failures + 1)); }
+[ -x $tool ] || { echo "tool/test.sh: $tool is not built (make tool)" >&2; exit 1; }
+rm -rf $out && mkdir -p $out tool/expected || exit 2
+
+# ---- the test programs
+build() { # NAME FLAGS.. FILES..: C99 with the tool's own files
+  local name=$1
+  shift
+  # shellcheck disable=SC2086 # words are wanted
+  ${CC:-cc} -std=c99 -pedantic -Wall -Wextra -Werror -g -Iinclude -Iwords -Iexamples -Itool -o "$out/$name" "$@" \
+    $archives || { echo "tool/test.sh: $name does not build"; exit 1; }
+}
+shared='tool/image.c tool/command.c examples/messages.c examples/text.c'
+# shellcheck disable=SC2086
+{
+  build values -O1 tool/tests/values.c tool/show.c $shared
+  build stack -O1 -fno-optimize-sibling-calls -Wl,-z,now tool/tests/stack.c $shared
+  build damage -O1 -fsanitize=address,undefined -fno-sanitize-recover=all tool/tests/damage.c tool/dump.c \
+    tool/journal.c tool/show.c words/ollskuvan_words.c $shared
+}
+
+# ---- the header's constants and the one table of words
+constants() {
+  awk '/^\/\* Every record/ { on = 1 } /^ \* The calls/ { on = 0 } on && /^#define/ { print $2 }' $header | sort
+}
+rows() {
+  sed -nE -e 's/^ *HEADER\(([A-Z_]+),.*/OLLSKUVAN_\1/p' -e 's/^ *TRAILER\(([A-Z_]+),.*/OLLSKUVAN_TRAILER_\1/p' \
+    -e 's/^ *(FIELD|LIST)\(([A-Z0-9_]+), ([A-Z_]+),.*/OLLSKUVAN_\2_\3/p' words/ollskuvan_words.c | sort
+}
+diff <(constants) <(rows) >$out/rows.diff ||
+  { wrong "a constant of the header has no row, or not one alone"; head $out/rows.diff; }
+[ "$(constants | wc -l)" -gt 100 ] || wrong "the header's constants were not found"
+widths() { # CONSTANT BYTES, where the width is not 8
+  sed -nE -e 's/^ *HEADER\(([A-Z_]+), "[^"]*", ([124])\).*/OLLSKUVAN_\1 \2/p' \
+    -e 's/^ *TRAILER\(([A-Z_]+), "[^"]*", ([124]),.*/OLLSKUVAN_TRAILER_\1 \2/p' \
+    -e 's/^ *FIELD\(([A-Z0-9_]+), ([A-Z_0-9]+), "[^"]*", ([124]),.*/OLLSKUVAN_\1_\2 \3/p' words/ollskuvan_words.c | sort
+}
+marks() {
+  sed -nE 's/^#define (OLLSKUVAN_[A-Z0-9_]+) [0-9]+u +\/\* u(8|16|32)\b.*/\1 \2/p' $header |
+    awk '{ print $1, $2 / 8 }' | sort
+}
+diff <(widths) <(marks) >$out/widths.diff ||
+  { wrong "the header marks other widths than the table's"; head $out/widths.diff; }
+version=$(cat packaging/VERSION)
+grep -q "^#define OLLSKUVAN_VERSION \"$version\"$" $header || wrong "the header's version is not packaging/VERSION"
+IFS=. read -r major minor patch <packaging/VERSION
+number=$((major * 10000 + minor * 100 + patch))
+grep -q "^#define OLLSKUVAN_VERSION_NUMBER $number$" $header || wrong "the header's version number"
+build names -O2 tool/tests/names.c
+$out/names || wrong "the names of words, types and answers"
+
+# ---- the header's sentences on values and stack
+mkdir -p $out/made && $out/values made $out/made || wrong "the images of every type"
+$out/values check >$out/values.txt || { wrong "the header's sentences on values"; head $out/values.txt; }
+tail -n 1 $out/values.txt
+$out/stack rings/*.img examples/rings/*.img $out/made/*.img || wrong "a call uses more stack than the header says"
+
+# ---- every ring: dump beside ringdump, from a file and from standard input
+records() { # what a dump says in ringdump's terms: type and answer of each record
+  awk '/^record / { type = $0; sub(/.*, type /, "", type); sub(/,.*/, "", type); types[++n] = type; answers[n] = 0 }
+       /^    refused: / { answers[n] = $2 + 0 }
+       END { for (i = 1; i <= n; i++) print types[i], answers[i] }'
+}
+entries() { # the same of ringdump: bytes 4 and 5, 6 and 7 of each entry
+  awk 'function digit(at) { return index("0123456789abcdef", substr($0, at, 1)) - 1 }
+       function two(at) { return digit(at) * 16 + digit(at + 1) + 256 * (digit(at + 2) * 16 + digit(at + 3)) }
+       /^1/ { print two(9), two(13) }'
+}
+for image in rings/*.img examples/rings/*.img $out/made/*.img; do
+  name=$(basename "$image" .img)
+  target/bin/ringdump <"$image" >$out/ringdump.txt
+  $tool journal "$image" >$out/journal.txt || wrong "journal $image failed"
+  cmp -s $out/journal.txt $out/ringdump.txt || wrong "journal $image is not what ringdump prints"
+  $tool journal - <"$image" | cmp -s - $out/ringdump.txt || wrong "journal of standard input: $image"
+  $tool dump "$image" >"$out/$name.txt" || wrong "dump $image failed"
+  # shellcheck disable=SC2002 # a pipe is wanted
+  cat "$image" | $tool dump - | cmp -s - "$out/$name.txt" || wrong "dump of a pipe: $image"
+  cmp -s <(records <"$out/$name.txt") <(entries <$out/ringdump.txt) ||
+    wrong "dump $image: other types or answers than ringdump"
+  $tool dump --all "$image" >$out/all.txt || wrong "dump --all $image failed"
+  ! grep -q '^ *\.\. and' $out/all.txt || wrong "dump --all $image leaves something out"
+  tried=$((tried + 1))
+done
+[ $tried -ge 18 ] || wrong "only $tried rings were read"
+
+# ---- the dumps that are kept
+for name in tasks kernel every-type every-type-plain every-type-edition-2; do
+  if [ "${1:-}" = --write ]; then
+    cp "$out/$name.txt" "tool/expected/$name.txt"
+  else
+    diff -u "tool/expected/$name.txt" "$out/$name.txt" >$out/expected.diff ||
+      { wrong "dump $name is not as expected"; head -n 20 $out/expected.diff; }
+  fi
+done
+for type in $(sed -nE 's/^#define OLLSKUVAN_TYPE_([A-Z0-9_]+) .*/\1/p' $header); do
+  grep -q "^record .*: $type, type" $out/every-type.txt || wrong "the dump of every type has no $type"
+done
+
+# ---- names: no byte reaches the terminal that is no plain sign
+patch() { # NAME OFFSET OCTAL-BYTES: tasks.img with other bytes
+  cp rings/tasks.img "$out/$1.img" && printf "$3" | dd of="$out/$1.img" bs=1 seek="$2" conv=notrunc status=none
+}
+patch escape 66 '\033["\\\377'
+$tool dump $out/escape.img | grep -qF 'name                "\x1b[\x22\x5c\xff", 5 bytes at 16' ||
+  wrong "a name with signs that are not plain"
+
+# ---- wrong images and wrong usage: exit status, words, and nothing printed as if it were a dump
+says() { # STATUS WORDS ARGUMENT..
+  local status=$1 words=$2 said
+  shift 2
+  said=$($tool "$@" 2>&1 >$out/printed.txt </dev/null)
+  [ $? -eq "$status" ] || wrong "ollskuvan $*: another exit status than $status"
+  case "$said" in "ollskuvan"*"$words"*) ;; *) wrong "ollskuvan $*: does not say '$words' but: $said" ;; esac
+  tried=$((tried + 1))
+}
+refuses() { says "$@"; [ ! -s $out/printed.txt ] || wrong "ollskuvan $3 prints something for $4"; }
+: >$out/empty.img
+head -c 49 rings/tasks.img >$out/49.img
+head -c 50 rings/tasks.img >$out/50.img
+head -c $((50 + 63)) rings/tasks.img >$out/63.img
+head -c $((50 + 4095)) rings/tasks.img >$out/4095.img
+{ cat rings/tasks.img; head -c 1048576 /dev/zero; } >$out/long.img
+{ printf PERFILE2; head -c 4000 /dev/zero; } >$out/perf.data
+refuses 1 'No such file' dump $out/none.img
+refuses 1 'Is a directory' dump rings
+refuses 1 'it is empty' dump $out/empty.img
+refuses 1 'standard input: no ring image: it is empty' dump -
+refuses 1 'it has 49 bytes, and 50 stand before the ring' dump $out/49.img
+refuses 1 '0 bytes follow the first 50, and a ring' dump $out/50.img
+refuses 1 '63 bytes follow' dump $out/63.img
+refuses 1 "4095 bytes follow the first 50, and a ring's length is a power of two from 64 to 1048576" dump $out/4095.img
+refuses 1 'more than 1048576 bytes follow' dump $out/long.img
+refuses 1 'perf.data' dump $out/perf.data
+patch edition 48 '\007'
+patch head-odd 0 '\001'
+patch head-far 2 '\377'
+patch size-0 56 '\000\000'
+patch size-past 56 '\370\377'
+says 1 'stop 2 at tail 0: the edition is not' dump $out/edition.img
+says 1 'stop 5 at tail 0: head or tail is no multiple of 8' dump $out/head-odd.img
+says 1 'stop 4 at tail 0: head and tail are further apart' dump $out/head-far.img
+says 1 'stop 6 at tail 0' dump $out/size-0.img
+says 1 'stop 7 at tail 0' journal $out/size-past.img
+for image in empty 49 50 63 4095 edition head-odd head-far size-0 size-past; do
+  $tool journal $out/$image.img 2>/dev/null | cmp -s - <(target/bin/ringdump <$out/$image.img) ||
+    wrong "journal of $image.img is not ringdump's"
+done
+says 1 'no ring image' journal $out/49.img
+refuses 2 'which command' ''
+refuses 2 'no such command: dumb' dumb
+refuses 2 'too few words' dump
+refuses 2 'too many words' dump a b
+refuses 2 'unknown option --whole' dump --whole rings/tasks.img
+refuses 2 'a number is wanted, not x' explain x
+refuses 2 'a number is wanted, not -' explain -
+refuses 2 'unknown option -1' explain -1
+refuses 2 'a NUMBER or --all' explain
+refuses 2 '' report --nonsense
+refuses 2 '' record --nonsense
+refuses 1 'no stop or refusal has the number 99' explain 99
+(exec <&-; $tool dump - 2>&1 >/dev/null) | grep -q 'dump: standard input: ' || wrong "a closed standard input"
+$tool dump -- rings/tasks.img | cmp -s - $out/tasks.txt || wrong "dump -- IMAGE"
+
+# ---- output that cannot be written
+for words in 'dump rings/tasks.img' 'journal rings/tasks.img' 'report rings/tasks.img' 'explain 7' --help --version \
+  'dump --help'; do
+  # shellcheck disable=SC2086
+  {
+    said=$($tool $words 2>&1 >/dev/full) && wrong "ollskuvan $words to a full device: exit 0"
+    [ "$(echo "$said" | grep -c 'cannot be written: No space')" -eq 1 ] || wrong "ollskuvan $words, full device: '$said'"
+    said=$($tool $words 2>&1 >&-) && wrong "ollskuvan $words to a closed output: exit 0"
+    [ "$(echo "$said" | grep -c 'cannot be written')" -eq 1 ] || wrong "ollskuvan $words, closed output: '$said'"
+  }
+  tried=$((tried + 2))
+done
+
+# ---- help, version, explain
+for words in --help -h 'dump --help' 'dump -h' 'journal -h' 'explain -h' 'report -h' 'record -h'; do
+  # shellcheck disable=SC2086
+  $tool $words 2>/dev/null | grep -q '^usage: ollskuvan' || wrong "ollskuvan $words is no help"
+done
+[ "$($tool --version)" = "ollskuvan $version" ] || wrong "--version"
+for number in $(sed -nE 's/^#define OLLSKUVAN_(STOP|REFUSED)_[A-Z_]+ ([0-9]+)u.*/\2/p' $header | sort -un); do
+  $tool explain "$number" | grep -qE "^(stop|refusal) $number: ." || wrong "explain $number"
+done
+used=$(sed -nE 's/^#define OLLSKUVAN_(OK|(STOP|REFUSED)_[A-Z_]+) ([0-9]+)u.*/\3/p' $header | sort -un | wc -l)
+told=$($tool explain --all | sed -n 's/^[a-z]* \([0-9]*\):.*/\1/p' | sort -un | wc -l)
+[ "$told" = "$used" ] || wrong "explain --all tells other numbers than the header"
+[ "$($tool explain 0 7 23 | grep -c '^[a-z]')" -eq 5 ] || wrong "explain 0 7 23: five answers are due"
+
+# ---- report and record are the examples' own
+[ ! -x target/examples/late ] || {
+  $tool report examples/rings/kiln-cpu0.img examples/rings/kiln-cpu1.img >$out/report.txt || wrong "report failed"
+  target/examples/late examples/rings/kiln-cpu0.img examples/rings/kiln-cpu1.img | cmp -s - $out/report.txt ||
+    wrong "report is not what late prints"
+}
+$tool report $out/49.img >/dev/null 2>&1 && wrong "report of no image"
+$tool record --seconds 0.2 --save $out/live >$out/record.txt 2>&1
+case $? in
+  0)
+    for image in $out/live-cpu*.img; do $tool dump "$image" >$out/live.txt || wrong "dump of $image, taken live"; done
+    ;;
+  3) echo "record: not tried live: $(tail -n 1 $out/record.txt)" ;;
+  *) wrong "record failed: $(tail -n 1 $out/record.txt)" ;;
+esac
+
+# ---- examples/decode.c on this kernel: a program that starts on cpu 0 is named, mapped and switched to
+if [ -x target/examples/decode ]; then
+  timeout 1 target/examples/decode 0 >$out/decode.txt 2>$out/decode.err &
+  for _ in 1 2 3 4 5; do sleep 0.1; taskset -c 0 /bin/true; done
+  wait $!
+  ended=$?
+  if [ $ended -eq 1 ] && grep -qE 'ermi|not implemented|No such file' $out/decode.err; then
+    echo "decode: not tried live: $(cat $out/decode.err)"
+  elif [ $ended -ne 124 ]; then
+    wrong "decode ended with $ended: $(cat $out/decode.err)"
+  else
+    for words in ' is called true$' ' maps .*/true$' ' in$' ' out$'; do
+      grep -q -- "$words" $out/decode.txt || wrong "decode does not print '$words'"
+    done
+  fi
+fi
+
+# ---- damaged images under the sanitizers
+$out/damage ${DAMAGED:-1000} $out/damaged.img rings/*.img examples/rings/*.img $out/made/*.img 2>$out/damage.txt ||
+  { wrong "dump or journal of a damaged image: $(head -n 20 $out/damage.txt)"; }
+said=$(grep -E 'runtime error|Sanitizer' $out/damage.txt | head -n 3)
+[ -z "$said" ] || wrong "the sanitizers: $said"
+
+[ $failures -eq 0 ] || { echo "program: $failures wrong"; exit 1; }
+echo "program: $tried images and command lines as expected, ${DAMAGED:-1000} damaged images without a fault"

@@ -1,0 +1,39 @@
+#!/usr/bin/env bash
+# README and docs: lines of at most 120 columns, and that they tell what is there.
+set -u
+cd "$(dirname "$0")/.." || exit 2
+export LC_ALL=C.UTF-8
+bad=0
+say() { printf 'pages: %s\n' "$*"; bad=1; }
+
+# pages that are still to be wrapped (tools/wrap.py does it)
+later=''
+for page in *.md docs/*.md; do
+  case " $later " in *" $page "*) continue ;; esac
+  wide=$(grep -nE '^.{121,}' "$page" | cut -d: -f1 | tr '\n' ' ')
+  [ -z "$wide" ] || say "$page has lines above 120 columns: $wide"
+done
+
+# the packages, the first and the last line of `make run`, the line of the report
+grep -qxF "    $(tools/needs.sh line)" README.md || say "README shows another line than: $(tools/needs.sh line)"
+if [ -x target/bin/ringdump ]; then
+  ring=$(sed -n 's/^RING ?= //p' Makefile)
+  for line in "$(target/bin/ringdump <"$ring" | head -n 1)" "$(target/bin/ringdump <"$ring" | tail -n 1)"; do
+    grep -qxF "    $line" README.md || say "README does not show this line of make run: $line"
+  done
+else
+  echo "pages: target/bin/ringdump is not built: README's lines of make run are not compared"
+fi
+while read -r line; do
+  grep -qxF "$line" examples/expected/kiln.txt || say "README shows a line that the report does not print: $line"
+done < <(sed -n 's/^    \(late: .*\)/\1/p' README.md)
+
+# files and folders that README and CONTRIBUTING name; a name in capitals stands for any
+named=$(grep -ohE '\b(docs|tests|tools|bench|examples|include|packaging|rings|crates)/[A-Za-z0-9_./-]*[A-Za-z0-9_]' README.md CONTRIBUTING.md)
+for path in $(echo "$named" | grep -v NAME | sort -u); do
+  [ -e "$path" ] || say "there is no $path, which README or CONTRIBUTING names"
+done
+
+tests/format.sh || say 'docs/FORMAT.md is not what the header says'
+[ "$bad" -eq 0 ] && echo "pages: width, lines of README, named files, format: all fine"
+exit "$bad"
