@@ -12,24 +12,26 @@ use Rattle.meaning.specs.declared.Attributes.{Attributes}
 use Rattle.meaning.specs.declared.Cursor.{Cursor}
 use Rattle.meaning.specs.declared.Item.{Item}
 use Rattle.meaning.specs.declared.Known.{Known}
-use Rattle.meaning.specs.Bytes.{bit, ones}
+use Rattle.meaning.specs.Bytes.{ones}
 use Rattle.meaning.specs.Items.{walk}
 use Rattle.meaning.specs.Schema.{schema, trailer}
 use Rattle.meaning.specs.Editions.{known, allowed, unreadable}
 use Rattle.meaning.specs.Records.{layout, room, origin, closed, fieldsOf, fieldsAnswer, judge, checkBy, check, kindOf, miscOf, sizeOf}
-use Rattle.laws.specs.Counting.{bitsFrom, eights, eights-ones, trailer-count}
+use Rattle.laws.specs.Counting.{bitsFrom, eights, eights-ones, eights-most, trailer-count}
 use Rattle.answers.specs.Answer.{answerBy}
 
 -- ---- the trailer's room, by the one law over the count: 8 for each bit of 66,246 that the sample type has
 
-pub room-on : (kind : ℕ) (a : Attributes) → (a .all && not (eqb kind 9)) ≡ true
-    → cond (bit (a .sample) 1) 8 0 + (cond (bit (a .sample) 2) 8 0 + (cond (bit (a .sample) 6) 8 0 + (cond (bit (a .sample) 7) 8 0
-    + (cond (bit (a .sample) 9) 8 0 + cond (bit (a .sample) 16) 8 0)))) ≡ room (trailer kind a)
-unfolding bitsFrom eights
-room-on kind a h =
-    let e : 8 * ones 64 (bitAnd (a .sample) 66246) ≡ eights (a .sample) (1 ∷ 2 ∷ 6 ∷ 7 ∷ 9 ∷ 16 ∷ []) = eights-ones (a .sample) 66246 in
-    let t : room (trailer kind a) ≡ 8 * ones 64 (bitAnd (a .sample) 66246) = trailer-count kind a ∙ rw h refl in
-    omega (arith, e, t)
+pub room-on : (kind : ℕ) (a : Attributes) → (a .all && not (eqb kind 9)) ≡ true → 8 * ones 64 (bitAnd (a .sample) 66246) ≡ room (trailer kind a)
+room-on kind a h = sym (trailer-count kind a ∙ rw h refl)
+
+-- the mask has six bits
+pub room-most : (x : ℕ) → 8 * ones 64 (bitAnd x 66246) ≤ 48
+unfolding bitsFrom
+room-most x =
+    let e : 8 * ones 64 (bitAnd x 66246) ≡ eights x (1 ∷ 2 ∷ 6 ∷ 7 ∷ 9 ∷ 16 ∷ []) = eights-ones x 66246 in
+    let l = eights-most x (1 ∷ 2 ∷ 6 ∷ 7 ∷ 9 ∷ 16 ∷ []) in
+    omega (arith, e, l)
 
 pub room-off : (kind : ℕ) (a : Attributes) → (a .all && not (eqb kind 9)) ≡ false → 0 ≡ room (trailer kind a)
 room-off kind a h = sym (trailer-count kind a ∙ rw h refl)

@@ -1,10 +1,8 @@
 // The answer for a record: the walk over its fields, the trailer, 30 to 33 after 20 to 24, and record check. The header is taken by the reader
 // that holds the record and its place.
 ghost use mathlib.Core.Path.{_≡_};
-ghost use mathlib.Core.Bool.{cond};
 ghost use Prim.Native.Nat.{_<_, _≤_};
 ghost use lib.ListN.{length, getD};
-ghost use Rattle.meaning.specs.Bytes.{bit};
 ghost use Rattle.meaning.specs.Items.{step, walk};
 ghost use Rattle.meaning.specs.Schema.{schema, trailer};
 ghost use Rattle.meaning.specs.Editions.{editions, known};
@@ -61,14 +59,10 @@ pub fn walk(s: &[u8], kind: u64, misc: u64, a: Attributes, first: Cursor) -> Cur
 
 // ---- the trailer
 
-fn eight(x: u64, b: u64) -> usize
-    requires { ⌜ b < 64 ⌝ }
-    ensures { λ r. ⌜ (r ≡ cond (bit x b) 8 0) × (r ≤ 8) ⌝ }
-{
-    if wire::has_bit(x, b) { 8 } else { 0 }
-}
-
 // "The trailer is 8 bytes for each selected bit of 66,246": bits 1, 2, 6, 7, 9 and 16.
+const TRAILER_BITS: u64 = 66246;
+
+// 02, M-101: "Count the ones of the masked sample type with the language's own operation."
 pub fn trailer_room(kind: u64, a: Attributes) -> usize
     ensures { λ r. ⌜ (r ≡ room (trailer kind a)) × (r ≤ 48) ⌝ }
 {
@@ -76,8 +70,7 @@ pub fn trailer_room(kind: u64, a: Attributes) -> usize
     if !has {
         return 0;
     }
-    let x = a.sample;
-    eight(x, 1) + (eight(x, 2) + (eight(x, 6) + (eight(x, 7) + (eight(x, 9) + eight(x, 16)))))
+    wire::count_ones(a.sample & TRAILER_BITS) * 8
 }
 
 // ---- the answer
