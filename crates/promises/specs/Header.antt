@@ -18,7 +18,7 @@ use Rattle.meaning.specs.Ring.{Asked, askedOf, lengthAllowed, distance, stopped
 use Rattle.meaning.specs.Drain.{start, run, drain}
 use Rattle.meaning.specs.Names.{nameAnswer}
 use Rattle.record.specs.Into.{readIntoAnswer}
-use Rattle.one.specs.Told.{oneTold}
+use Rattle.one.specs.Told.{toldStop, toldTaken, oneTold}
 use Rattle.writer.specs.Writer.{writeWordsAnswer}
 use Rattle.laws.specs.Bytes.{apart}
 use Rattle.laws.specs.Rows.{or-false, in-cond, gives, Passed, passed-by, stopped-after}
@@ -94,27 +94,32 @@ pub record Nobodys (k e : ℕ) (a : Attributes) : Type 0 where
 
 -- what is in a list is no number that is not
 not-in : (ns : List ℕ) (k x : ℕ) → isIn k ns ≡ false → isIn x ns ≡ true → x ≡ k → ⊥
-not-in ns k x no h q = apart (sym no ∙ subst (λ (m : ℕ). isIn m ns ≡ true) q h)
+not-in ns k x out h q = apart (sym out ∙ subst (λ (m : ℕ). isIn m ns ≡ true) q h)
 
 module _ (e : ℕ) (a : Attributes) where
-  told-stops : (ring : List ℕ) (head tail : ℕ) (scratch words : List ℕ) → isIn (oneTold editions e a ring head tail scratch words .stop) stopNumbers ≡ true
-  unfolding oneTold
-  told-stops ring head tail scratch words = by (oneFrame editions e ring head tail scratch .go)
-    where
-      by : (b : Bool) → isIn (cond b _ _ .stop) stopNumbers ≡ true
-      by true = refl
-      by false = frame-in (askedOf editions e) ring head tail 1 16 (length scratch)
+  -- what C is told of one record: as the rows stop, or as the reader that fills lent words answers
+  module _ (ring : List ℕ) (head tail : ℕ) (scratch words : List ℕ) where
+    abbrev next : Frame
+    next = oneFrame editions e ring head tail scratch
 
-  told-answers : (ring : List ℕ) (head tail : ℕ) (scratch words : List ℕ) → isIn (oneTold editions e a ring head tail scratch words .answer) readNumbers ≡ true
-  unfolding oneTold
-  told-answers ring head tail scratch words = by (oneFrame editions e ring head tail scratch .go)
-    where
-      f : Frame
-      f = oneFrame editions e ring head tail scratch
+    abbrev answer : ℕ
+    answer = readIntoAnswer editions e a (recordAt ring (next .place) (next .size)) words
 
-      by : (b : Bool) → isIn (cond b _ _ .answer) readNumbers ≡ true
-      by true = lent-numbers e a (recordAt ring (f .place) (f .size)) words
-      by false = refl
+    told-stops : isIn (oneTold editions e a ring head tail scratch words .stop) stopNumbers ≡ true
+    unfolding oneTold
+    told-stops = by (next .go)
+      where
+        by : (b : Bool) → isIn (cond b (toldTaken ring next tail answer) (toldStop next tail) .stop) stopNumbers ≡ true
+        by true = refl
+        by false = frame-in (askedOf editions e) ring head tail 1 16 (length scratch)
+
+    told-answers : isIn (oneTold editions e a ring head tail scratch words .answer) readNumbers ≡ true
+    unfolding oneTold
+    told-answers = by (next .go)
+      where
+        by : (b : Bool) → isIn (cond b (toldTaken ring next tail answer) (toldStop next tail) .answer) readNumbers ≡ true
+        by true = lent-numbers e a (recordAt ring (next .place) (next .size)) words
+        by false = refl
 
   words-answers : (src ws : List ℕ) (space : ℕ) → isIn (writeWordsAnswer e a src ws space) writeNumbers ≡ true
   unfolding writeWordsAnswer
