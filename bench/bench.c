@@ -30,7 +30,7 @@ static struct ollskuvan_drained memcpy_drain(const uint8_t *ring, size_t ring_le
 
 const struct contender contenders[] = {
     [CAREFUL] = { "careful", "careful C, every stop at every record", careful_drain },
-    [CAREFUL_ONCE] = { "careful-once", "careful C, stops 1, 2, 4, 5, 10 once", careful_once_drain },
+    [CAREFUL_ONCE] = { "careful-once", "careful C, stops 1, 2, 4, 5 once", careful_once_drain },
     [OURS] = { "ours", "ollskuvan_drain", ollskuvan_drain },
     { "floor", "floor: trusts sizes, no body", floor_drain },
 #ifdef WITH_OTHER

@@ -15,7 +15,7 @@ typedef struct ollskuvan_drained drain_function(const uint8_t *ring, size_t ring
 drain_function careful_drain;
 
 /* careful.c: the same answers; the stops that cannot change during a drain
- * (1, 2, 4, 5, 10) are tested once. */
+ * (1, 2, 4, 5) are tested once. */
 drain_function careful_once_drain;
 
 /* floor.c: trusts every size and looks at no body. */

@@ -23,7 +23,7 @@
 #include "names.h"
 #include "ollskuvan.h"
 
-enum { BUDGET_MAX = 4096, REFUSALS_SHOWN = 20, PATH_ROOM = 512, STOPS = 11, REFUSALS = 64, TURNS = 64 };
+enum { BUDGET_MAX = 4096, REFUSALS_SHOWN = 20, PATH_ROOM = 512, STOPS = 10, REFUSALS = 64, TURNS = 64 };
 
 struct options {
     struct live_want want;
@@ -79,7 +79,7 @@ static uint64_t tail_after(struct controller *c, const struct perf_ring *ring, u
             (unsigned long long)done->tail, ollskuvan_stop_text(done->stop), (unsigned long long)(head - done->tail));
         c->skipped += head - done->tail;
         return head;
-    default: /* 1, 2, 3, 10: this program is set up wrongly, and no ring can mend it */
+    default: /* 1, 2, 3: this program is set up wrongly, and no ring can mend it */
         complain("cpu %d: stop %u: %s", ring->cpu, done->stop, ollskuvan_stop_text(done->stop));
         c->broken = true;
         return done->tail;
@@ -99,7 +99,8 @@ static bool drain_some(struct controller *c, const struct perf_ring *ring)
     c->drains++;
     c->taken += done.taken;
     c->bytes += done.bytes;
-    c->by_stop[done.stop < STOPS ? done.stop : STOPS - 1]++;
+    if (done.stop < STOPS) /* there is no other */
+        c->by_stop[done.stop]++;
     for (uint64_t i = 0; i < done.taken; i++)
         look_at_entry(c, ring, c->journal + i * OLLSKUVAN_JOURNAL_ENTRY);
     perf_ring_give_back(ring, tail_after(c, ring, head, &done));

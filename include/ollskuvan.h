@@ -91,7 +91,7 @@ extern "C" {
  *
  * Stops: the drain ends (read_one takes nothing), and tail, scratch and journal
  * are as they stood before that record. Tested at every record in this order:
- * 1, 2, 4, 5, 0, 8, 9, 10, 6, 7, 3.
+ * 1, 2, 4, 5, 0, 8, 9, 6, 7, 3.
  */
 #define OLLSKUVAN_OK 0u                  /* a record: accepted; a copy or a writing: done */
 #define OLLSKUVAN_STOP_NOTHING 0u        /* head equals tail: nothing to take */
@@ -104,7 +104,7 @@ extern "C" {
 #define OLLSKUVAN_STOP_PAST_HEAD 7u      /* the record's size is above the distance that is left */
 #define OLLSKUVAN_STOP_BUDGET 8u         /* the budget is used up */
 #define OLLSKUVAN_STOP_JOURNAL 9u        /* fewer than 16 journal bytes are left */
-#define OLLSKUVAN_STOP_HEADER_CROSSES 10u /* the 8-byte header crosses the ring's end (cannot happen once 1 and 5 pass) */
+/* 10 is never used again. It was kept for a header that crosses the ring's end, which cannot be once 1 and 5 pass. */
 
 /* The same numbers as answers of check, read and write, where nothing stops. */
 #define OLLSKUVAN_REFUSED_EDITION 2u /* check, read, write: the edition is not 1, 2 or 3 */
@@ -467,8 +467,8 @@ struct ollskuvan_drained {
 /*
  * ollskuvan_drain takes records from tail towards head, at most budget of them.
  *
- * At every record the stops are tested in the order 1, 2, 4, 5, 0, 8, 9, 10, 6,
- * 7, 3; the first that holds ends the drain and is reported as stop. So an empty
+ * At every record the stops are tested in the order 1, 2, 4, 5, 0, 8, 9, 6, 7,
+ * 3; the first that holds ends the drain and is reported as stop. So an empty
  * ring with budget 0 is 0, and a budget used up just as head is reached is 0.
  *
  * A record taken is shown where it lies, or, if it crosses the ring's end, is
@@ -544,8 +544,8 @@ struct ollskuvan_one {
  * reads it to its value. It is a drain with a budget of one that writes no
  * journal; with the tail of a journal's entry it gives that entry's record.
  *
- * The stops are tested as by ollskuvan_drain: 1, 2, 4, 5, 0, 10, 6, 7, 3 (8 and
- * 9 are the drain's). A stop: stop is its number; place, size, in_scratch and
+ * The stops are tested as by ollskuvan_drain: 1, 2, 4, 5, 0, 6, 7, 3 (8 and 9
+ * are the drain's). A stop: stop is its number; place, size, in_scratch and
  * answer are 0, tail is the given one, scratch and words are unchanged.
  *
  * Taken (size is not 0): stop is 0, the tail moves by size. The record lies at

@@ -34,7 +34,6 @@ static const struct {
     { OLLSKUVAN_STOP_PAST_HEAD, "A drain cannot go on from there. A record must be as long as its size says." },
     { OLLSKUVAN_STOP_BUDGET, "The next call goes on from the new tail." },
     { OLLSKUVAN_STOP_JOURNAL, "Fewer than 16 bytes are left. The next call goes on from the new tail." },
-    { OLLSKUVAN_STOP_HEADER_CROSSES, "This cannot happen once 1 and 5 pass." },
     { OLLSKUVAN_REFUSED_NAME_ROOM, "The name and one zero are copied whole or not at all." },
     { OLLSKUVAN_REFUSED_TYPE, "Edition 1 knows types 1 to 9, edition 2 types 1 to 15, edition 3 types 1 to 20." },
     { OLLSKUVAN_REFUSED_SAMPLE_TYPE,
@@ -82,6 +81,15 @@ static bool print_number(unsigned long long number)
     return false;
 }
 
+/* Why a number tells nothing. 10 was a stop that no ring could give, and was taken away. */
+static void complain_unknown(const char *number)
+{
+    if (strtoull(number, NULL, 10) == 10)
+        complain("10 is no stop or refusal any more: it could never be given, and is never used again");
+    else
+        complain("no stop or refusal has the number %s", number);
+}
+
 /* Up to nine digits and nothing else. */
 static bool is_number(const char *word)
 {
@@ -98,7 +106,7 @@ static int explain(int count, char **words)
             return STATUS_USAGE;
         }
         if (!print_number(strtoull(words[i], NULL, 10))) {
-            complain("no stop or refusal has the number %s", words[i]);
+            complain_unknown(words[i]);
             status = STATUS_FAILED;
         }
     }

@@ -172,6 +172,7 @@ refuses 2 'a NUMBER or --all' explain
 refuses 2 '' report --nonsense
 refuses 2 '' record --nonsense
 refuses 1 'no stop or refusal has the number 99' explain 99
+refuses 1 '10 is no stop or refusal any more: it could never be given, and is never used again' explain 10
 (exec <&-; $tool dump - 2>&1 >/dev/null) | grep -q 'dump: standard input: ' || wrong "a closed standard input"
 $tool dump -- rings/tasks.img | cmp -s - $out/tasks.txt || wrong "dump -- IMAGE"
 

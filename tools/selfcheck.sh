@@ -38,6 +38,7 @@ borrowed=$(grep -rhoE '^use Rattle·[a-z_]+\.proofs\.[A-Za-z0-9]+' --include='*.
   while IFS=. read -r crate _ file; do [ -f "crates/$crate/proofs/$file.antt" ] && echo "$crate/proofs/$file"; done)
 [ -n "$borrowed" ] && say "laws that are taken out of another crate's proofs: $borrowed"
 bash tools/uniqueness.sh || say 'a public function has no theorem of uniqueness'
+bash tools/never_used.sh && bash tools/never_used.sh --teeth || say '10 has a meaning again'
 bash tools/slips.sh || say 'a slip of the definitions is not seen'
 [ "$bad" -eq 0 ] && echo "selfcheck: layout, holes, list of crates, $(wc -w <<<"$named $exports") entry points: all fine"
 exit "$bad"

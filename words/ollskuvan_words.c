@@ -24,7 +24,7 @@ const struct ollskuvan_answer ollskuvan_answers[] = {
     { OLLSKUVAN_STOP_PAST_HEAD, "the record's size passes the head", "the size is not the record's length" },
     { OLLSKUVAN_STOP_BUDGET, "the budget is used up", NULL },
     { OLLSKUVAN_STOP_JOURNAL, "the journal is full", NULL },
-    { OLLSKUVAN_STOP_HEADER_CROSSES, "the header crosses the ring's end", NULL },
+    /* 10 has no text: it is never used again */
     { OLLSKUVAN_REFUSED_NAME_ROOM, NULL, "the name is too long for its buffer" },
     { OLLSKUVAN_REFUSED_TYPE, NULL, "a record type that the edition doesn't know" },
     { OLLSKUVAN_REFUSED_SAMPLE_TYPE, NULL, "a sample bit that the edition doesn't know" },

@@ -110,8 +110,10 @@ impl Tally {
                 }
             }
         }
-        if self.answers.contains_key(&("drain", 10)) {
-            missing.push("a drain stopped with 10, which cannot happen once 1 and 5 pass".to_string());
+        for call in ["drain", "check", "name copy", "read one: stop", "read one", "read", "write"] {
+            if self.answers.contains_key(&(call, 10)) {
+                missing.push(format!("{call} answered 10, a number that is never used again"));
+            }
         }
         missing
     }

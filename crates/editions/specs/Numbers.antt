@@ -14,9 +14,9 @@ recordNumbers = 0 ∷ 20 ∷ 21 ∷ 22 ∷ 23 ∷ 24 ∷ 30 ∷ 31 ∷ 32 ∷ 33
 abbrev pub checkNumbers : List ℕ
 checkNumbers = 0 ∷ 2 ∷ 6 ∷ 7 ∷ 20 ∷ 21 ∷ 22 ∷ 23 ∷ 24 ∷ 30 ∷ 31 ∷ 32 ∷ 33 ∷ []
 
--- the rows that stop a reader, in the order checked
+-- the rows that stop a reader, in the order checked. 10 was one, and is never used again: M-104
 abbrev pub stopNumbers : List ℕ
-stopNumbers = 1 ∷ 2 ∷ 4 ∷ 5 ∷ 0 ∷ 8 ∷ 9 ∷ 10 ∷ 6 ∷ 7 ∷ 3 ∷ []
+stopNumbers = 1 ∷ 2 ∷ 4 ∷ 5 ∷ 0 ∷ 8 ∷ 9 ∷ 6 ∷ 7 ∷ 3 ∷ []
 
 -- "Writer, in this order: 2; 20 to 24; 41 ..; 42 ..; 40 .."
 abbrev pub writeNumbers : List ℕ

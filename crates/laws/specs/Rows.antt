@@ -190,6 +190,17 @@ stopped-passed (r ∷ rs) f p = rw (p .0) (stopped-passed rs f (p .1))
 pub stopped-rest : (rs ss : List Refusal) (f : Frame) → Passed rs → stopped (rs ++ ss) f ≡ stopped ss f
 stopped-rest rs ss f p = stopped-append rs ss f ∙ stopped-passed rs (stopped ss f) p
 
+-- rows that hold nowhere once the rows before them are passed: the chain is the same without them
+pub stopped-after : (rs ss : List Refusal) (f : Frame) → (Passed rs → Passed ss) → stopped (rs ++ ss) f ≡ stopped rs f
+unfolding stopped
+stopped-after [] ss f h = stopped-passed ss f (h tt)
+stopped-after (r ∷ rs) ss f h = by (r .holds) refl (λ q. stopped-after rs ss f (λ p. h (q, p)))
+  where
+    by : (b : Bool) → r .holds ≡ b → (r .holds ≡ false → stopped (rs ++ ss) f ≡ stopped rs f)
+        → cond b (stopAt (r .number)) (stopped (rs ++ ss) f) ≡ cond b (stopAt (r .number)) (stopped rs f)
+    by true e q = refl
+    by false e q = q e
+
 -- what goes on has passed them all
 pub passed : (rs : List Refusal) (rest f : Frame) → f .go ≡ true → f ≡ stopped rs rest → Passed rs × (f ≡ rest)
 unfolding stopped

@@ -4,6 +4,7 @@ pub mod Checked
 pub mod Demand1
 pub mod Names
 pub mod Lent
+pub mod Header
 pub mod Demand2
 pub mod Exported
 pub mod Demand3

@@ -21,7 +21,7 @@ use Rattle.meaning.specs.Drain.{journalKind, entry, End, run, drain}
 use Rattle.meaning.specs.Names.{nameAnswer, nameBuffer}
 use Rattle.meaning.specs.Misc.{types13, types14, means13, means14, miscMeaning}
 use Rattle.tables.specs.Numbers.{from, among, Limits, editionLimits, exponents, Field, sampleOrder, trailerOrder, trailerMask, trailerBits, entryBytes, kindsOfTypes, miscBits}
-use Rattle.tables.specs.Rows.{Row, types, mappings, readings, samples, trailed, laid, said, clean, Judged, bodies, buildIds, oneRegister, slices, Stop, sizedRing, go, stops, Copied, copies}
+use Rattle.tables.specs.Rows.{Row, types, mappings, readings, samples, trailed, laid, said, clean, Judged, bodies, buildIds, oneRegister, slices, Stop, sizedRing, headersRing, go, stops, Copied, copies}
 
 -- ---- tools of the comparison
 
@@ -235,6 +235,11 @@ stopsAs s = eqb (outcome (drained (s .edition) (sizedRing (s .size)) (s .head) (
 pub stops-same : every stopsAs stops ≡ true
 unfolding run frame stopped sized lengthAllowed distance num
 stops-same = refl
+
+-- at each place of a ring the header lies whole: no row stops a reader for it (row 10 is gone: M-104)
+pub headers-whole : every (λ (k : ℕ). eqb (outcome (drained 1 headersRing (8 * k + 8) (8 * k) 1 16 0)) go) (from 0 8) ≡ true
+unfolding run frame stopped sized lengthAllowed distance num
+headers-whole = refl
 
 -- a ring of another length stops with 1, before every other row
 pub length-stops : outcome (drained 0 (zeros 56) 12 4 0 0 0) ≡ 1

@@ -280,6 +280,13 @@ stop e size head tail left journal scratch number =
 abbrev pub sizedRing : ℕ → List ℕ
 sizedRing size = a 6 ++ (size ∷ 0 ∷ a 48) ++ (a 6 ++ (size ∷ 0 ∷ []))
 
+-- a header of size 8 at each of the eight places
+abbrev pub headersRing : List ℕ
+headersRing = eight ++ eight ++ eight ++ eight ++ eight ++ eight ++ eight ++ eight
+  where
+    eight : List ℕ
+    eight = a 6 ++ (8 ∷ 0 ∷ [])
+
 -- a number that no row has: the record is taken
 abbrev pub go : ℕ
 go = 99

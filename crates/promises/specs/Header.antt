@@ -1,0 +1,147 @@
+-- M-104: "Refusal 10 never happens. Once 1 and 5 pass, the eight header bytes can't cross the end. Show that, drop the case and document 01's row, and
+-- never reuse the number." Assumes nothing.
+use mathlib.Core.Path.{_≡_, refl, sym, ap, _∙_, subst, fun-ext}
+use mathlib.Core.List.{List, [], _∷_, _++_}
+use mathlib.Core.Bool.{Bool, true, false, cond, not}
+use Prim.Native.Nat.{ℕ, _+_, _*_, _%_, _<_, _≤_}
+use borrow.Author.Tests.{le-ltb, eqb-true, not-false}
+use lib.Dec.{leb, ltb, eqb}
+use lib.ListN.{length, take}
+use Rattle.meaning.specs.declared.Attributes.{Attributes}
+use Rattle.meaning.specs.declared.Frame.{Frame}
+use Rattle.meaning.specs.Bytes.{numberAt}
+use Rattle.meaning.specs.Refusals.{Refusal, refusal}
+use Rattle.meaning.specs.Editions.{editions, allowed, known, isIn}
+use Rattle.meaning.specs.Records.{layout, judge, check}
+use Rattle.meaning.specs.Values.{valueWords, read, writeAnswer}
+use Rattle.meaning.specs.Ring.{Asked, askedOf, lengthAllowed, distance, stopped, sized, callRows, leftRows, frame, recordAt, oneFrame, readOne}
+use Rattle.meaning.specs.Drain.{start, run, drain}
+use Rattle.meaning.specs.Names.{nameAnswer}
+use Rattle.record.specs.Into.{readIntoAnswer}
+use Rattle.one.specs.Told.{toldStop, toldTaken, oneTold}
+use Rattle.writer.specs.Writer.{writeWordsAnswer}
+use Rattle.laws.specs.Bytes.{apart}
+use Rattle.laws.specs.Rows.{or-false, in-cond, gives, Passed, passed-by, stopped-after}
+use Rattle.laws.specs.Rings.{header-whole}
+use Rattle.editions.specs.Numbers.{recordNumbers, checkNumbers, stopNumbers, writeNumbers, nameNumbers}
+use Rattle.editions.specs.InTable.{frame-in}
+use Rattle.promises.specs.Demand1.{check-numbers, read-numbers, write-numbers, one-stop-numbers, one-numbers, drain-stop-numbers, drain-entry-numbers}
+use Rattle.promises.specs.Lent.{readNumbers, lent-numbers}
+use Rattle.promises.specs.Names.{name-numbers}
+
+-- ---- "Once 1 and 5 pass, the eight header bytes can't cross the end": they lie inside a ring of n bytes, whatever the other rows say
+
+pub header-never-crosses : (asked : Asked) (n head tail : ℕ) → gives 1 (callRows asked n head tail) ≡ false → gives 5 (callRows asked n head tail) ≡ false
+    → tail % n + 8 ≤ n
+header-never-crosses asked n head tail one five =
+    let t = or-false (not (eqb (head % 8) 0)) (not (eqb (tail % 8) 0)) five .1 in
+    header-whole tail n (not-false (lengthAllowed n) one) (eqb-true (tail % 8) 0 (not-false (eqb (tail % 8) 0) t))
+
+-- ---- "drop the case and document 01's row": nothing is answered otherwise without it
+
+-- document 01's row 10, "the 8-byte header crosses the ring's end", which stood after 9 and before 6; and the rows before it
+abbrev pub crossing : ℕ → ℕ → Refusal
+crossing n tail = refusal (ltb n (tail % n + 8)) 10
+
+abbrev pub before-it : Asked → ℕ → ℕ → ℕ → ℕ → ℕ → List Refusal
+before-it asked n head tail left journal = callRows asked n head tail ++ leftRows head tail left journal
+
+-- the next record, or why there is none, by the chain with the row
+abbrev pub frameWith : Asked → List ℕ → ℕ → ℕ → ℕ → ℕ → ℕ → Frame
+frameWith asked ring head tail left journal scratch =
+    stopped (before-it asked (length ring) head tail left journal ++ (crossing (length ring) tail ∷ []))
+    (sized ring (tail % length ring) (distance head tail) scratch)
+
+-- where the rows before it are passed, its test is false
+pub crossing-false : (asked : Asked) (n head tail left journal : ℕ) → Passed (before-it asked n head tail left journal) → crossing n tail .holds ≡ false
+crossing-false asked n head tail left journal p =
+    let row = passed-by (before-it asked n head tail left journal) p in
+    le-ltb n (tail % n + 8) (header-never-crosses asked n head tail (row 1) (row 5))
+
+-- so the chain with it and the chain without it give the same
+pub crossing-never-answers : (asked : Asked) (ring : List ℕ) (head tail left journal scratch : ℕ)
+    → frameWith asked ring head tail left journal scratch ≡ frame asked ring head tail left journal scratch
+unfolding frame
+crossing-never-answers asked ring head tail left journal scratch =
+    stopped-after (before-it asked (length ring) head tail left journal) (crossing (length ring) tail ∷ []) _
+    (λ p. (crossing-false asked (length ring) head tail left journal p, tt))
+
+-- and so do the drains: stop, counts, tail, journal and scratch
+pub drains-never-cross : (e : ℕ) (a : Attributes) (ring : List ℕ) (head tail budget : ℕ) (journal scratch : List ℕ)
+    → run (frameWith (askedOf editions e) ring head) (judge (layout (known editions e) a)) ring budget (start tail journal scratch)
+    ≡ drain editions e a ring head tail budget journal scratch
+drains-never-cross e a ring head tail budget journal scratch =
+    ap (λ (f : ℕ → ℕ → ℕ → ℕ → Frame). run f (judge (layout (known editions e) a)) ring budget (start tail journal scratch))
+    (fun-ext (λ t. fun-ext (λ left. fun-ext (λ room. fun-ext (λ space. crossing-never-answers (askedOf editions e) ring head t left room space)))))
+
+-- ---- "never reuse the number": no stop is 10, and no answer of any call
+
+-- a number that nothing gives: each stop and each answer of the definitions, and what the calls from C tell
+pub record Nobodys (k e : ℕ) (a : Attributes) : Type 0 where
+  pub drain-stop : (ring : List ℕ) (head tail budget : ℕ) (journal scratch : List ℕ) → drain editions e a ring head tail budget journal scratch .stop ≡ k → ⊥
+  pub drain-answer : (ring : List ℕ) (head tail budget : ℕ) (journal scratch : List ℕ) (i : ℕ) → i < drain editions e a ring head tail budget journal scratch .state .taken
+      → numberAt 2 (drain editions e a ring head tail budget journal scratch .state .journal) (16 * i + 6) ≡ k → ⊥
+  pub one-stop : (ring : List ℕ) (head tail : ℕ) (scratch : List ℕ) → readOne editions e a ring head tail scratch .frame .stop ≡ k → ⊥
+  pub one-answer : (ring : List ℕ) (head tail : ℕ) (scratch : List ℕ) → readOne editions e a ring head tail scratch .answer ≡ k → ⊥
+  pub told-stop : (ring : List ℕ) (head tail : ℕ) (scratch words : List ℕ) → oneTold editions e a ring head tail scratch words .stop ≡ k → ⊥
+  pub told-answer : (ring : List ℕ) (head tail : ℕ) (scratch words : List ℕ) → oneTold editions e a ring head tail scratch words .answer ≡ k → ⊥
+  pub check-answer : (xs : List ℕ) → check editions e a xs ≡ k → ⊥
+  pub read-answer : (xs : List ℕ) → read editions e a xs .answer ≡ k → ⊥
+  pub lent-answer : (xs words : List ℕ) → readIntoAnswer editions e a xs words ≡ k → ⊥
+  pub write-answer : (src ws : List ℕ) (space : ℕ) → writeAnswer editions e a src ws space ≡ k → ⊥
+  pub words-answer : (src ws : List ℕ) (space : ℕ) → writeWordsAnswer e a src ws space ≡ k → ⊥
+  pub name-answer : (xs : List ℕ) (place count : ℕ) (buffer : List ℕ) → nameAnswer xs place count buffer ≡ k → ⊥
+
+-- what is in a list is no number that is not
+not-in : (ns : List ℕ) (k x : ℕ) → isIn k ns ≡ false → isIn x ns ≡ true → x ≡ k → ⊥
+not-in ns k x out h q = apart (sym out ∙ subst (λ (m : ℕ). isIn m ns ≡ true) q h)
+
+module _ (e : ℕ) (a : Attributes) where
+  -- what C is told of one record: as the rows stop, or as the reader that fills lent words answers
+  module _ (ring : List ℕ) (head tail : ℕ) (scratch words : List ℕ) where
+    abbrev next : Frame
+    next = oneFrame editions e ring head tail scratch
+
+    abbrev answer : ℕ
+    answer = readIntoAnswer editions e a (recordAt ring (next .place) (next .size)) words
+
+    told-stops : isIn (oneTold editions e a ring head tail scratch words .stop) stopNumbers ≡ true
+    unfolding oneTold
+    told-stops = by (next .go)
+      where
+        by : (b : Bool) → isIn (cond b (toldTaken ring next tail answer) (toldStop next tail) .stop) stopNumbers ≡ true
+        by true = refl
+        by false = frame-in (askedOf editions e) ring head tail 1 16 (length scratch)
+
+    told-answers : isIn (oneTold editions e a ring head tail scratch words .answer) readNumbers ≡ true
+    unfolding oneTold
+    told-answers = by (next .go)
+      where
+        by : (b : Bool) → isIn (cond b (toldTaken ring next tail answer) (toldStop next tail) .answer) readNumbers ≡ true
+        by true = lent-numbers e a (recordAt ring (next .place) (next .size)) words
+        by false = refl
+
+  words-answers : (src ws : List ℕ) (space : ℕ) → isIn (writeWordsAnswer e a src ws space) writeNumbers ≡ true
+  unfolding writeWordsAnswer
+  words-answers src ws space =
+      let n : ℕ = writeAnswer editions e a src (take valueWords ws) space in
+      in-cond writeNumbers (allowed editions e) (cond (leb valueWords (length ws)) n 42) 2
+      (in-cond writeNumbers (leb valueWords (length ws)) n 42 (write-numbers e a src (take valueWords ws) space) refl)
+      refl
+
+  pub ten-is-nobodys : Nobodys 10 e a
+  ten-is-nobodys =
+      record {
+        drain-stop = λ ring head tail budget journal scratch. not-in stopNumbers 10 _ refl (drain-stop-numbers e a ring head tail budget journal scratch);
+        drain-answer = λ ring head tail budget journal scratch i h. not-in recordNumbers 10 _ refl (drain-entry-numbers e a ring head tail budget journal scratch i h);
+        one-stop = λ ring head tail scratch. not-in stopNumbers 10 _ refl (one-stop-numbers e a ring head tail scratch);
+        one-answer = λ ring head tail scratch. not-in recordNumbers 10 _ refl (one-numbers e a ring head tail scratch);
+        told-stop = λ ring head tail scratch words. not-in stopNumbers 10 _ refl (told-stops ring head tail scratch words);
+        told-answer = λ ring head tail scratch words. not-in readNumbers 10 _ refl (told-answers ring head tail scratch words);
+        check-answer = λ xs. not-in checkNumbers 10 _ refl (check-numbers e a xs);
+        read-answer = λ xs. not-in checkNumbers 10 _ refl (read-numbers e a xs);
+        lent-answer = λ xs words. not-in readNumbers 10 _ refl (lent-numbers e a xs words);
+        write-answer = λ src ws space. not-in writeNumbers 10 _ refl (write-numbers e a src ws space);
+        words-answer = λ src ws space. not-in writeNumbers 10 _ refl (words-answers src ws space);
+        name-answer = λ xs place count buffer. not-in nameNumbers 10 _ refl (name-numbers xs place count buffer);
+      }
