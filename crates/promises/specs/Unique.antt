@@ -495,10 +495,10 @@ fast-scratch κs a x y s t p q = same (p .1 .1) (q .1 .1)
 pub ollskuvan-drain : Result ollskuvan.ollskuvan_drain.Kinds.ps ollskuvan.ollskuvan_drain.Kinds.r ollskuvan.ollskuvan_drain.Reads.Learnt
 ollskuvan-drain κs a x y s t p q = same (p .0) (q .0)
 
-pub ollskuvan-drain-journal : Seen ollskuvan.ollskuvan_drain.Kinds.ps ollskuvan.ollskuvan_drain.Kinds.r ollskuvan.ollskuvan_drain.Reads.Learnt (λ κs x s. now (s .1 .1 .1 .1 .1 .1 .1 .1 .1 .1 .1 .0))
+pub ollskuvan-drain-journal : Seen ollskuvan.ollskuvan_drain.Kinds.ps ollskuvan.ollskuvan_drain.Kinds.r ollskuvan.ollskuvan_drain.Reads.Learnt (λ κs x s. now (s .1 .1 .1 .1 .1 .1 .1 .1 .1 .1 .1 .1 .0))
 ollskuvan-drain-journal κs a x y s t p q = same (p .1 .0) (q .1 .0)
 
-pub ollskuvan-drain-scratch : Seen ollskuvan.ollskuvan_drain.Kinds.ps ollskuvan.ollskuvan_drain.Kinds.r ollskuvan.ollskuvan_drain.Reads.Learnt (λ κs x s. now (s .1 .1 .1 .1 .1 .1 .1 .1 .1 .1 .0))
+pub ollskuvan-drain-scratch : Seen ollskuvan.ollskuvan_drain.Kinds.ps ollskuvan.ollskuvan_drain.Kinds.r ollskuvan.ollskuvan_drain.Reads.Learnt (λ κs x s. now (s .1 .1 .1 .1 .1 .1 .1 .1 .1 .1 .1 .0))
 ollskuvan-drain-scratch κs a x y s t p q = same (p .1 .1) (q .1 .1)
 
 pub ollskuvan-read-one : Result ollskuvan.ollskuvan_read_one.Kinds.ps ollskuvan.ollskuvan_read_one.Kinds.r ollskuvan.ollskuvan_read_one.Reads.Learnt
@@ -525,13 +525,13 @@ ollskuvan-copy-name-buffer κs a x y s t p q = same (p .1) (q .1)
 pub ollskuvan-read : Result ollskuvan.ollskuvan_read.Kinds.ps ollskuvan.ollskuvan_read.Kinds.r ollskuvan.ollskuvan_read.Reads.Learnt
 ollskuvan-read κs a x y s t p q = same (p .0) (q .0)
 
-pub ollskuvan-read-words : Seen ollskuvan.ollskuvan_read.Kinds.ps ollskuvan.ollskuvan_read.Kinds.r ollskuvan.ollskuvan_read.Reads.Learnt (λ κs x s. now (s .1 .1 .1 .1 .1 .1 .1 .0))
+pub ollskuvan-read-words : Seen ollskuvan.ollskuvan_read.Kinds.ps ollskuvan.ollskuvan_read.Kinds.r ollskuvan.ollskuvan_read.Reads.Learnt (λ κs x s. now (s .1 .1 .1 .1 .1 .1 .1 .1 .0))
 ollskuvan-read-words κs a x y s t p q = same (p .1) (q .1)
 
 pub ollskuvan-write : Result ollskuvan.ollskuvan_write.Kinds.ps ollskuvan.ollskuvan_write.Kinds.r ollskuvan.ollskuvan_write.Reads.Learnt
 ollskuvan-write κs a x y s t p q = same (p .0) (q .0)
 
-pub ollskuvan-write-buffer : Seen ollskuvan.ollskuvan_write.Kinds.ps ollskuvan.ollskuvan_write.Kinds.r ollskuvan.ollskuvan_write.Reads.Learnt (λ κs x s. now (s .1 .1 .1 .1 .1 .1 .1 .1 .0))
+pub ollskuvan-write-buffer : Seen ollskuvan.ollskuvan_write.Kinds.ps ollskuvan.ollskuvan_write.Kinds.r ollskuvan.ollskuvan_write.Reads.Learnt (λ κs x s. now (s .1 .1 .1 .1 .1 .1 .1 .1 .1 .0))
 ollskuvan-write-buffer κs a x y s t p q = same (p .1) (q .1)
 
 -- ---- writer: the words that tell an item, and its form
