@@ -18,7 +18,7 @@ checkNumbers = 0 ∷ 2 ∷ 6 ∷ 7 ∷ 20 ∷ 21 ∷ 22 ∷ 23 ∷ 25 ∷ 24 ∷
 abbrev pub stopNumbers : List ℕ
 stopNumbers = 1 ∷ 2 ∷ 4 ∷ 5 ∷ 0 ∷ 8 ∷ 9 ∷ 10 ∷ 6 ∷ 7 ∷ 3 ∷ []
 
--- "Writer, in this order: 2; 20 to 25; 41 ..; 42 ..; 40 .."
+-- "Writer, in this order: 2; 20 to 24; 41 ..; 42 ..; 40 ..", with M-102's 25 between 23 and 24
 abbrev pub writeNumbers : List ℕ
 writeNumbers = 0 ∷ 2 ∷ 20 ∷ 21 ∷ 22 ∷ 23 ∷ 25 ∷ 24 ∷ 41 ∷ 42 ∷ 40 ∷ []
 

@@ -10,10 +10,9 @@ use lib.ListN.{length}
 use borrow.Author.Tests.{le-leb, lt-leb, ne-eqb, ltb-false, ltb-true, not-true}
 use Rattle.meaning.specs.declared.Attributes.{Attributes}
 use Rattle.meaning.specs.declared.Known.{Known}
-use Rattle.meaning.specs.Bytes.{bit}
 use Rattle.meaning.specs.Refusals.{Refusal, first, orElse}
 use Rattle.meaning.specs.Schema.{schema, trailer}
-use Rattle.meaning.specs.Editions.{editions, allowed, known, Thing, knows, outside, when, bits, kind, sampleBit, formatBit, buildId, branchBit, depends, hasSampleBits, hasReadValues, hasBuildId, hasBranches, unknowns, clashes, unreadable, isUnknown}
+use Rattle.meaning.specs.Editions.{editions, allowed, known, Thing, knows, outside, when, bits, kind, sampleBit, formatBit, buildId, branchBit, depends, hasSampleBits, hasReadValues, hasBuildId, hasBranches, strangeBranch, unknowns, clashes, unreadable, isUnknown}
 use Rattle.meaning.specs.Records.{layout, kindOf, miscOf, sizeOf, room, fieldsAnswer, judge, checkBy, check}
 use Rattle.laws.specs.Bytes.{apart, and-true}
 use Rattle.editions.specs.Fairness.{within, rising, Words, dependsOf, Fair}
@@ -120,7 +119,7 @@ form-outside k true t = sym (or-nil (not (knows k t)))
 form-outside k false t = refl
 
 branches-outside : (k : Known) (t : ℕ) (a : Attributes) → a .branch < 2 ^ 64
-    → (hasBranches t a && ((bit (a .branch) 17 && not (k .index)) || leb (2 ^ 19) (a .branch))) ≡ outside k (when (hasBranches t a) (bits branchBit (a .branch) 0 64))
+    → (hasBranches t a && strangeBranch k a) ≡ outside k (when (hasBranches t a) (bits branchBit (a .branch) 0 64))
 branches-outside k t a s =
     ap (λ (b : Bool). hasBranches t a && b) (sym (branch-outside k (a .branch) s)) ∙ sym (outside-when k (hasBranches t a) (bits branchBit (a .branch) 0 64))
 

@@ -17,8 +17,8 @@ abbrev pub edition : ℕ → ℕ → ℕ → Bool → Bool → Known
 edition kinds samples formats builds index = record { kinds = kinds; samples = samples; formats = formats; builds = builds; index = index }
 
 -- | 1 | bits 0 to 15 | types 1 to 9 |   | 2 | 0 to 18 | 1 to 15 |   | 3 | 0 to 24 | 1 to 20 |
--- "All three know read-format bits 0 to 3. Only edition 3 knows the build-id form of MMAP2." M-102: "edition 3 reads and
--- writes the word if bit 17 is set"
+-- "All three know read-format bits 0 to 3. Only edition 3 knows the build-id form of MMAP2." M-102: "edition 3 reads and writes the word if
+-- bit 17 is set; editions 1 and 2 refuse such a SAMPLE"
 abbrev pub editions : List Known
 editions = edition 9 16 4 false false ∷ edition 15 19 4 false false ∷ edition 20 25 4 true true ∷ []
 
@@ -82,6 +82,10 @@ hasBuildId t misc = eqb t 10 && bit misc 14
 abbrev pub hasBranches : ℕ → Attributes → Bool
 hasBranches t a = eqb t 9 && bit (a .sample) 11
 
+-- branch bit 17 where the edition does not read the index, or "a branch bit from 19 up"
+abbrev pub strangeBranch : Known → Attributes → Bool
+strangeBranch k a = (bit (a .branch) 17 && not (k .index)) || leb (2 ^ 19) (a .branch)
+
 -- no edition is an argument: the type; the selected sample bits, where the reading has any; the read-format bits, where there are read
 -- values; the build-id form, where misc says it; the branch bits, where there are branches
 unfoldable pub depends : ℕ → ℕ → Attributes → List Thing
@@ -95,15 +99,15 @@ depends t misc a =
 -- ---- the refusals
 
 -- 20: "type 0 or above the edition's"; 21: "sample type has a bit the edition doesn't know, and .."; 22: "read format has bit 4 or higher,
--- and .."; 23: "MMAP2 with misc bit 14, edition below 3"; 25: "editions 1 and 2 refuse such a SAMPLE with 25; a SAMPLE with sample bit 11 and a branch
--- bit from 19 up is 25 in every edition"
+-- and .."; 23: "MMAP2 with misc bit 14, edition below 3"; 25 (M-102): "editions 1 and 2 refuse such a SAMPLE with 25; a SAMPLE with
+-- sample bit 11 and a branch bit from 19 up is 25 in every edition .. checked after 23 and before 24"
 abbrev pub unknowns : Known → ℕ → ℕ → Attributes → List Refusal
 unknowns k t misc a =
     refusal (eqb t 0 || ltb (k .kinds) t) 20
     ∷ refusal (leb (2 ^ k .samples) (a .sample) && hasSampleBits t a) 21
     ∷ refusal (leb (2 ^ k .formats) (a .format) && hasReadValues t a) 22
     ∷ refusal (hasBuildId t misc && not (k .builds)) 23
-    ∷ refusal (hasBranches t a && ((bit (a .branch) 17 && not (k .index)) || leb (2 ^ 19) (a .branch))) 25
+    ∷ refusal (hasBranches t a && strangeBranch k a) 25
     ∷ []
 
 -- 24: "SAMPLE with bits 14 and 24 both selected": what no edition reads

@@ -16,7 +16,14 @@ use meaning::Attributes;
 use meaning::Drained;
 use one::OneTold;
 
-fn attributes(sample: u64, format: u64, all: u32, user: u64, interrupt: u64, branch: u64) -> Attributes
+fn attributes(
+    sample: u64,
+    format: u64,
+    all: u32,
+    user: u64,
+    interrupt: u64,
+    branch: u64,
+) -> Attributes
     ensures { λ r. ⌜ r ≡ given sample format all user interrupt branch ⌝ }
 {
     Attributes {

@@ -4,7 +4,7 @@ ghost use mathlib.Core.Bool.{_&&_, _||_, cond, not};
 ghost use Prim.Native.Nat.{_^_};
 ghost use lib.Dec.{leb, ltb, eqb};
 ghost use Rattle.meaning.specs.Bytes.{bit};
-ghost use Rattle.meaning.specs.Editions.{editions, allowed, known, hasSampleBits, hasReadValues, hasBuildId, hasBranches, unreadable};
+ghost use Rattle.meaning.specs.Editions.{editions, allowed, known, hasSampleBits, hasReadValues, hasBuildId, hasBranches, strangeBranch, unreadable};
 use meaning::Attributes;
 use meaning::Known;
 
@@ -34,7 +34,7 @@ pub fn edition(e: u64) -> Known
             samples: 19,
             formats: 4,
             builds: false,
-            index: false,
+            index: false, // branch bit 17 is edition 3's
         },
         3 => Known {
             kinds: 20,
@@ -103,7 +103,7 @@ fn build_id_unknown(k: Known, kind: u64, misc: u64) -> bool
 // 25 (M-102): "editions 1 and 2 refuse such a SAMPLE with 25; a SAMPLE with sample bit 11 and a branch bit from 19 up is 25
 // in every edition".
 fn branch_unknown(k: Known, kind: u64, a: Attributes) -> bool
-    ensures { λ r. ⌜ r ≡ (hasBranches kind a && ((bit (a .branch) 17 && not (k .index)) || leb (2 ^ 19) (a .branch))) ⌝ }
+    ensures { λ r. ⌜ r ≡ (hasBranches kind a && strangeBranch k a) ⌝ }
 {
     ((kind == 9) & wire::has_bit(a.sample, 11))
         & ((wire::has_bit(a.branch, 17) & !k.index) | past(a.branch, 19))
