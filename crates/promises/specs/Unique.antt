@@ -257,6 +257,9 @@ answers-judge κs a x y s t p q = same p q
 pub answers-check : Result answers.check.Kinds.ps answers.check.Kinds.r answers.check.Reads.Learnt
 answers-check κs a x y s t p q = same p q
 
+pub record-record-check : Result records.record_check.Kinds.ps records.record_check.Kinds.r records.record_check.Reads.Learnt
+record-record-check κs a x y s t p q = same p q
+
 pub record-read : Result records.read.Kinds.ps records.read.Kinds.r records.read.Reads.Learnt
 record-read κs a x y s t p q = same p q
 
