@@ -150,7 +150,7 @@ pub record Tells (lay : Layout) (xs ws : List ℕ) : Type 0 where
   pub spared : allZero (spare lay ws) ≡ true
   pub long : length ws ≡ 56
 
-flag-length : (is : List Item) (f : ℕ) → length (flagWords is f) ≡ length (flagWords is 0)
+pub flag-length : (is : List Item) (f : ℕ) → length (flagWords is f) ≡ length (flagWords is 0)
 unfolding flagWords
 flag-length is f = go (named is)
   where
