@@ -4,7 +4,7 @@ use mathlib.Core.Path.{_≡_, refl, sym, ap, ap₂, _∙_}
 use Prim.Native.Nat.{ℕ, _+_, _<_, _≤_}
 use native.Mathlib.Nat.{zero-add}
 use native.Mathlib.Omega.{arith}
-use mathlib.Core.Bool.{Bool, true, false, not, cond, _&&_}
+use mathlib.Core.Bool.{Bool, true, false, cond, _&&_}
 use mathlib.Core.List.{List}
 use lib.ListN.{length, take, drop, getD}
 use lib.Seq.{take-at, drop-at}
@@ -15,12 +15,11 @@ use Rattle.meaning.specs.declared.Item.{Item}
 use Rattle.meaning.specs.declared.Known.{Known}
 use Rattle.meaning.specs.Bytes.{small, allZero, put}
 use Rattle.meaning.specs.Editions.{known, allowed}
-use Rattle.meaning.specs.Writing.{named}
-use Rattle.meaning.specs.Records.{Layout, layout, Value, kindOf, miscOf, checkBy, check, flagOf, value, unflagged, writeRecord, fits, cleanedRecord}
+use Rattle.meaning.specs.Records.{Layout, layout, Value, checkBy, check, flagOf, value, writeRecord, fits, cleanedRecord}
 use Rattle.meaning.specs.Values.{anyBeyond, slotsTold, recordWords, meant, spare, flagTold, flagged, writable, writeBy, writeAnswer, writeBuffer}
 use Rattle.laws.specs.Bytes.{apart, and-true, true-and}
 use Rattle.laws.specs.Answers.{tested, or-zero, check-zero}
-use Rattle.laws.specs.Whole.{Decodes, no-flag, nameless-clean, record-there, record-again, decoded-fits, same-value}
+use Rattle.laws.specs.Whole.{Decodes, no-flag, record-there, record-again, decoded-fits, same-value}
 use Rattle.laws.specs.Every.{sound}
 use Rattle.laws.specs.More.{cleaned-length}
 use Rattle.laws.specs.Told.{words-told}

@@ -151,11 +151,12 @@ module _ (xs : List ℕ) (m : length xs % 8 ≡ 0) where
       let hi = k₁ .1 in
       let l = length-drop (c .at) xs in
       let n : 8 ≤ length R = omega (arith, l, m, a, lo) in
-      let q : c .at + (length R - 8) ≡ length xs - 8 = omega (arith, l, n) in
-      (omega (arith, l, n),
-      ap stale whole
-      ∙ sym (stale-drop R (length R - 8) (omega (arith, hi, n)))
-      ∙ ap stale (drop-drop (length R - 8) (c .at) xs ∙ ap (λ (j : ℕ). drop j xs) q))
+      let q : c .at + (length R - 8) ≡ length xs - 8 = omega (arith, l, n) in (
+        omega (arith, l, n),
+        ap stale whole
+            ∙ sym (stale-drop R (length R - 8) (omega (arith, hi, n)))
+            ∙ ap stale (drop-drop (length R - 8) (c .at) xs ∙ ap (λ (j : ℕ). drop j xs) q),
+      )
 
   dirty-last : (is : List Item) (c : Cursor) → placed is (c .at) ≡ true → walk xs is c .why ≡ 0 → Last xs (dirty xs is c)
   unfolding placed dirty walk

@@ -4,21 +4,25 @@
 -- flag: one with it is refused with 43.
 -- A value is held as words, with a source of bytes for its lists and names; `meant` is what the words say: numbers, counts, and the bytes at the
 -- places, "wherever the places lie". Assumes nothing.
-use mathlib.Core.Path.{_≡_, refl, sym, ap, _∙_}
+use mathlib.Core.Path.{_≡_, refl, sym, ap, _∙_, subst}
 use mathlib.Core.List.{List}
 use mathlib.Core.Bool.{Bool, true, false, cond}
 use Prim.Native.Nat.{ℕ, _≤_}
 use lib.ListN.{length, take, getD}
 use lib.Dec.{eqb}
-use borrow.Author.Tests.{eq-eqb, eqb-true, ne-eqb}
+use native.Mathlib.Omega.{arith}
+use borrow.Author.Tests.{eq-eqb, eqb-true, eqb-false, ne-eqb}
 use Rattle.meaning.specs.declared.Attributes.{Attributes}
 use Rattle.meaning.specs.Bytes.{zeros, small}
 use Rattle.meaning.specs.Refusals.{orElse}
-use Rattle.meaning.specs.Editions.{editions, allowed, known}
+use Rattle.meaning.specs.Editions.{editions, allowed, known, isIn}
 use Rattle.meaning.specs.Records.{Layout, layout, check, flagOf, recordCheck, Value, value, unflagged, writeRecord, cleanedRecord}
 use Rattle.meaning.specs.Values.{recordWords, readAnswered, read, meant, flagged, writeAnswer, writeBuffer}
-use Rattle.laws.specs.Whole.{Decodes, no-flag, flag-unwritten, record-there, record-again}
+use Rattle.laws.specs.Whole.{Decodes, flag-unwritten, record-there, record-again}
+use Rattle.laws.specs.Bytes.{apart}
 use Rattle.laws.specs.Every.{sound}
+use Rattle.editions.specs.Numbers.{checkNumbers}
+use Rattle.editions.specs.InTable.{check-in}
 use Rattle.laws.specs.Told.{words-told}
 use Rattle.laws.specs.Exactly.{LaidOut, decodes-exactly}
 use Rattle.laws.specs.Answer42.{check-of, bytesOf, passes, Written, read-back, written-again, buffer-holds, exact-42, one-value, one-record}
@@ -53,6 +57,18 @@ module _ (e : ℕ) (a : Attributes) where
   pub check-refused : (xs : List ℕ) → (check editions e a xs ≡ 0 → ⊥) → recordCheck editions e a xs ≡ check editions e a xs
   unfolding recordCheck
   check-refused xs h = rw (ne-eqb (check editions e a xs) 0 h)
+
+  -- and 44 says both
+  pub check-44 : (xs : List ℕ) → recordCheck editions e a xs ≡ 44 → (check editions e a xs ≡ 0) × (flagOf lay xs ≡ 0 → ⊥)
+  check-44 xs h = go (eqb (check editions e a xs) 0) refl
+    where
+      go : (t : Bool) → eqb (check editions e a xs) 0 ≡ t → (check editions e a xs ≡ 0) × (flagOf lay xs ≡ 0 → ⊥)
+      go true z =
+          let c = eqb-true (check editions e a xs) 0 z in
+          (c, λ f. let q : 44 ≡ 0 = sym h ∙ check-clean xs f ∙ c in omega (arith, q))
+      go false z =
+          let c : 44 ≡ check editions e a xs = sym h ∙ check-refused xs (eqb-false (check editions e a xs) 0 z) in
+          absurd (apart (subst (λ (n : ℕ). isIn n checkNumbers ≡ true) (sym c) (check-in editions e a xs)))
 
   -- the reader's answer
   pub read-answers : (xs : List ℕ) → read editions e a xs .answer ≡ check editions e a xs

@@ -1,5 +1,5 @@
 -- The flag, as the code finds it: byte by byte, of an accepted record, as a word, and as record check's 44. Assumes nothing.
-use mathlib.Core.Path.{_≡_, refl, sym, ap, ap₂, _∙_, subst}
+use mathlib.Core.Path.{_≡_, refl, sym, ap, ap₂, _∙_}
 use mathlib.Core.Bool.{Bool, true, false, cond, not}
 use mathlib.Core.List.{List, [], _∷_}
 use Prim.Native.Nat.{ℕ, _+_, _-_, _<_, _≤_}
@@ -12,10 +12,9 @@ use borrow.Author.Tests.{eq-eqb, ne-eqb}
 use Rattle.meaning.specs.declared.Attributes.{Attributes}
 use Rattle.meaning.specs.declared.Item.{Item}
 use Rattle.meaning.specs.Bytes.{zeroIn, allZero, stale, put}
-use Rattle.meaning.specs.Writing.{named, dirty}
 use Rattle.meaning.specs.Schema.{schema, trailer}
-use Rattle.meaning.specs.Records.{room, origin, kindOf, miscOf, fieldsOf, fieldsAnswer, flagBy}
-use Rattle.meaning.specs.Values.{width, flagWords, bodyWidth, bodyWords, valueWords}
+use Rattle.meaning.specs.Records.{room, origin, kindOf, miscOf, fieldsOf, flagBy}
+use Rattle.meaning.specs.Values.{width, flagWords, bodyWords, valueWords}
 use Rattle.laws.specs.Answers.{fields-zero}
 use Rattle.laws.specs.Put.{put-nil}
 use Rattle.laws.specs.Whole.{nameless}

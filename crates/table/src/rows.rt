@@ -304,5 +304,25 @@ pub const STARTS: [usize; 22] = [
 
 // "MMAP, MMAP2, COMM, KSYMBOL and CGROUP records gain a flag": its word by type, from type 0 on; 0 where there is none.
 pub const FLAGS: [usize; 21] = [
-    0, 10, 0, 7, 0, 0, 0, 0, 0, 0, 18, 0, 0, 0, 0, 0, 0, 9, 0, 6, 0,
+    0,
+    10,
+    0,
+    7,
+    0,
+    0,
+    0,
+    0,
+    0,
+    0,
+    18,
+    0,
+    0,
+    0,
+    0,
+    0,
+    0,
+    9,
+    0,
+    6,
+    0,
 ];

@@ -21,7 +21,7 @@ use Rattle.meaning.specs.Drain.{journalKind, entry, End, run, drain}
 use Rattle.meaning.specs.Names.{nameAnswer, nameBuffer}
 use Rattle.meaning.specs.Misc.{types13, types14, means13, means14, miscMeaning}
 use Rattle.tables.specs.Numbers.{from, among, Limits, editionLimits, exponents, Field, sampleOrder, trailerOrder, trailerMask, trailerBits, entryBytes, kindsOfTypes, miscBits}
-use Rattle.tables.specs.Rows.{Row, types, mappings, readings, samples, trailed, flags, laid, said, given, checked, rewritten, clean, Judged, bodies, buildIds, oneRegister, slices, Stop, sizedRing, go, stops, Copied, copies}
+use Rattle.tables.specs.Rows.{Row, types, mappings, readings, samples, trailed, flags, orders, laid, said, given, checked, rewritten, clean, Judged, bodies, buildIds, oneRegister, slices, Stop, sizedRing, go, stops, Copied, copies}
 
 -- ---- tools of the comparison
 
@@ -195,6 +195,10 @@ flags-read = refl
 pub all-written : every writes (types ++ (mappings ++ (readings ++ (samples ++ (trailed ++ flags))))) ≡ true
 unfolding num spell bit ones small nonzero allZero first emit number blank listed fitShape next fit write span rule holds counted before past part settle shapeStep step walk known unreadable layout roomShape room header fieldBytes written writeRecord fitsBy fits lists unit held means beyond anyBeyond tell width slotTold lastTold beforeTold slotsTold ends named flagWords flagTold meant spareBy spare flagged writable writeBy writeAnswer writeBuffer put
 all-written = refl
+
+pub flag-orders : every (λ (o : ℕ × List ℕ × ℕ × ℕ). eqb (writeAnswer editions (o .0) (attributes 0 0 false 0 0) (from 1 8) (o .1) (o .2)) (o .3)) orders ≡ true
+unfolding num spell bit ones small nonzero allZero first emit number blank listed fitShape next fit write span rule holds counted before past part settle shapeStep step walk known unreadable layout roomShape room header fieldBytes written writeRecord fitsBy fits lists unit held means beyond anyBeyond tell width slotTold lastTold beforeTold slotsTold ends named flagWords flagTold meant spareBy spare flagged writable writeBy writeAnswer
+flag-orders = refl
 
 -- ---- the rules of a body at their edges
 

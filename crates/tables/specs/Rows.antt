@@ -205,6 +205,33 @@ flags =
           ignored = from 18 6;
         }
 
+-- n numbers: those given, then zeros
+abbrev filled : ℕ → List ℕ → List ℕ
+filled zero xs = []
+filled (suc n) [] = 0 ∷ filled n []
+filled (suc n) (x ∷ xs) = x ∷ filled n xs
+
+-- ---- the writer's answers around 43: edition, the words of a CGROUP whose flag is set, with a name of three bytes at a place in a source of eight, room
+
+abbrev flaggedWords : ℕ → ℕ → List ℕ
+flaggedWords place flag = 19 ∷ 0 ∷ 24 ∷ 5 ∷ place ∷ 3 ∷ flag ∷ filled 49 []
+
+-- "with 43, after 24 and before 41": 2, 20, 43 before 41, before 42 (a word that CGROUP does not have is 9) and before 40; any flag but 0; none
+abbrev pub orders : List (ℕ × List ℕ × ℕ × ℕ)
+orders =
+    (0, flaggedWords 0 1, 24, 2)
+    ∷ (1, flaggedWords 0 1, 24, 20)
+    ∷ (3, flaggedWords 0 1, 24, 43)
+    ∷ (3, flaggedWords 6 1, 24, 43)
+    ∷ (3, flaggedWords 6 0, 24, 41)
+    ∷ (3, 19 ∷ 0 ∷ 24 ∷ 5 ∷ 0 ∷ 3 ∷ 1 ∷ 9 ∷ filled 48 [], 24, 43)
+    ∷ (3, 19 ∷ 0 ∷ 24 ∷ 5 ∷ 0 ∷ 3 ∷ 0 ∷ 9 ∷ filled 48 [], 24, 42)
+    ∷ (3, flaggedWords 0 1, 23, 43)
+    ∷ (3, flaggedWords 0 0, 23, 40)
+    ∷ (3, flaggedWords 0 2, 24, 43)
+    ∷ (3, flaggedWords 0 0, 24, 0)
+    ∷ []
+
 -- ---- what a row says
 
 -- "type u32, misc u16, size u16", then the body
@@ -215,12 +242,6 @@ abbrev tells : List ℕ → List Told → List ℕ
 tells xs [] = []
 tells xs (at place k ∷ ts) = spelled k place xs ∷ tells xs ts
 tells xs (is n ∷ ts) = n ∷ tells xs ts
-
--- n numbers: those given, then zeros
-abbrev filled : ℕ → List ℕ → List ℕ
-filled zero xs = []
-filled (suc n) [] = 0 ∷ filled n []
-filled (suc n) (x ∷ xs) = x ∷ filled n xs
 
 -- 56 words: type, misc, size; 45 of the body; 8 of the trailer. Those that a writer takes have no flag
 abbrev wordsWith : Row → List Told → List ℕ

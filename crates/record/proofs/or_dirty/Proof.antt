@@ -5,7 +5,6 @@ use native.Mathlib.Omega.{arith}
 use denote.Ref.{now}
 use Rattle.meaning.specs.Records.{kindOf}
 use Rattle.record.proofs.Dirty.{trailer-there, or-refused, or-flagged}
-use borrow.Author.Needs.{needs}
 use Rattle.record.proofs.or_dirty.Statement.{statement}
 use Rattle.record.proofs.or_dirty.Tie as tie
 
