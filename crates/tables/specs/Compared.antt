@@ -222,7 +222,7 @@ pub all-written : every writes (types ++ (mappings ++ (readings ++ (samples ++ (
 unfolding num spell bit ones small nonzero allZero first emit number blank listed fitShape next fit write span rule holds counted before past part settle shapeStep step walk known unreadable layout roomShape room header fieldBytes written writeRecord fitsBy fits lists unit held means beyond anyBeyond tell width slotTold lastTold beforeTold slotsTold ends named flagWords flagTold meant spareBy spare flagged writable writeBy writeAnswer writeBuffer put
 all-written = refl
 
-pub flag-orders : every (λ (o : ℕ × List ℕ × ℕ × ℕ). eqb (writeAnswer editions (o .0) (attributes 0 0 false 0 0 0) (from 1 8) (o .1) (o .2)) (o .3)) orders ≡ true
+pub flag-orders : every (λ (o : ℕ × List ℕ × ℕ × ℕ). eqb (writeAnswer editions (o .0) (attributes 0 0 false 0 0) (from 1 8) (o .1) (o .2)) (o .3)) orders ≡ true
 unfolding num spell bit ones small nonzero allZero first emit number blank listed fitShape next fit write span rule holds counted before past part settle shapeStep step walk known unreadable layout roomShape room header fieldBytes written writeRecord fitsBy fits lists unit held means beyond anyBeyond tell width slotTold lastTold beforeTold slotsTold ends named flagWords flagTold meant spareBy spare flagged writable writeBy writeAnswer
 flag-orders = refl
 

@@ -173,6 +173,7 @@ indexed =
       told = is 0 ∷ is 0 ∷ is 0 ∷ is 0 ∷ is 0 ∷ is 0 ∷ is 0 ∷ is 0 ∷ is 0 ∷ is 0  -- identifier to period
           ∷ is 0 ∷ is 0 ∷ is 0 ∷ is 0 ∷ is 0 ∷ is 0 ∷ is 0 ∷ is 0 ∷ is 0 ∷ is 0 ∷ is 0  -- read values, callchain, raw
           ∷ is 2 ∷ at 16 8 ∷ is 24 ∷ [];
+      flag = [];
       trail = [];
       ignored = [];
     }
@@ -222,6 +223,7 @@ flags =
           trails = true;
           user = 0;
           interrupt = 0;
+          branch = 0;
           size = 32;
           body = from 8 8 ++ (name ++ from 24 8);
           told = at 8 8 ∷ is 16 ∷ is 1 ∷ [];
