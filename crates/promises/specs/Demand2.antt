@@ -65,9 +65,9 @@ module _ (e : ℕ) (a : Attributes) where
       go : (t : Bool) → eqb (check editions e a xs) 0 ≡ t → (check editions e a xs ≡ 0) × (flagOf lay xs ≡ 0 → ⊥)
       go true z =
           let c = eqb-true (check editions e a xs) 0 z in
-          (c, λ f. let q : 44 ≡ 0 = sym h ∙ check-clean xs f ∙ c in omega (arith, q))
+          (c, λ f. let q : _≡_ {A = ℕ} 44 0 = sym h ∙ check-clean xs f ∙ c in omega (arith, q))
       go false z =
-          let c : 44 ≡ check editions e a xs = sym h ∙ check-refused xs (eqb-false (check editions e a xs) 0 z) in
+          let c : _≡_ {A = ℕ} 44 (check editions e a xs) = sym h ∙ check-refused xs (eqb-false (check editions e a xs) 0 z) in
           absurd (apart (subst (λ (n : ℕ). isIn n checkNumbers ≡ true) (sym c) (check-in editions e a xs)))
 
   -- the reader's answer

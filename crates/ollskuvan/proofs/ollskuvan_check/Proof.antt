@@ -23,4 +23,4 @@ returns c =
     ∙ ap (λ (a : Attributes). recordCheck editions (s .edition) a (now (s .bytes))) (c .before .before .attributes .ensures)
 
 pub ollskuvan-check-spec : {M : Type 1} → statement M
-ollskuvan-check-spec = tie.close (tie.spec (λ c κs. search needs) (λ c κs. search needs) or-dirty-requires returns)
+ollskuvan-check-spec = tie.close (tie.spec (λ c κs. search needs) (λ c κs. search needs) or-dirty-requires (λ c. search needs) returns)
