@@ -503,9 +503,18 @@ static void spoil_events(struct made_random *r, struct made_ring *ring)
     case 3:
         ring->events[i].identifier = ring->events[j].identifier; /* the same event at times: then it stays sound */
         break;
-    default:
-        ring->event_count = one_in(r, 2) ? 0 : MADE_EVENTS_MAX;
+    default: {
+        size_t count = one_in(r, 2) ? 0 : OLLSKUVAN_EVENTS_MAX + 1 + made_below(r, MADE_EVENTS_MAX - OLLSKUVAN_EVENTS_MAX);
+        while (ring->event_count < count) { /* all of them different */
+            uint64_t identifier = made_next(r);
+            if (has_event(ring, identifier))
+                continue;
+            ring->events[ring->event_count] = ring->events[i];
+            ring->events[ring->event_count++].identifier = identifier;
+        }
+        ring->event_count = count;
         break;
+    }
     }
 }
 
