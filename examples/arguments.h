@@ -1,11 +1,12 @@
 /*
- * Numbers among the arguments. False: it is no such number, and that is said.
+ * Numbers and lists among the arguments. False: it is none, and that is said.
  */
 #ifndef EXAMPLES_ARGUMENTS_H
 #define EXAMPLES_ARGUMENTS_H
 
 #include <stdbool.h>
 #include <stddef.h>
+#include <stdint.h>
 
 /* The longest ring that the library takes, in pages of 4096 bytes. */
 enum { PAGES_MAX = 256 };
@@ -18,5 +19,9 @@ bool decimal_argument(const char *text, const char *option, double most, double 
 
 /* A ring's pages: a power of two. */
 bool pages_argument(const char *text, size_t *pages);
+
+/* Names of counters with commas between them, each once: a bit for each of
+ * counter_names. */
+bool counters_argument(const char *text, uint32_t *counters);
 
 #endif

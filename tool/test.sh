@@ -24,7 +24,7 @@ build() { # NAME FLAGS.. FILES..: C99 with the tool's own files
   ${CC:-cc} -std=c99 -pedantic -Wall -Wextra -Werror -g -Iinclude -Iwords -Iexamples -Itool -o "$out/$name" "$@" \
     $archives || { echo "tool/test.sh: $name does not build"; exit 1; }
 }
-shared='tool/image.c tool/command.c examples/messages.c examples/text.c'
+shared='tool/image.c tool/command.c examples/events.c examples/messages.c examples/text.c'
 # shellcheck disable=SC2086
 {
   build values -O1 tool/tests/values.c tool/show.c $shared
@@ -67,7 +67,7 @@ $out/names || wrong "the names of words, types and answers"
 mkdir -p $out/made && $out/values made $out/made || wrong "the images of every type"
 $out/values check >$out/values.txt || { wrong "the header's sentences on values"; head $out/values.txt; }
 tail -n 1 $out/values.txt
-$out/stack rings/*.img examples/rings/*.img $out/made/*.img || wrong "a call uses more stack than the header says"
+$out/stack rings/*.img rings/events/*.img examples/rings/*.img $out/made/*.img || wrong "a call uses more stack than the header says"
 
 # ---- every ring: dump beside ringdump, from a file and from standard input
 records() { # what a dump says in ringdump's terms: type and answer of each record
