@@ -97,6 +97,26 @@ for image in rings/*.img examples/rings/*.img $out/made/*.img; do
 done
 [ $tried -ge 18 ] || wrong "only $tried rings were read"
 
+# ---- rings of several events: with the table beside them no record is refused; without it some are
+for image in rings/events/*.img; do
+  name=events-$(basename "$image" .img)
+  $tool dump "$image" >"$out/$name.txt" || wrong "dump $image failed"
+  grep -q '^edition     3, a table of 4 events$' "$out/$name.txt" || wrong "dump $image: without its table"
+  grep -q ' bytes, 0 refused$' "$out/$name.txt" || wrong "dump $image: records are refused"
+  [ "$(grep -c '^event ' "$out/$name.txt")" -eq 4 ] || wrong "dump $image: four events are due"
+  $tool journal "$image" >$out/journal.txt || wrong "journal $image failed"
+  cmp -s <(records <"$out/$name.txt") <(entries <$out/journal.txt) || wrong "journal $image: other answers than dump's"
+  $tool dump - <"$image" | grep -q 'refused: ' || wrong "standard input has no table, and no record is refused"
+  tried=$((tried + 1))
+done
+# each event's own fields: an address of page faults, read values of switches, registers of the clock
+for words in 'addr ' 'read value ' 'user registers ' 'trailer cpu '; do
+  grep -q "^    $words" $out/events-counters.txt || wrong "the dump of several events has no '$words'"
+done
+cp rings/events/counters.img $out/spoilt.img && sed 's/^/x/' rings/events/counters.table >$out/spoilt.table
+$tool dump $out/spoilt.img >/dev/null 2>$out/spoilt.err && wrong "a table that is none"
+grep -q 'spoilt.img: no table of events: line 1' $out/spoilt.err || wrong "a table that is none is not named"
+
 # ---- the dumps that are kept
 for name in tasks kernel every-type every-type-plain every-type-edition-2; do
   if [ "${1:-}" = --write ]; then
@@ -216,6 +236,19 @@ case $? in
     ;;
   3) echo "record: not tried live: $(tail -n 1 $out/record.txt)" ;;
   *) wrong "record failed: $(tail -n 1 $out/record.txt)" ;;
+esac
+
+$tool record --seconds 0.2 --events page-faults,cpu-clock --save $out/several >$out/record.txt 2>&1
+case $? in
+  0)
+    for image in $out/several-cpu*.img; do
+      $tool dump "$image" >$out/live.txt || wrong "dump of $image, taken live"
+      grep -q 'a table of 3 events$' $out/live.txt || wrong "dump of $image, taken live: without its table"
+      grep -q ' bytes, 0 refused$' $out/live.txt || wrong "dump of $image, taken live: records are refused"
+    done
+    ;;
+  3) ;;
+  *) wrong "record --events failed: $(tail -n 1 $out/record.txt)" ;;
 esac
 
 # ---- examples/decode.c on this kernel: a program that starts on cpu 0 is named, mapped and switched to

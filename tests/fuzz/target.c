@@ -21,7 +21,8 @@
  *   13  write: bytes cut from the source
  *   14  room for a written record  15  room for a name
  *   16 to 45  three changes of ten bytes: word, what to do, number
- *   46  with a table: the events, modulo 40; they are the first of the bytes, 56 each
+ *   46, 47  with a table: its events, modulo 40, and how many of them are given (0: all): these are the first of the
+ *      bytes, 56 each, and the others copies of the last, with identifiers that count up
  * tests/reader/fuzz.rs makes seeds and mutations in this layout.
  */
 #include <inttypes.h>
@@ -785,6 +786,24 @@ static uint64_t get64(const uint8_t *at)
     return number;
 }
 
+static void take_table(const uint8_t **data)
+{
+    size_t given = in.control[in.control[47] ? 47 : 46] % 40, i;
+
+    if (given > in.count / sizeof in.events[0])
+        given = in.count / sizeof in.events[0];
+    if (!in.tabled)
+        given = 0;
+    memcpy(in.events, *data, given * sizeof in.events[0]);
+    *data += given * sizeof in.events[0];
+    in.count -= given * sizeof in.events[0];
+    in.event_count = in.control[47] && given ? in.control[46] % 40 : given;
+    for (i = given; i < in.event_count; i++) {
+        in.events[i] = in.events[i - 1];
+        in.events[i].identifier++;
+    }
+}
+
 static void take_input(const uint8_t *data, size_t size)
 {
     uint8_t head[CONTROL + HEADER] = { 0 };
@@ -806,13 +825,8 @@ static void take_input(const uint8_t *data, size_t size)
         in.sample_id_all <<= 24;
     in.count = size > sizeof head ? size - sizeof head : 0;
     in.tabled = in.control[0] % 5 == 4;
-    in.event_count = in.tabled ? in.control[46] % 40 : 0;
-    if (in.event_count > in.count / sizeof in.events[0])
-        in.event_count = in.count / sizeof in.events[0];
     data += size - in.count;
-    memcpy(in.events, data, in.event_count * sizeof in.events[0]);
-    data += in.event_count * sizeof in.events[0];
-    in.count -= in.event_count * sizeof in.events[0];
+    take_table(&data);
     memcpy(in.bytes, data, in.count);
 }
 

@@ -24,6 +24,7 @@ const LENGTH: usize = 2;
 const PATCHES: usize = 12;
 const NAME_ROOM: usize = 15;
 const EVENTS: usize = 46;
+const GIVEN: usize = 47;
 
 const DRAIN: u8 = 0;
 const PROGRAM: u8 = 1;
@@ -54,7 +55,8 @@ impl Input {
         let mut image = Image::parse(rest).unwrap();
         let mut events = Vec::new();
         if control[CALL] % CALLS == TABLED {
-            let count = usize::from(control[EVENTS] % 40).min(image.ring.len() / (8 * WORDS));
+            let given = if control[GIVEN] != 0 { control[GIVEN] } else { control[EVENTS] };
+            let count = usize::from(given % 40).min(image.ring.len() / (8 * WORDS));
             let ring = image.ring.split_off(8 * WORDS * count);
             let words: Vec<u64> = image.ring.chunks(8).map(number).collect();
             events = words.chunks(WORDS).map(Event::of_words).collect();
@@ -67,7 +69,8 @@ impl Input {
         let mut control = self.control;
         let mut image = self.image.clone();
         if self.call() == TABLED {
-            control[EVENTS] = self.events.len() as u8;
+            let at = if control[GIVEN] != 0 && !self.events.is_empty() { GIVEN } else { EVENTS };
+            control[at] = self.events.len() as u8;
             let words = self.events.iter().flat_map(Event::words).flat_map(u64::to_le_bytes);
             image.ring = words.chain(image.ring).collect();
         }
@@ -179,6 +182,11 @@ fn mutate_events(r: &mut Random, input: &mut Input) {
         a.sample_type |= 1 << 16;
         a.sample_id_all = 1;
         input.events.push(Event::new(r.below(40), &a));
+        return;
+    }
+    if r.one_in(8) {
+        input.control[GIVEN] = r.pick(&[0, 1]);
+        input.control[EVENTS] = r.pick(&[2, 11, 31, 32, 33, 34, 39]);
         return;
     }
     let at = r.below(count) as usize;
