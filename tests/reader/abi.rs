@@ -23,32 +23,6 @@ pub struct COne {
     pub inspected: u32,
 }
 
-impl One {
-    pub fn for_c(&self) -> COne {
-        COne {
-            place: self.place,
-            size: self.size,
-            tail: self.tail,
-            in_scratch: self.in_scratch,
-            stop: self.stop,
-            answer: self.answer,
-            inspected: self.inspected,
-        }
-    }
-
-    fn from_c(o: COne) -> One {
-        One {
-            place: o.place,
-            size: o.size,
-            tail: o.tail,
-            in_scratch: o.in_scratch,
-            stop: o.stop,
-            answer: o.answer,
-            inspected: o.inspected,
-        }
-    }
-}
-
 extern "C" {
     pub fn ollskuvan_drain_events(
         ring: *const u8, ring_len: usize, head: u64, tail: u64, events: *const Event, event_count: usize, edition: u32,
@@ -139,6 +113,19 @@ pub fn read(record: &[u8], a: &Attributes, edition: u32, fields: &mut [u64]) -> 
 }
 
 #[cfg(not(without_values))]
+fn told_one(o: COne) -> One {
+    One {
+        place: o.place,
+        size: o.size,
+        tail: o.tail,
+        in_scratch: o.in_scratch,
+        stop: o.stop,
+        answer: o.answer,
+        inspected: o.inspected,
+    }
+}
+
+#[cfg(not(without_values))]
 pub fn read_one(
     ring: &[u8], head: u64, tail: u64, a: &Attributes, edition: u32, scratch: &mut [u8], fields: &mut [u64],
 ) -> One {
@@ -148,7 +135,7 @@ pub fn read_one(
             a.interrupt_mask, edition, scratch.as_mut_ptr(), scratch.len(), fields.as_mut_ptr(), fields.len(),
         )
     };
-    One::from_c(o)
+    told_one(o)
 }
 
 // With a table: seven words an event, lent as the events that they are.
@@ -179,7 +166,7 @@ pub fn read_one_events(
             scratch.as_mut_ptr(), scratch.len(), fields.as_mut_ptr(), fields.len(),
         )
     };
-    One::from_c(o)
+    told_one(o)
 }
 
 #[cfg(not(without_values))]

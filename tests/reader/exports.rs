@@ -8,7 +8,7 @@
 use crate::abi::{CDrained, COne};
 use crate::events::{self, Event};
 use crate::record;
-use crate::ring::{self, Ring};
+use crate::ring::{self, One, Ring};
 use crate::rules::{self, Attributes};
 use crate::words::FIELDS;
 use crate::writer;
@@ -20,6 +20,18 @@ pub unsafe fn lent<'s, T>(pointer: *const T, length: usize) -> &'s [T] {
 
 pub unsafe fn lent_mut<'s, T>(pointer: *mut T, length: usize) -> &'s mut [T] {
     if length == 0 { &mut [] } else { std::slice::from_raw_parts_mut(pointer, length) }
+}
+
+fn one_for_c(o: &One) -> COne {
+    COne {
+        place: o.place,
+        size: o.size,
+        tail: o.tail,
+        in_scratch: o.in_scratch,
+        stop: o.stop,
+        answer: o.answer,
+        inspected: o.inspected,
+    }
 }
 
 #[cfg_attr(own_names, export_name = "reader_drain")]
@@ -85,8 +97,8 @@ pub unsafe extern "C" fn ollskuvan_read_one(
 ) -> COne {
     let attributes = Attributes { sample_type, read_format, sample_id_all, user_mask, interrupt_mask };
     let ring = Ring { bytes: lent(ring, ring_len), head, edition, attributes };
-    let o = ring::read_one(&ring, tail, lent_mut(scratch, scratch_len), lent_mut(fields, fields_len));
-    o.for_c()
+    let o = ring::read_one(&ring, tail, None, lent_mut(scratch, scratch_len), lent_mut(fields, fields_len));
+    one_for_c(&o)
 }
 
 #[cfg_attr(own_names, export_name = "reader_drain_events")]
@@ -115,8 +127,8 @@ pub unsafe extern "C" fn ollskuvan_read_one_events(
 ) -> COne {
     let ring = Ring { bytes: lent(ring, ring_len), head, edition, attributes: Attributes::EMPTY };
     let table = Some(lent(table, event_count));
-    let o = ring::read_one_with(&ring, tail, table, lent_mut(scratch, scratch_len), lent_mut(fields, fields_len));
-    o.for_c()
+    let o = ring::read_one(&ring, tail, table, lent_mut(scratch, scratch_len), lent_mut(fields, fields_len));
+    one_for_c(&o)
 }
 
 #[cfg_attr(own_names, export_name = "reader_write")]

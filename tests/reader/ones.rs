@@ -48,7 +48,7 @@ pub fn compare_one_with(
         )
     };
     let ring = Ring { bytes: &case.ring, head: case.head, edition: case.edition, attributes: case.attributes };
-    let ours = ring::read_one_with(&ring, case.tail, table, &mut scratch, &mut words);
+    let ours = ring::read_one(&ring, case.tail, table, &mut scratch, &mut words);
 
     let mut wrong = Vec::new();
     if theirs != ours {
