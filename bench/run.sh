@@ -120,10 +120,11 @@ instructions() { # [BUDGET]
 }
 
 # instructions a record with a table of events, of both; and what the same ring costs where the table has events without records
-tables() {
-  local drain name mix log=$out/callgrind.log
+tables() { # [BUDGET]
+  local drain name mix log=$out/callgrind.log budget=${1:-}
   command -v valgrind >/dev/null || { echo "bench: tables skipped: valgrind is missing"; return 0; }
-  printf '\ninstructions a record with a table of events, by callgrind\n%-14s' ''
+  rm -f "$out"/tables.*
+  printf '\ninstructions a record with a table of events, by callgrind%s\n%-14s' "${budget:+, budget $budget}" ''
   "$program" list | sed -n 's/^mix //p' | while read -r mix; do printf '%18s' "$mix"; done
   printf '\n'
   for drain in careful ours; do
@@ -131,7 +132,7 @@ tables() {
     [ "$drain" = ours ] && name=ollskuvan_drain_events
     printf '%-14s' "$drain"
     while read -r mix; do
-      valgrind --tool=callgrind --toggle-collect="$name" --callgrind-out-file=/dev/null "$program" once "$drain" "$mix" \
+      valgrind --tool=callgrind --toggle-collect="$name" --callgrind-out-file=/dev/null "$program" once "$drain" "$mix" $budget \
         >"$log" 2>&1 </dev/null || { cat "$log"; die "callgrind failed"; }
       awk '/^records/ { n = $2 } /Collected/ { c = $NF } END { printf "%.1f\n", c / n }' "$log" | tee -a "$out/tables.$drain" |
         awk '{ printf "%18.1f", $1 }'
@@ -186,6 +187,6 @@ case "$part" in
     case "$part" in all | sizes) "$program" sizes $rounds || exit 1 ;; esac
     case "$part" in all | values) "$program" values $rounds || exit 1 ;; esac
     case "$part" in all | instructions) instructions && instructions 1 && checks || exit 1 ;; esac
-    case "$part" in all | instructions | tables) rm -f "$out"/tables.*; tables || exit 1 ;; esac
+    case "$part" in all | instructions | tables) tables && tables 1 && tables 32 || exit 1 ;; esac
     case "$part" in all | kinds) kinds || exit 1 ;; esac ;;
 esac
