@@ -8,6 +8,7 @@
  *   bench values [ROUNDS]          the cost of ollskuvan_read and ollskuvan_write
  *   bench mixes [ROUNDS]           rings of 1, 11 and 32 events with their table
  *   bench kinds [DRAIN]            every kind of ring: that the drains agree; with a name, two drains of each for callgrind
+ *   bench table-kinds [DRAIN]      the same with a table of events
  *   bench check WHOSE NUMBER       record check of each record of a workload, for callgrind: careful or ours
  *   bench once DRAIN WORKLOAD [BUDGET]   one drain, for callgrind; prints the number of records
  *   bench list                     the names that `once` takes
@@ -143,7 +144,7 @@ static uint64_t number(const char *text, uint64_t least, uint64_t most)
 static int usage(void)
 {
     fprintf(stderr, "usage: bench compare [RINGS [SEED]] | tables [RINGS [SEED]] | time [ROUNDS] | mixes [ROUNDS] | sizes [ROUNDS] | values [ROUNDS]\n"
-                    "       bench once DRAIN WORKLOAD [BUDGET] | kinds [DRAIN] | list\n");
+                    "       bench once DRAIN WORKLOAD [BUDGET] | kinds [DRAIN] | table-kinds [DRAIN] | list\n");
     return 2;
 }
 
@@ -159,7 +160,9 @@ int main(int argc, char **argv)
     if (strcmp(mode, "check") == 0 && argc == 4)
         return run_checks(argv[2], (enum made_workload)number(argv[3], 0, MADE_WORKLOADS - 1));
     if (strcmp(mode, "kinds") == 0 && argc <= 3)
-        return argc > 2 ? run_kinds(argv[2]) : compare_kinds();
+        return argc > 2 ? run_kinds(argv[2], false) : compare_kinds();
+    if (strcmp(mode, "table-kinds") == 0 && argc <= 3)
+        return argc > 2 ? run_kinds(argv[2], true) : compare_table_kinds();
     if (strcmp(mode, "list") == 0 && argc == 2)
         return list_names();
     if (argc > 3)

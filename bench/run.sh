@@ -162,24 +162,26 @@ checks() {
 }
 
 # instructions of a record more, on every kind of ring: the slowest against careful C
-kinds() {
+kinds() { # kinds|table-kinds
   local drain name
   command -v valgrind >/dev/null || { echo "bench: kinds skipped: valgrind is missing"; return 0; }
   rm -f "$out"/kinds.*
   for drain in careful ours; do
     name=careful_drain
     [ "$drain" = ours ] && name=ollskuvan_drain
+    [ "$1" = table-kinds ] && name=${name}_events
     valgrind --tool=callgrind --toggle-collect="$name" --dump-after="$name" --callgrind-out-file="$out/kinds.$drain" \
-      "$program" kinds "$drain" >"$out/kinds.$drain.names" 2>"$out/kinds.$drain.log" </dev/null || { cat "$out/kinds.$drain.log"; die "callgrind failed"; }
+      "$program" "$1" "$drain" >"$out/kinds.$drain.names" 2>"$out/kinds.$drain.log" </dev/null || { cat "$out/kinds.$drain.log"; die "callgrind failed"; }
   done
   python3 bench/kinds.py "$out"
 }
 
 case "$part" in
-  short) "$program" kinds || exit 1; "$program" compare "$rings" "$seed" || exit 1; "$program" tables $((rings / 2)) "$seed" || exit 1 ;;
+  short) "$program" kinds || exit 1; "$program" table-kinds || exit 1; "$program" compare "$rings" "$seed" || exit 1; "$program" tables $((rings / 2)) "$seed" || exit 1 ;;
   sanitize) "$program" compare "$rings" "$seed" || exit 1; "$program" tables $((rings / 2)) "$seed" || exit 1 ;;
   *)
     "$program" kinds || die "no times: the drains differ, or a kind is missing"
+    "$program" table-kinds || die "no times: the drains with a table differ"
     "$program" compare "$rings" "$seed" || die "no times: the drains differ"
     "$program" tables $((rings / 2)) "$seed" || die "no times: the drains with a table differ"
     case "$part" in all | time) "$program" time $rounds || exit 1 ;; esac
@@ -188,5 +190,5 @@ case "$part" in
     case "$part" in all | values) "$program" values $rounds || exit 1 ;; esac
     case "$part" in all | instructions) instructions && instructions 1 && checks || exit 1 ;; esac
     case "$part" in all | instructions | tables) tables && tables 1 && tables 32 || exit 1 ;; esac
-    case "$part" in all | kinds) kinds || exit 1 ;; esac ;;
+    case "$part" in all | kinds) kinds kinds || exit 1; echo; echo "with a table of eleven events"; kinds table-kinds || exit 1 ;; esac ;;
 esac
