@@ -127,7 +127,7 @@ part "tables of events: $((drains / 2)) drains and their records, seed $seed" \
     "$out/reader" tables --count $((drains / 2)) --seed "$seed"
 part "what misc means" "$out/reader" meanings --count "$values" --seed "$seed"
 part "real rings" "$out/reader" rings rings
-part "real rings of several events" "$out/reader" table-rings rings/events
+part "real rings of several events" "$out/reader" table-rings rings/events --seed "$seed"
 if [ $mode != without-values ]; then
     part "each sample bit, read format, type and trailer bit" "$out/reader" bits
     part "values: $values records, seed $seed" "$out/reader" values --count "$values" --seed "$seed"

@@ -40,7 +40,7 @@ reader rings FOLDER                   every record of the real rings is accepted
 reader drains [OPTIONS]               drain, record check and name copy: the library against the independent reader
 reader values [OPTIONS]               read and write: the library against the independent reader and writer
 reader tables [OPTIONS]               drain, reader of one record and lookup with a table of events, compared
-reader table-rings FOLDER             the real rings of several events, each with its NAME.table
+reader table-rings FOLDER [OPTIONS]   the real rings of several events, each with its NAME.table; then damaged
 reader ones [OPTIONS]                 the reader of one record: the library against the independent reader
 reader meanings [OPTIONS]             what misc means: the library against the independent reader
 reader bits                           each sample bit, read format, type and trailer bit: written, read, compared
@@ -120,7 +120,10 @@ fn run(command: &str, o: &Options) -> Result<(), String> {
         "rings" => rings(Path::new(o.words.first().ok_or("rings needs a folder")?)),
         "drains" => run_drains(o),
         "tables" => run_tables(o),
-        "table-rings" => tables::rings(Path::new(o.words.first().ok_or("table-rings needs a folder")?)),
+        "table-rings" => {
+            let folder = Path::new(o.words.first().ok_or("table-rings needs a folder")?);
+            tables::rings(folder, o.seed, o.count.unwrap_or(2000))
+        }
         "meanings" => run_meanings(o),
         "values" | "bits" | "ones" if cfg!(without_values) => Err("built without read and write".to_string()),
         "values" => run_values(o),

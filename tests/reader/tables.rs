@@ -399,20 +399,82 @@ pub fn read_table(path: &Path) -> Result<Vec<Event>, String> {
 }
 
 /// The rings of a folder, each with its table: every record accepted in edition 3, drained by both in every edition
-/// and at the edges, read one by one; under the table without its last event that one's records are 26.
-pub fn rings(folder: &Path) -> Result<(), String> {
+/// and at the edges, read one by one; under the table without its last event that one's records are 26; then damaged
+/// so many times.
+pub fn rings(folder: &Path, seed: u64, damaged: u64) -> Result<(), String> {
     let mut tally = Tally::default();
-    let mut r = Random::new(0xeb_e27, 0);
+    let mut r = Random::new(0xeb_e27, seed);
     let (mut count, mut records) = (0, 0);
     for (name, bytes) in images::images_of(folder)? {
         let table = read_table(&folder.join(&name).with_extension("table"))?;
         let image = Image::parse(&bytes).ok_or(format!("{name}: fewer than 50 bytes"))?;
+        for number in 0..damaged {
+            damaged_ring(&image, &table, seed, number, &mut tally).map_err(|d| format!("{name}, seed {seed}, case {number}: {d}"))?;
+        }
         let by_event = real_ring(&name, &image, &table, &mut r, &mut tally)?;
         println!("{name}: {by_event:?} records of its {} events, all accepted", table.len());
         count += 1;
         records += by_event.iter().sum::<u64>();
     }
-    println!("tables: {records} records of {count} real rings accepted, drained in every edition and compared");
+    println!(
+        "tables: {records} records of {count} real rings accepted, drained in every edition and compared; {} damaged rings, no difference",
+        damaged * count
+    );
+    Ok(())
+}
+
+/// A real ring with damage: to records, to identifiers, to the table, to head and tail; laid again from another tail.
+fn damaged_ring(
+    image: &Image, table: &[Event], seed: u64, number: u64, tally: &mut Tally,
+) -> Result<(), Difference> {
+    let mut r = Random::new(seed ^ 0xda3a_7ab, number);
+    let mut table = table.to_vec();
+    let length = image.ring.len();
+    let tail = some_tail(&mut r);
+    let (mut from, mut at) = (image.tail, 0);
+    let mut ring = image.ring.clone();
+    while from != image.head {
+        let byte = |i: u64| image.ring[(from.wrapping_add(i) % length as u64) as usize];
+        let size = u64::from(byte(6)) | u64::from(byte(7)) << 8;
+        let mut record: Vec<u8> = (0..size).map(byte).collect();
+        from = from.wrapping_add(size);
+        let event = table[events::find(&table, events::identifier(&record)).min(table.len() - 1)];
+        if r.one_in(6) {
+            damage_body(&mut r, &mut record, &event.attributes());
+        }
+        if r.one_in(12) {
+            let other = other_identifier(&mut r, &table, event.identifier);
+            put_identifier(&mut record, other);
+        }
+        if at + record.len() > length {
+            break;
+        }
+        put(&mut ring, tail.wrapping_add(at as u64), &record);
+        at += record.len();
+    }
+    match r.below(10) {
+        0 => spoil(&mut r, &mut table),
+        1 => table[0].sample_type ^= 1 << r.below(16),
+        2 => table.swap(0, 1),
+        _ => {}
+    }
+    let mut case = DrainCase {
+        ring,
+        head: tail.wrapping_add(at as u64),
+        tail,
+        attributes: Attributes::EMPTY,
+        edition: r.pick(&[1, 2, 3, 3, 3]),
+        budget: if r.one_in(8) { r.below(100) } else { u64::MAX },
+        scratch: if r.one_in(8) { r.below(200) as usize } else { length },
+        journal: if r.one_in(8) { r.below(1000) as usize } else { 2 * length + 16 },
+    };
+    if r.one_in(10) {
+        damage_counts(&mut r, &mut case);
+    }
+    compare_drain_with(&case, Some(&table), &mut r, tally)?;
+    if !cfg!(without_values) {
+        compare_one_with(&case, Some(&table), FIELDS, &mut r, tally)?;
+    }
     Ok(())
 }
 
