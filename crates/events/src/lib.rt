@@ -1,6 +1,6 @@
 // A table of events, lent as rows of seven words: whether it is sound, the lookup, and the answer for a record.
 ghost use mathlib.Core.Path.{_≡_};
-ghost use Prim.Native.Nat.{_+_, _≤_};
+ghost use Prim.Native.Nat.{_+_, _<_, _≤_};
 ghost use lib.ListN.{length, drop};
 ghost use Rattle.meaning.specs.Editions.{editions, known};
 ghost use Rattle.meaning.specs.Records.{kindOf};
@@ -82,7 +82,7 @@ pub fn attributes_of(v: Event) -> Attributes
 
 // The attributes of the event in row i, which is one.
 pub fn attributes_at(rows: &[[u64; 7]], i: usize) -> Attributes
-    requires { ⌜ i + 1 ≤ length (now rows) ⌝ }
+    requires { ⌜ i < length (now rows) ⌝ }
     ensures { λ r. ⌜ r ≡ attributesOf (eventAt (eventsOf (now (rows .entry))) i) ⌝ }
 {
     let row = rows[i];
