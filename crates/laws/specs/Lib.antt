@@ -19,3 +19,5 @@ pub mod Shapes
 pub mod Walks
 pub mod Named
 pub mod Numbers
+pub mod Lookup
+pub mod Matched
