@@ -1,5 +1,5 @@
-// A lent list of events as structs, and thin functions over it. The borrow checker covers no function that has a `&[Event]`, so each is
-// proved by hand. What is done with an event is a function that takes it by value.
+// A lent list of events as structs, and thin functions over it. The borrow checker covers no function that has a `&[Event]`,
+// so each is proved by hand. What is done with an event is a function that takes it by value.
 ghost use mathlib.Core.Path.{_≡_};
 ghost use lib.ListN.{length};
 ghost use Rattle.meaning.specs.Events.{identifiers, eventAt, indexOf};
@@ -39,13 +39,15 @@ pub fn event_at(events: &[Event], i: usize) -> Event
     events[i]
 }
 
-// The index of the first event with this identifier; the count where there is none.
-pub fn find(events: &[Event], id: u64) -> usize
-    ensures { λ r. ⌜ r ≡ indexOf id (identifiers (now (events .entry))) ⌝ }
+// What C calls: the index of the first event with this identifier; the count where there is none. The mark of an export
+// stands here, since a second function that passed the slice on would need a walk of its own.
+#[no_mangle]
+pub extern "C" fn ollskuvan_find_event(events: &[Event], identifier: u64) -> usize
+    ensures { λ r. ⌜ r ≡ indexOf identifier (identifiers (now (events .entry))) ⌝ }
 {
     let mut i = 0;
     while i < events.len() {
-        if events[i].identifier == id {
+        if events[i].identifier == identifier {
             break;
         }
         i += 1;

@@ -1,4 +1,4 @@
--- `event_list::find` meets its contract: a walk of its MIR, by hand, with a loop in it. The slice is looked into once, before the loop, and shut once, after it: between the two
+-- `event_list::ollskuvan_find_event` meets its contract: a walk of its MIR, by hand, with a loop in it. The slice is looked into once, before the loop, and shut once, after it: between the two
 -- the function has a share q′ of the whole row of events, of which each turn takes one out, reads its field and puts it back.
 --     Facts i      what holds at the head of a turn at the index i: what is still to come is the whole
 --     Held i       the context there, but for the facts. I i      the whole of it: the loop's invariant
@@ -50,10 +50,10 @@ use Rattle.event_list.proofs.Walk.{Left, left-wf, tests, breaks-if}
 use Rattle.event_list.proofs.Laws.{index-end, index-here, index-next, identifier-at}
 use Rattle.meaning.proofs.Event as T
 use Rattle.meaning.proofs.Event.Laws as T′
-use Rattle.event_list.proofs.find.Key.{name as #event_list·find}
-use Rattle.event_list.proofs.find as f
-use Rattle.event_list.proofs.find.Statement as stated
-use Rattle.event_list.proofs.find.Code as code
+use Rattle.event_list.proofs.ollskuvan_find_event.Key.{name as #event_list·find}
+use Rattle.event_list.proofs.ollskuvan_find_event as f
+use Rattle.event_list.proofs.ollskuvan_find_event.Statement as stated
+use Rattle.event_list.proofs.ollskuvan_find_event.Code as code
 
 abbrev stayed : Stays (f.ended .signature .params) (f.ended .kept)
 stayed = (stay-none-slice (0 ∷ []) tt (plain (λ _. T.the-row)) yes, (stay-none (λ _. u64) yes, tt))
@@ -198,9 +198,9 @@ module _ {M : Type 1} (𝓤 : URA M) (H : Heap 𝓤) (A : Atoms 𝓤) (W : Given
   f-meets : Meets 𝓤 H A f.signature (WpFn 𝓤 H (𝓣 .C) (𝓣 .Λ) code.function) (f.spec 𝓤 H A mem run)
   f-meets = walk-meets 𝓤 H A f.ended stayed W (goes-none-slice 𝓤 H A W 1 (0 ∷ []) tt (plain (λ _. T.the-row)) yes, (goes-none 𝓤 H A W 1 (λ _. u64) yes (λ κs x f. refl), tt)) (f.clauses 𝓤 H A mem run) (WpFn 𝓤 H (𝓣 .C) (𝓣 .Λ) code.function) (WpFn-mono 𝓤 H (W .laws) 𝓣 code.function) f-walks
 
-pub find-spec : {M : Type 1} → stated.statement M
+pub ollskuvan-find-event-spec : {M : Type 1} → stated.statement M
 unfolding code.routine tablesOf
-find-spec 𝓤 H 𝓜 𝓖 𝓡 =
+ollskuvan-find-event-spec 𝓤 H 𝓜 𝓖 𝓡 =
     entered 𝓤 H (tripleOf 𝓤 H (𝓖 .A) f.signature (f.spec 𝓤 H (𝓖 .A) (𝓜 .mem) (𝓡 .run)))
     (tables 𝓤 H 𝓜 𝓡 code.env .C) (tables 𝓤 H 𝓜 𝓡 code.env .Λ) #event_list·find code.function (code.unfolded 𝓤 H 𝓜 𝓡)
     (f-meets 𝓤 H (𝓖 .A) (givenOf 𝓤 H 𝓜 𝓖) (𝓜 .mem) (𝓡 .run) (tablesOf 𝓤 H 𝓜 (tables 𝓤 H 𝓜 𝓡 code.env)))
