@@ -96,6 +96,7 @@ struct thread {
 struct source {
     char label[64];
     struct ring_attributes attributes;
+    struct event_table table; /* count 0: the attributes serve */
     size_t length;
     uint64_t records, refused, bytes, lost, switches;
     uint32_t stop;        /* of the drain that did not reach the head, else of the last one */
