@@ -73,7 +73,7 @@ case $mode in
         ringdump="$out/reader dump"
         ;;
     *)
-        [ -f "$archive" ] || stop "$archive is missing: run 'rt staticlib ollskuvan' first"
+        [ -f "$archive" ] || stop "$archive is missing: run 'make lib' first"
         [ $mode = long ] || [ -x "$ringdump" ] || stop "$ringdump is missing: run 'rt check ringdump' first"
         without= undefined=
         if [ $mode = soak ] && ! nm "$archive" 2>/dev/null | grep -q ' T ollskuvan_read$'; then

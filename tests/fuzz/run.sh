@@ -40,7 +40,7 @@ number=$(clang -dumpversion | cut -d. -f1)
 echo 'int LLVMFuzzerTestOneInput(const char *b, unsigned long n) { return !b && n > n + 1; }' >"$out/probe.c"
 clang -fsanitize=fuzzer,address,undefined -o "$out/probe" "$out/probe.c" 2>/dev/null ||
     skip "clang has no sanitizer libraries (Debian: apt-get install libclang-rt-$number-dev)"
-[ -f "$archive" ] || stop "$archive is missing: run 'rt staticlib ollskuvan' first"
+[ -f "$archive" ] || stop "$archive is missing: run 'make lib' first"
 [ -f "$program" ] || stop "$program is missing: run 'rt check ringdump' first"
 
 without=
