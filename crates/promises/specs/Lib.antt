@@ -9,3 +9,4 @@ pub mod Exported
 pub mod Demand3
 pub mod Unique
 pub mod Counts
+pub mod Series
