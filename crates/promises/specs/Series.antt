@@ -18,10 +18,10 @@ use Rattle.meaning.specs.Bytes.{num, bit, spell, zeros, put}
 use Rattle.meaning.specs.Refusals.{first}
 use Rattle.meaning.specs.Editions.{editions, known, isIn}
 use Rattle.meaning.specs.Records.{layout, judge, kindOf}
-use Rattle.meaning.specs.Ring.{Asked, askedOf, lengthAllowed, distance, recordAt, stopped, sized, frame, scratchAfter}
+use Rattle.meaning.specs.Ring.{askedOf, lengthAllowed, distance, recordAt, stopped, sized, frame, scratchAfter}
 use Rattle.meaning.specs.Drain.{End, drain, run, entry, journalKind}
-use Rattle.meaning.specs.Events.{askedEvents, judgeEvents, drainEvents, eventLimit, sound, distinct, allMarked, hasEvent, identifierOf}
-use Rattle.series.specs.Series.{Step, Given, drainAt, from, series, seriesTo, Steady, oneDrain, Same, GoesOn}
+use Rattle.meaning.specs.Events.{askedEvents, judgeEvents, drainEvents, eventLimit, sound, distinct, allMarked, identifierOf}
+use Rattle.series.specs.Series.{Step, Given, from, series, seriesTo, Steady, oneDrain, Same, GoesOn}
 use Rattle.series.specs.Stops.{lasting, staying}
 use Rattle.series.specs.Anywhere.{drains-cut-anywhere, stops-alike, agrees-before, stays-stopped, always-enough}
 use Rattle.series.specs.Examples.{first-tail, steps, last-step, steps-steady}
@@ -117,3 +117,22 @@ with-table limit rows e es =
       stopped-stays = stays-stopped (askedEvents limit rows e es) (judgeEvents (known rows e) es);
       enough = always-enough (askedEvents limit rows e es) (judgeEvents (known rows e) es);
     }
+
+-- ---- not empty: the series of series/specs/Examples meets every premise, whatever the judge; here with a table of one event, under edition 3
+abbrev kiln : List Event
+kiln = record { identifier = 7; sample = 2 ^ 16; format = 0; user = 0; interrupt = 0; branch = 0; all = 1 } ∷ []
+
+abbrev kilnGave : Given
+kilnGave = tableSeriesTo eventLimit editions 3 kiln first-tail steps last-step
+
+-- in three of seven drains three records are taken, of 8, 24 and 8 bytes: 27, 26 and 27; and the last stopped with 0
+pub table-series : (kilnGave .taken ≡ 3) × (kilnGave .stop ≡ 0) × (kilnGave .tail ≡ 24)
+    × (kilnGave .entries ≡ entry 14 27 (2 ^ 64 - 16) ++ (entry 2 26 (2 ^ 64 - 8) ++ entry 7 27 16))
+unfolding series run entry journalKind kindOf frame stopped sized lengthAllowed distance recordAt scratchAfter put num spell bit sound distinct allMarked judgeEvents first identifierOf known
+table-series = (refl, refl, refl, refl)
+
+pub one-drain-with-table : Same kilnGave (withTable eventLimit editions 3 kiln first-tail (oneDrain last-step 3 (zeros 48) (zeros 24)))
+one-drain-with-table =
+    let c = table-series in
+    let t = c .0 in
+    with-table eventLimit editions 3 kiln .cut-anywhere first-tail (omega arith) last-step steps steps-steady (c .1) 3 (zeros 48) (zeros 24) refl (omega arith) (omega arith)

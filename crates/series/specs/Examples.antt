@@ -168,7 +168,7 @@ cases =
     ∷ case first-tail steps last-step 0 (step-with ring-3 24 9 64 23)
     -- "the same ring length": the record at 56 is whole in a ring of 128 bytes, and needs a scratch in one of 64
     ∷ case 56 (step-with (zeros 56 ++ (long ++ zeros 56)) 72 9 64 8 ∷ []) (step-with (drop 8 long ++ (zeros 48 ++ take 8 long)) 72 9 64 8) 0
-        (step-with (drop 8 long ++ (zeros 48 ++ take 8 long)) 72 9 64 8)
+    (step-with (drop 8 long ++ (zeros 48 ++ take 8 long)) 72 9 64 8)
     -- "enough budget and journal room"
     ∷ case first-tail steps last-step 0 (step ring-3 24 2 64)
     ∷ case first-tail steps last-step 0 (step ring-3 24 9 47)
