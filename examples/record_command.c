@@ -14,6 +14,7 @@
 #include <stdlib.h>
 #include <string.h>
 
+#include "again.h"
 #include "arguments.h"
 #include "bytes.h"
 #include "commands.h"
@@ -29,6 +30,7 @@ struct options {
     struct live_want want;
     uint64_t budget;
     const char *save;
+    bool again; /* each ring's drains once more, as one */
 };
 
 struct controller {
@@ -37,6 +39,8 @@ struct controller {
     struct names names;
     bool broken; /* a stop that is this program's own fault */
     bool *full;  /* by ring: said already */
+    struct again *again; /* by ring */
+    struct again_sums compared;
     uint8_t scratch[OLLSKUVAN_RECORD_MAX]; /* so stop 3 cannot be */
     uint8_t journal[BUDGET_MAX * OLLSKUVAN_JOURNAL_ENTRY];
     /* what it saw */
@@ -102,6 +106,8 @@ static bool drain_some(struct controller *c, const struct perf_ring *ring)
     c->by_stop[done.stop < STOPS ? done.stop : STOPS - 1]++;
     for (uint64_t i = 0; i < done.taken; i++)
         look_at_entry(c, ring, c->journal + i * OLLSKUVAN_JOURNAL_ENTRY);
+    if (c->options.again)
+        again_follow(&c->again[ring - c->live.rings], &c->compared, ring, head, tail, &done, c->journal);
     perf_ring_give_back(ring, tail_after(c, ring, head, &done));
     return !c->broken && (done.stop == OLLSKUVAN_STOP_BUDGET || done.stop == OLLSKUVAN_STOP_JOURNAL);
 }
@@ -111,6 +117,15 @@ static void drain_ring(struct controller *c, const struct perf_ring *ring, unsig
 {
     for (unsigned turn = 0; turn < turns && drain_some(c, ring); turn++)
         ;
+}
+
+/* What is kept of the drains, compared; and where they gave something else it is said. */
+static void compare_all(struct controller *c)
+{
+    for (size_t i = 0; i < c->live.count && c->options.again; i++) {
+        again_compare(&c->again[i], &c->compared, &c->live.rings[i]);
+        again_free(&c->again[i]);
+    }
 }
 
 static void drain_all(struct controller *c, unsigned turns)
@@ -224,6 +239,11 @@ static void summary(const struct controller *c)
     print_kinds(c);
     print_counts("stop", c->by_stop, STOPS, ollskuvan_stop_text);
     print_counts("refused with", c->by_refusal, REFUSALS, ollskuvan_refusal_text);
+    if (c->options.again)
+        printf("  once more: %llu %s in %llu %s, one for what fits the ring; %llu gave something else\n",
+            (unsigned long long)c->compared.records, plural(c->compared.records, "record", "records"),
+            (unsigned long long)c->compared.drains, plural(c->compared.drains, "drain", "drains"),
+            (unsigned long long)c->compared.differences);
     if (c->skipped != 0)
         printf("  given up at stops: %llu %s\n", (unsigned long long)c->skipped, plural(c->skipped, "byte", "bytes"));
 }
@@ -241,6 +261,7 @@ static void usage(FILE *out)
         "  --cpu N       this cpu alone (all that are online)\n"
         "  --clock       samples of the cpu clock too\n"
         "  --edition N   what the reader knows: 1, 2 or 3 (3)\n"
+        "  --again       drain what fits a ring once more, as one, and compare\n"
         "  --save NAME   drain nothing until the end, then write NAME-cpuN.img for each\n"
         "                ring, and NAME-names.txt\n"
         "  --help        this\n"
@@ -277,6 +298,8 @@ static bool take_option(struct options *o, int letter)
     case 'w':
         o->save = optarg;
         return true;
+    case 'g':
+        return o->again = true;
     default:
         usage(stderr);
         return false;
@@ -287,7 +310,7 @@ static bool read_options(struct options *o, int argc, char **argv, bool *help)
 {
     static const struct option names[] = {
         { "seconds", 1, NULL, 's' }, { "budget", 1, NULL, 'b' }, { "pages", 1, NULL, 'p' }, { "cpu", 1, NULL, 'c' },
-        { "clock", 0, NULL, 'k' }, { "edition", 1, NULL, 'e' }, { "save", 1, NULL, 'w' }, { "help", 0, NULL, 'h' },
+        { "clock", 0, NULL, 'k' }, { "edition", 1, NULL, 'e' }, { "save", 1, NULL, 'w' }, { "again", 0, NULL, 'g' }, { "help", 0, NULL, 'h' },
         { NULL, 0, NULL, 0 },
     };
     int letter;
@@ -316,6 +339,7 @@ static int control(struct controller *c)
     if (c->options.save != NULL)
         names_from_proc(&c->names, false);
     c->full = must(calloc(c->live.count + 1, sizeof *c->full));
+    c->again = must(calloc(c->live.count + 1, sizeof *c->again));
     progress_begin();
     status = live_start(&c->live);
     if (status == STATUS_DONE)
@@ -326,8 +350,9 @@ static int control(struct controller *c)
     if (c->options.save != NULL && !save_all(c))
         status = STATUS_FAILED;
     drain_all(c, UINT32_MAX); /* the events are stopped: this comes to an end */
+    compare_all(c);
     summary(c);
-    return c->broken || c->skipped != 0 ? STATUS_FAILED : status;
+    return c->broken || c->skipped != 0 || c->compared.differences != 0 ? STATUS_FAILED : status;
 }
 
 int record_command(int argc, char **argv)
@@ -347,6 +372,7 @@ int record_command(int argc, char **argv)
     live_close(&c->live);
     names_free(&c->names);
     free(c->full);
+    free(c->again);
     free(c);
     return status;
 }
