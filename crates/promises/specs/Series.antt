@@ -7,10 +7,10 @@
 -- is computed in series/specs/Examples. Assumes nothing.
 use mathlib.Core.Path.{_≡_, refl}
 use mathlib.Core.List.{List, [], _∷_, _++_}
-use mathlib.Core.Bool.{true}
+use mathlib.Core.Bool.{true, false}
 use Prim.Native.Nat.{ℕ, _+_, _-_, _*_, _%_, _^_, _<_, _≤_}
 use native.Mathlib.Omega.{arith}
-use lib.ListN.{length}
+use lib.ListN.{length, take}
 use Rattle.meaning.specs.declared.Attributes.{Attributes}
 use Rattle.meaning.specs.declared.Event.{Event}
 use Rattle.meaning.specs.declared.Known.{Known}
@@ -21,10 +21,11 @@ use Rattle.meaning.specs.Records.{layout, judge, kindOf}
 use Rattle.meaning.specs.Ring.{askedOf, lengthAllowed, distance, recordAt, stopped, sized, frame, scratchAfter}
 use Rattle.meaning.specs.Drain.{End, drain, run, entry, journalKind}
 use Rattle.meaning.specs.Events.{askedEvents, judgeEvents, drainEvents, eventLimit, sound, distinct, allMarked, identifierOf}
-use Rattle.series.specs.Series.{Step, Given, from, series, seriesTo, Steady, oneDrain, Same, GoesOn}
+use Rattle.series.specs.Series.{Step, Given, drainAt, entriesOf, from, series, seriesTo, Steady, oneDrain, Same, GoesOn}
 use Rattle.series.specs.Stops.{lasting, staying}
-use Rattle.series.specs.Anywhere.{drains-cut-anywhere, stops-alike, agrees-before, stays-stopped, always-enough}
+use Rattle.series.specs.Anywhere.{drains-cut-anywhere, stops-alike, agrees-before, begins-alike, stays-stopped, always-enough}
 use Rattle.series.specs.Examples.{first-tail, steps, last-step, steps-steady}
+use Rattle.series.specs.Examples as examples
 
 -- ---- the drains of 01 and of M-100, each from a tail, with what a step lends
 
@@ -82,6 +83,13 @@ module _ (drained : ℕ → Step → End) (gave : ℕ → List Step → Given) (
       → (budget : ℕ) (journal scratch : List ℕ) → length scratch ≡ length (z .scratch) → gaveTo tail ss s .taken < budget → 16 * gaveTo tail ss s .taken + 16 ≤ length journal
       → Same (gaveTo tail ss s) (drained tail (oneDrain z budget journal scratch))
 
+  -- so the one drain's entries begin with the series'
+  abbrev pub BeginsAlike : Type 0
+  BeginsAlike =
+      (tail : ℕ) → tail < 2 ^ 64 → (z : Step) (ss : List Step) → Steady tail 0 ss z → z .head % 8 ≡ 0
+      → (budget : ℕ) (journal scratch : List ℕ) → length scratch ≡ length (z .scratch) → gave tail ss .taken ≤ budget → 16 * gave tail ss .taken ≤ length journal
+      → take (length (gave tail ss .entries)) (entriesOf (drained tail (oneDrain z budget journal scratch))) ≡ gave tail ss .entries
+
   -- how much always suffices: one record for every 8 bytes of the ring
   abbrev pub AlwaysEnough : Type 0
   AlwaysEnough =
@@ -92,6 +100,7 @@ module _ (drained : ℕ → Step → End) (gave : ℕ → List Step → Given) (
     pub cut-anywhere : CutAnywhere
     pub stopped-alike : StopsAlike
     pub before-agrees : AgreesBefore
+    pub begins : BeginsAlike
     pub stopped-stays : StaysStopped
     pub enough : AlwaysEnough
 
@@ -102,6 +111,7 @@ one-set rows e a =
       cut-anywhere = drains-cut-anywhere (askedOf rows e) (judge (layout (known rows e) a));
       stopped-alike = stops-alike (askedOf rows e) (judge (layout (known rows e) a));
       before-agrees = agrees-before (askedOf rows e) (judge (layout (known rows e) a));
+      begins = begins-alike (askedOf rows e) (judge (layout (known rows e) a));
       stopped-stays = stays-stopped (askedOf rows e) (judge (layout (known rows e) a));
       enough = always-enough (askedOf rows e) (judge (layout (known rows e) a));
     }
@@ -114,6 +124,7 @@ with-table limit rows e es =
       cut-anywhere = drains-cut-anywhere (askedEvents limit rows e es) (judgeEvents (known rows e) es);
       stopped-alike = stops-alike (askedEvents limit rows e es) (judgeEvents (known rows e) es);
       before-agrees = agrees-before (askedEvents limit rows e es) (judgeEvents (known rows e) es);
+      begins = begins-alike (askedEvents limit rows e es) (judgeEvents (known rows e) es);
       stopped-stays = stays-stopped (askedEvents limit rows e es) (judgeEvents (known rows e) es);
       enough = always-enough (askedEvents limit rows e es) (judgeEvents (known rows e) es);
     }
@@ -136,3 +147,18 @@ one-drain-with-table =
     let c = table-series in
     let t = c .0 in
     with-table eventLimit editions 3 kiln .cut-anywhere first-tail (omega arith) last-step steps steps-steady (c .1) 3 (zeros 48) (zeros 24) refl (omega arith) (omega arith)
+
+-- ---- each premise is needed: for each a series that lacks it alone, of which one drain gives something else, or not even what was before
+pub each-premise : (examples.all examples.parts examples.cases ≡ true) × (examples.all examples.falls-short examples.cases-before ≡ true)
+    × (examples.all examples.parts examples.cases-stopped ≡ true)
+each-premise = (examples.every-case, examples.every-case-before, examples.every-case-stopped)
+
+-- "the same .. table, edition" and "each starting at the last one's tail": two drains under two judges, and two from one tail, that ended with 0
+pub one-judge-one-way :
+    (examples.agree examples.mixed (drainAt examples.known examples.judge 0 (examples.step examples.ring-4 16 9 64)) ≡ false)
+    × (examples.agree examples.again (drainAt examples.known examples.judge 0 (examples.step examples.ring-4 16 9 64)) ≡ false)
+one-judge-one-way = (examples.other-judge .1, examples.other-tail .1)
+
+-- with the record's length as the judge's answer, one drain gives what the seven gave
+pub seven-as-one : Same (seriesTo examples.known examples.judge first-tail steps last-step) (drainAt examples.known examples.judge first-tail (oneDrain last-step 3 (zeros 48) (zeros 24)))
+seven-as-one = examples.one-drain-gives-it

@@ -38,7 +38,7 @@ ring-2 = take 8 (drop 8 lost) ++ (spell 8 77 ++ (zeros 32 ++ (switch ++ take 8 l
 abbrev ring-3 : List ℕ
 ring-3 = drop 8 lost ++ (fork ++ (zeros 24 ++ (switch ++ take 8 lost)))
 
-abbrev step : List ℕ → ℕ → ℕ → ℕ → Step
+abbrev pub step : List ℕ → ℕ → ℕ → ℕ → Step
 step ring head budget room = record { ring = ring; head = head; budget = budget; journal = zeros room; scratch = zeros 24 }
 
 abbrev pub steps : List Step
@@ -59,10 +59,10 @@ abbrev pub last-step : Step
 last-step = step ring-3 24 9 64
 
 -- an edition that is one, and no table; any judge serves: this one answers the record's length
-abbrev known : Asked
+abbrev pub known : Asked
 known = asking true
 
-abbrev judge : List ℕ → ℕ
+abbrev pub judge : List ℕ → ℕ
 judge r = length r
 
 -- every premise is met
@@ -122,7 +122,7 @@ same [] (y ∷ ys) = false
 same (x ∷ xs) [] = false
 
 -- the four parts of `Same`
-abbrev agree : Given → End → Bool
+abbrev pub agree : Given → End → Bool
 agree g d = (eqb (d .state .taken) (g .taken) && same (entriesOf d) (g .entries)) && (eqb (d .state .tail) (g .tail) && eqb (d .stop) (g .stop))
 
 -- the series ended as said, and the one drain gives something else
@@ -145,7 +145,7 @@ abbrev pub case : ℕ → List Step → Step → ℕ → Step → Case
 case tail before last stop one = record { tail = tail; before = before; last = last; stop = stop; one = one }
 
 -- a ring full of 8-byte records; one in which the third has a size of 0
-abbrev ring-4 : List ℕ
+abbrev pub ring-4 : List ℕ
 ring-4 = switch ++ (switch ++ (switch ++ (switch ++ (switch ++ (switch ++ (switch ++ switch))))))
 
 abbrev ring-5 : List ℕ
@@ -213,7 +213,7 @@ every-case-stopped = refl
 abbrev other : List ℕ → ℕ
 other r = 20
 
-abbrev mixed : Given
+abbrev pub mixed : Given
 mixed = onward known judge (series known other (from 0) (step ring-4 8 9 64 ∷ [])) (step ring-4 16 9 64)
 
 pub other-judge : (mixed .stop ≡ 0) × (agree mixed (drainAt known judge 0 (step ring-4 16 9 64)) ≡ false)
@@ -221,7 +221,7 @@ unfolding series run entry journalKind kindOf frame stopped sized lengthAllowed 
 other-judge = (refl, refl)
 
 -- "each starting at the last one's tail": the second drain starts at the first tail again
-abbrev again : Given
+abbrev pub again : Given
 again = record {
   taken = 1 + drainAt known judge 0 (step ring-4 16 9 64) .state .taken;
   entries = seriesTo known judge 0 [] (step ring-4 8 9 64) .entries ++ entriesOf (drainAt known judge 0 (step ring-4 16 9 64));
