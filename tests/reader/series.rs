@@ -2,13 +2,14 @@
 //! last head. The bytes past each head are noise that is drawn anew for each drain: what is not written yet.
 
 use crate::abi;
-use crate::drains::Difference;
+use crate::drains::{table_words, Difference};
 use crate::guard::{first_difference, hex};
 use crate::made::*;
 use crate::ring::{Drained, Image};
+use crate::tables::{table_case, TableCase};
 use crate::tally::Tally;
 
-/// One drain by the library: ring, head, tail, budget, scratch, journal. Another call (a table of events) is another of these.
+/// One drain by the library: ring, head, tail, budget, scratch, journal; with one attribute set, or with a table of events.
 pub type Drainer<'d> = &'d dyn Fn(&[u8], u64, u64, u64, &mut [u8], &mut [u8]) -> Drained;
 
 /// What a series gives, or one drain: records, entries one after the other, the last tail, why it stopped.
