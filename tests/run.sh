@@ -123,6 +123,8 @@ part "drains, checks and name copies: $drains cases, seed $seed" \
     "$out/reader" drains --count "$drains" --seed "$seed"
 part "drains cut anywhere: $((drains / 10)) series, seed $seed" \
     "$out/reader" series --count $((drains / 10)) --seed "$seed" --rings rings
+part "two readers of one ring: $values pairs of tails, seed $seed" \
+    "$out/reader" readers --count "$values" --seed "$seed"
 part "what misc means" "$out/reader" meanings --count "$values" --seed "$seed"
 part "real rings" "$out/reader" rings rings
 if [ $mode != without-values ]; then

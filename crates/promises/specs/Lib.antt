@@ -10,3 +10,4 @@ pub mod Demand3
 pub mod Unique
 pub mod Counts
 pub mod Series
+pub mod Readers
