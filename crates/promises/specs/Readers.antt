@@ -4,18 +4,18 @@ use mathlib.Core.Path.{_≡_}
 use mathlib.Core.List.{List, _∷_}
 use mathlib.Core.Bool.{Bool, true}
 use mathlib.Core.Logic.{_⊎_}
-use Prim.Native.Nat.{ℕ, _≤_}
+use Prim.Native.Nat.{ℕ, _^_, _<_, _≤_}
 use lib.ListN.{length}
 use Rattle.meaning.specs.declared.Attributes.{Attributes}
 use Rattle.meaning.specs.declared.Event.{Event}
 use Rattle.meaning.specs.declared.Known.{Known}
 use Rattle.meaning.specs.Editions.{editions, allowed}
-use Rattle.meaning.specs.Ring.{askingWith, distance, stopAt, frame}
-use Rattle.meaning.specs.Drain.{End}
+use Rattle.meaning.specs.Ring.{Asked, askingWith, distance, stopAt, frame}
+use Rattle.meaning.specs.Drain.{End, start, run}
 use Rattle.editions.specs.Fairness.{Words}
 use Rattle.editions.specs.Promise.{Demand3}
 use Rattle.readers.specs.declared.Readers.{Readers}
-use Rattle.readers.specs.Readers.{readersAt, tailAnswer, published}
+use Rattle.readers.specs.Readers.{readersAt, firstMoved, secondMoved, tailAnswer, furtherTail, published}
 use Rattle.readers.specs.Laws as laws
 use Rattle.readers.specs.Turns.{Lent, Turn, table-replaced, turns, first-alone, second-alone, first-as-alone, second-as-alone, first-by-itself, second-by-itself, both-see-it, oneSetDrain, tableDrain}
 use Rattle.promises.specs.Demand3.{older-drain}
@@ -46,6 +46,25 @@ module _ (n head : ℕ) (r : Readers) where
 pub refused-as-drained : (table : Bool) (ring : List ℕ) (head tail left room scratch : ℕ) → (tailAnswer (length ring) head tail ≡ 0 → ⊥)
     → frame (askingWith true table) ring head tail left room scratch ≡ stopAt (tailAnswer (length ring) head tail)
 refused-as-drained = laws.refused-as-a-drain
+
+-- ---- a reader that has taken bytes: then it stands at its drain's new tail, with one attribute set or a table, and the kernel's tail does not go back
+module _ (asked : Asked) (judge : List ℕ → ℕ) (ring : List ℕ) (head : ℕ) (r : Readers) (budget : ℕ) (journal scratch : List ℕ) (hd : head < 2 ^ 64) where
+  abbrev from : ℕ → End
+  from tail = run (frame asked ring head) judge ring budget (start tail journal scratch)
+
+  pub first-stands : r .first < 2 ^ 64 → firstMoved r (from (r .first) .state .bytes) .first ≡ from (r .first) .state .tail
+  first-stands = laws.first-drain-moves asked judge ring head r budget journal scratch hd
+
+  pub second-stands : r .second < 2 ^ 64 → secondMoved r (from (r .second) .state .bytes) .second ≡ from (r .second) .state .tail
+  second-stands = laws.second-drain-moves asked judge ring head r budget journal scratch hd
+
+pub first-moves-on : (head : ℕ) (r : Readers) (bytes : ℕ) → head < 2 ^ 64 → r .first < 2 ^ 64 → bytes ≤ distance head (r .first)
+    → distance head (furtherTail head (firstMoved r bytes)) ≤ distance head (furtherTail head r)
+first-moves-on = laws.first-moves-on
+
+pub second-moves-on : (head : ℕ) (r : Readers) (bytes : ℕ) → head < 2 ^ 64 → r .second < 2 ^ 64 → bytes ≤ distance head (r .second)
+    → distance head (furtherTail head (secondMoved r bytes)) ≤ distance head (furtherTail head r)
+second-moves-on = laws.second-moves-on
 
 -- ---- "Each reader's answers depend on ring, head, table, edition, its own tail, scratch, budget and journal and not on the other's tail": over any list of
 -- turns, in which a reader drains or the table is replaced; with a table of events, and with one attribute set
