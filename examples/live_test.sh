@@ -296,6 +296,7 @@ fails() { # STATUS WORDS COMMAND..
 fails 1 "$work/none did not start: No such file" "$programs/late" --live -- "$work/none"
 fails 1 "$work/none did not start: No such file" "$programs/controller" -- "$work/none"
 fails 1 'did not start: Permission denied' "$programs/controller" -- /etc/passwd
+fails 2 '--report goes with neither' "$programs/controller" --report 2 --save "$work/none"
 fails 0 'the program ended with 7' "$programs/controller" -- sh -c 'exit 7'
 fails 0 'the program was ended by signal 9' "$programs/controller" -- sh -c 'kill -KILL $$'
 for p in "late --live --short --seconds 0.05" "controller --seconds 0.05" "load_test 100"; do

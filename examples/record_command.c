@@ -381,6 +381,10 @@ static bool read_options(struct options *o, int argc, char **argv, bool *help)
         if (!take_option(o, letter))
             return false;
     }
+    if (o->report != 0 && (o->save != NULL || o->again)) {
+        complain("--report goes with neither --save nor --again: each of the two readers drains by its own tail");
+        return false;
+    }
     o->want.program = optind < argc ? argv + optind : NULL;
     if (o->want.seconds == 0 && o->want.program == NULL)
         o->want.seconds = 2;
@@ -410,7 +414,7 @@ static int control(struct controller *c)
     int stopped = live_stop(&c->live);
     if (status != STATUS_DONE || stopped != STATUS_DONE)
         return status != STATUS_DONE ? status : stopped;
-    if (c->options.report != 0 && c->options.save == NULL) {
+    if (c->options.report != 0) {
         serve_the_rest(c);
         print_readers(c);
         return c->broken ? STATUS_FAILED : status;
