@@ -364,13 +364,17 @@ report_of_one() { slow_report 1; }
 report_of_five() { slow_report 5; }
 undisturbed report_of_one
 undisturbed report_of_five
-"$programs/controller" --budget 8 --pages 1 --report 1 -- "$programs/load_test" 5000 16 >"$work/report.out" 2>&1 ||
-  { cat "$work/report.out"; wrong "controller --report failed"; }
-grep -q -E '^logger: ([0-9]+) records?, ([0-9]+) told as lost; report: \1 records?, \2 told as lost; told the same$' "$work/report.out" ||
-  wrong "the controller's two readers: $(grep '^logger' "$work/report.out")"
-grep -q -E "^the report held the kernel's tail back [1-9][0-9]* times?, .*; the logger waited for it 0 times\$" "$work/report.out" ||
-  wrong "the controller's report: $(grep '^the report' "$work/report.out")"
-grep -E '^(logger|the report)' "$work/report.out"
+report_behind() { # WORDS.. more options
+  "$programs/controller" --budget 8 --pages 1 --report 1 "$@" -- "$programs/load_test" 5000 16 >"$work/report.out" 2>&1 ||
+    { cat "$work/report.out"; wrong "controller --report $* failed"; }
+  grep -q -E '^logger: ([0-9]+) records?, ([0-9]+) told as lost; report: \1 records?, \2 told as lost; told the same$' "$work/report.out" ||
+    wrong "the controller's two readers $*: $(grep '^logger' "$work/report.out")"
+  grep -q -E "^the report held the kernel's tail back [1-9][0-9]* times?, .*; the logger waited for it 0 times\$" "$work/report.out" ||
+    wrong "the controller's report $*: $(grep '^the report' "$work/report.out")"
+  grep -E '^(logger|the report)' "$work/report.out"
+}
+report_behind
+report_behind --events page-faults,cpu-clock # one ring and one table
 
 [ "$failures" -eq 0 ] || { echo "live tests: $failures wrong"; exit 1; }
 echo "live tests: all right"
