@@ -19,9 +19,11 @@
 
 static struct ollskuvan_drained memcpy_drain(const uint8_t *ring, size_t ring_len, uint64_t head, uint64_t tail,
     uint64_t sample_type, uint64_t read_format, uint32_t sample_id_all, uint64_t user_mask, uint64_t interrupt_mask,
-    uint32_t edition, uint64_t budget, uint8_t *scratch, size_t scratch_len, uint8_t *journal, size_t journal_len)
+    uint64_t branch_sample_type, uint32_t edition, uint64_t budget, uint8_t *scratch, size_t scratch_len,
+    uint8_t *journal, size_t journal_len)
 {
-    (void)sample_type, (void)read_format, (void)sample_id_all, (void)user_mask, (void)interrupt_mask;
+    (void)sample_type, (void)read_format, (void)sample_id_all, (void)user_mask, (void)interrupt_mask,
+        (void)branch_sample_type;
     (void)edition, (void)budget, (void)journal, (void)journal_len;
     memcpy(scratch, ring, ring_len < scratch_len ? ring_len : scratch_len);
     __asm__ volatile("" : : "r"(scratch) : "memory"); /* the copy is wanted, though nobody reads it */
@@ -54,8 +56,8 @@ struct ollskuvan_drained run_drain(drain_function *drain, const struct made_ring
 {
     const struct made_attributes *a = &ring->attributes;
     return drain(ring->length == 0 ? NULL : ring->bytes, ring->length, ring->head, ring->tail, a->sample_type,
-        a->read_format, a->sample_id_all, a->user_mask, a->interrupt_mask, ring->edition, ring->budget,
-        ring->scratch_length == 0 ? NULL : scratch, ring->scratch_length, ring->journal_length == 0 ? NULL : journal,
+        a->read_format, a->sample_id_all, a->user_mask, a->interrupt_mask, a->branch_sample_type, ring->edition,
+        ring->budget, ring->scratch_length == 0 ? NULL : scratch, ring->scratch_length, ring->journal_length == 0 ? NULL : journal,
         ring->journal_length);
 }
 

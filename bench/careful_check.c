@@ -1,5 +1,5 @@
 /*
- * Record check in careful C: the frame, then 20 to 24 and the sums of this
+ * Record check in careful C: the frame, then 20 to 25 and the sums of this
  * record's type alone. The pieces are careful.c's; they are compiled once more
  * here, so that the drain's own code stays as it is.
  */
@@ -9,7 +9,8 @@
 
 #include "kinds.h"
 
-static uint32_t refused(uint32_t type, uint32_t edition, uint64_t sample_type, uint64_t read_format, bool id_all)
+static uint32_t refused(uint32_t type, uint32_t edition, uint64_t sample_type, uint64_t read_format, bool id_all,
+    uint64_t branch_sample_type)
 {
     if (type == 0 || type > last_type[edition])
         return 20;
@@ -17,6 +18,8 @@ static uint32_t refused(uint32_t type, uint32_t edition, uint64_t sample_type, u
         return 21;
     if (read_format >> 4 != 0 && (type == 8 || (type == 9 && bit(sample_type, 4))))
         return 22;
+    if (type == 9 && bit(sample_type, 11) && new_branches(edition, branch_sample_type))
+        return 25;
     if (type == 9 && bit(sample_type, 14) && bit(sample_type, 24))
         return 24;
     return 0;
@@ -38,7 +41,7 @@ static void read_sums(struct plan *p, uint64_t read_format)
 }
 
 uint32_t careful_check(const uint8_t *record, size_t record_len, uint64_t sample_type, uint64_t read_format,
-    uint32_t sample_id_all, uint64_t user_mask, uint64_t interrupt_mask, uint32_t edition)
+    uint32_t sample_id_all, uint64_t user_mask, uint64_t interrupt_mask, uint64_t branch_sample_type, uint32_t edition)
 {
     if (edition - 1 > 2)
         return 2;
@@ -50,7 +53,7 @@ uint32_t careful_check(const uint8_t *record, size_t record_len, uint64_t sample
     if (size != record_len)
         return 7;
     uint32_t type = load32(record);
-    uint32_t why = refused(type, edition, sample_type, read_format, sample_id_all != 0);
+    uint32_t why = refused(type, edition, sample_type, read_format, sample_id_all != 0, branch_sample_type);
     if (why != 0)
         return why;
     struct plan p;
@@ -59,6 +62,7 @@ uint32_t careful_check(const uint8_t *record, size_t record_len, uint64_t sample
             read_sums(&p, read_format);
         else
             p.read_entry = p.read_words = 0;
+        p.branch_words = branch_words(branch_sample_type);
         p.user = bit(sample_type, 12) ? words(user_mask) : 0;
         p.interrupt = bit(sample_type, 18) ? words(interrupt_mask) : 0;
         make_sample(&p, sample_type, read_format);

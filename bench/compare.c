@@ -77,9 +77,9 @@ static void show_case(const struct made_ring *ring, uint64_t number, uint64_t se
         (unsigned long long)number, (unsigned long long)seed, ring->length, (unsigned long long)ring->head,
         (unsigned long long)ring->tail, ring->edition, (unsigned long long)ring->budget, ring->scratch_length,
         ring->journal_length);
-    printf("  sample type %#llx, read format %#llx, sample_id_all %u, masks %#llx %#llx\n",
+    printf("  sample type %#llx, read format %#llx, sample_id_all %u, masks %#llx %#llx, branch %#llx\n",
         (unsigned long long)a->sample_type, (unsigned long long)a->read_format, a->sample_id_all,
-        (unsigned long long)a->user_mask, (unsigned long long)a->interrupt_mask);
+        (unsigned long long)a->user_mask, (unsigned long long)a->interrupt_mask, (unsigned long long)a->branch_sample_type);
 }
 
 static bool same_results(const struct contender *one, const struct contender *two, const struct made_ring *ring,
@@ -133,7 +133,7 @@ static bool enough_met(const struct tally *t)
     static const uint8_t of_type[KINDS][8] = {
         [1] = { 20, 21, 30, 33 }, [2] = { 21, 30, 31 }, [3] = { 21, 30, 33 }, [4] = { 21, 30, 31 },
         [5] = { 21, 30, 31 }, [6] = { 21, 30, 31 }, [7] = { 21, 30, 31 }, [8] = { 21, 22, 30, 31 },
-        [9] = { 21, 22, 24, 30, 31, 32 }, [10] = { 20, 21, 23, 30, 32, 33 }, [11] = { 20, 21, 30, 31 },
+        [9] = { 21, 22, 24, 25, 30, 31, 32 }, [10] = { 20, 21, 23, 30, 32, 33 }, [11] = { 20, 21, 30, 31 },
         [12] = { 20, 21, 30, 31 }, [13] = { 20, 21, 30, 31 }, [14] = { 20, 21, 30, 31 }, [15] = { 20, 21, 30, 31 },
         [16] = { 20, 21, 30, 31 }, [17] = { 20, 21, 30, 33 }, [18] = { 20, 21, 30, 31 }, [19] = { 20, 21, 30, 33 },
         [20] = { 20, 21, 30, 31 }, [21] = { 20 },

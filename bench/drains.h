@@ -9,7 +9,8 @@
 
 typedef struct ollskuvan_drained drain_function(const uint8_t *ring, size_t ring_len, uint64_t head, uint64_t tail,
     uint64_t sample_type, uint64_t read_format, uint32_t sample_id_all, uint64_t user_mask, uint64_t interrupt_mask,
-    uint32_t edition, uint64_t budget, uint8_t *scratch, size_t scratch_len, uint8_t *journal, size_t journal_len);
+    uint64_t branch_sample_type, uint32_t edition, uint64_t budget, uint8_t *scratch, size_t scratch_len,
+    uint8_t *journal, size_t journal_len);
 
 /* careful.c: all that the drain does, every stop tested at every record. */
 drain_function careful_drain;

@@ -9,9 +9,11 @@
 
 struct ollskuvan_drained floor_drain(const uint8_t *ring, size_t ring_len, uint64_t head, uint64_t tail,
     uint64_t sample_type, uint64_t read_format, uint32_t sample_id_all, uint64_t user_mask, uint64_t interrupt_mask,
-    uint32_t edition, uint64_t budget, uint8_t *scratch, size_t scratch_len, uint8_t *journal, size_t journal_len)
+    uint64_t branch_sample_type, uint32_t edition, uint64_t budget, uint8_t *scratch, size_t scratch_len,
+    uint8_t *journal, size_t journal_len)
 {
-    (void)sample_type, (void)read_format, (void)sample_id_all, (void)user_mask, (void)interrupt_mask;
+    (void)sample_type, (void)read_format, (void)sample_id_all, (void)user_mask, (void)interrupt_mask,
+        (void)branch_sample_type;
     (void)edition, (void)scratch, (void)scratch_len;
     const uint64_t start = tail, mask = ring_len - 1, room = journal_len / 16;
     uint64_t taken = 0;

@@ -1,6 +1,7 @@
 /*
  * The kinds of rings: each is full of one record. Every type sound, each sample
- * bit alone, all of them, each read format, each refusal of each type. A
+ * bit alone, all of them, each read format, the hardware index, each refusal of
+ * each type. A
  * controller lives by its slowest kind, so the list must be whole: after it is
  * made, `missing` asks the careful reader which answers came up for which type,
  * and the bench fails if one of the table below did not.
@@ -170,6 +171,45 @@ static void sample_bits(void)
     put16(k->record + 6, 40);
 }
 
+/* Branch stacks with the hardware index, and 25. */
+static void branches(void)
+{
+    struct made_aims aims;
+    const uint64_t index = OLLSKUVAN_BRANCH_HW_INDEX;
+    struct made_attributes a = { .sample_type = OLLSKUVAN_BIT_BRANCHES, .branch_sample_type = index };
+    struct made_attributes all = { .sample_type = UINT64_C(0xffffff), .user_mask = 0xffff, .interrupt_mask = 0xff,
+        .branch_sample_type = index };
+    struct kind *k = add("index", 11, &a, 9, false, &aims);
+    resized("index-short", &a, 9, -8);
+    resized("index-long", &a, 9, 8);
+    k = add("index-over", 11, &a, 9, false, &aims);
+    put64(k->record + aims.list[0].at, UINT64_MAX / 24 + 1); /* 30 */
+    k = add("index-alone", 11, &a, 9, false, &aims);
+    put64(k->record + 8, 0), k->size = 24; /* no branch, and the index all the same */
+    put16(k->record + 6, k->size);
+    k = add("index-missing", 11, &a, 9, false, &aims);
+    put64(k->record + 8, 0), k->size = 16; /* 30: as a kernel writes it that has no branch stack */
+    put16(k->record + 6, k->size);
+    add("index-all-bits", 9, &all, 9, false, &aims);
+    for (uint32_t edition = 1; edition <= 3; edition++) { /* 25, 25, accepted */
+        k = add("index-edition", edition, &a, 9, false, &aims);
+        k->edition = edition;
+    }
+    a.branch_sample_type = UINT64_C(0x5ffff); /* all that changes nothing */
+    add("branch-bits", 11, &a, 9, false, &aims);
+    for (unsigned bit = 19; bit < 64; bit += 22) { /* 25: bits 19, 41, 63 */
+        a.branch_sample_type = UINT64_C(1) << bit;
+        add("branch-bit", bit, &a, 9, false, &aims);
+    }
+    a.sample_type |= OLLSKUVAN_BIT_WEIGHT | OLLSKUVAN_BIT_WEIGHT_STRUCT;
+    add("branch-and-weights", 9, &a, 9, false, &aims); /* 25 before 24 */
+    struct made_attributes without = { .sample_type = 1, .branch_sample_type = UINT64_MAX };
+    add("branch-unselected", 9, &without, 9, false, &aims); /* accepted: no sample bit 11 */
+    struct made_attributes other = { .sample_type = trailer | OLLSKUVAN_BIT_BRANCHES, .sample_id_all = 1,
+        .branch_sample_type = UINT64_MAX };
+    add("branch-other-type", 8, &other, 8, false, &aims); /* accepted: no SAMPLE */
+}
+
 static void make(void)
 {
     if (kinds != NULL)
@@ -179,6 +219,7 @@ static void make(void)
     names();
     read_formats();
     sample_bits();
+    branches();
 }
 
 /* A ring full of the kind's record. */
@@ -200,7 +241,7 @@ static uint32_t answer_of(const uint8_t *journal)
     return (uint32_t)journal[6] | (uint32_t)journal[7] << 8;
 }
 
-/* What must have come up, by type: the answers that document 01 gives it. */
+/* What must have come up, by type: the answers that documents 01 and 02 give it. */
 static int missing(bool seen[21][64])
 {
     int failed = 0;
@@ -211,6 +252,7 @@ static int missing(bool seen[21][64])
         want[22] = type == 8 || type == 9;
         want[23] = type == 10;
         want[24] = type == 9;
+        want[25] = type == 9;
         want[32] = type == 9 || type == 10;
         for (unsigned i = 0; i < sizeof named / sizeof named[0]; i++)
             if (named[i] == type)
@@ -225,11 +267,12 @@ static int missing(bool seen[21][64])
 }
 
 typedef uint32_t check_function(const uint8_t *record, size_t record_len, uint64_t sample_type, uint64_t read_format,
-    uint32_t sample_id_all, uint64_t user_mask, uint64_t interrupt_mask, uint32_t edition);
+    uint32_t sample_id_all, uint64_t user_mask, uint64_t interrupt_mask, uint64_t branch_sample_type, uint32_t edition);
 
 static uint32_t run_check(check_function *check, const uint8_t *record, size_t size, const struct made_attributes *a, uint32_t edition)
 {
-    return check(record, size, a->sample_type, a->read_format, a->sample_id_all, a->user_mask, a->interrupt_mask, edition);
+    return check(record, size, a->sample_type, a->read_format, a->sample_id_all, a->user_mask, a->interrupt_mask,
+        a->branch_sample_type, edition);
 }
 
 int run_checks(const char *whose, enum made_workload which)

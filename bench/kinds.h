@@ -15,7 +15,7 @@ int run_checks(const char *whose, enum made_workload which);
 
 /* careful_check.c: all that record check does. */
 uint32_t careful_check(const uint8_t *record, size_t record_len, uint64_t sample_type, uint64_t read_format,
-    uint32_t sample_id_all, uint64_t user_mask, uint64_t interrupt_mask, uint32_t edition);
+    uint32_t sample_id_all, uint64_t user_mask, uint64_t interrupt_mask, uint64_t branch_sample_type, uint32_t edition);
 
 /* Two drains of each kind, for callgrind. */
 int run_kinds(const char *drain);

@@ -108,6 +108,7 @@ static void put_sample(struct made_random *r, const struct made_attributes *a, s
     if (selected(a, 11)) {
         size_t n = made_below(r, few);
         put_count(pen, n, 8);
+        put_random(r, pen, a->branch_sample_type >> 17 & 1 ? 8 : 0); /* the hardware index */
         put_random(r, pen, 24 * n);
     }
     if (selected(a, 12))
@@ -317,6 +318,17 @@ static uint32_t some_edition(struct made_random *r)
     return one_in(r, 40) ? odd_editions[made_below(r, 7)] : 1 + (uint32_t)made_below(r, 3);
 }
 
+/* Often the hardware index where the edition knows it, at times where it does not, seldom a bit from 19 up. */
+static uint64_t some_branches(struct made_random *r, uint32_t edition)
+{
+    uint64_t bits = some_bits(r, 19) & ~OLLSKUVAN_BRANCH_HW_INDEX;
+    if (one_in(r, edition == 3 ? 2 : 12))
+        bits |= OLLSKUVAN_BRANCH_HW_INDEX;
+    if (one_in(r, 20))
+        bits |= UINT64_C(1) << (19 + made_below(r, 45));
+    return bits;
+}
+
 static void some_attributes(struct made_random *r, uint32_t edition, struct made_attributes *a)
 {
     static const unsigned known[4] = { 25, 16, 19, 25 };
@@ -330,6 +342,7 @@ static void some_attributes(struct made_random *r, uint32_t edition, struct made
         a->read_format |= UINT64_C(1) << made_below(r, 64);
     a->user_mask = one_in(r, 20) ? UINT64_MAX : some_bits(r, 24);
     a->interrupt_mask = one_in(r, 20) ? UINT64_MAX : some_bits(r, 24);
+    a->branch_sample_type = some_branches(r, edition);
     a->sample_id_all = one_in(r, 2) ? 0 : one_in(r, 2) ? 1 : (uint32_t)made_next(r);
 }
 

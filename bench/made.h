@@ -17,7 +17,7 @@ uint64_t made_next(struct made_random *r);
 uint64_t made_below(struct made_random *r, uint64_t n);
 
 struct made_attributes {
-    uint64_t sample_type, read_format, user_mask, interrupt_mask;
+    uint64_t sample_type, read_format, user_mask, interrupt_mask, branch_sample_type;
     uint32_t sample_id_all;
 };
 

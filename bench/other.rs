@@ -69,8 +69,8 @@ fn drain(ring: &[u8], head: u64, first_tail: u64, info: RecordParseInfo, budget:
 #[no_mangle]
 pub unsafe extern "C" fn other_drain(
     ring: *const u8, ring_len: usize, head: u64, tail: u64, sample_type: u64, read_format: u64, sample_id_all: u32,
-    user_mask: u64, interrupt_mask: u64, _edition: u32, budget: u64, _scratch: *mut u8, _scratch_len: usize,
-    journal: *mut u8, journal_len: usize,
+    user_mask: u64, interrupt_mask: u64, _branch_sample_type: u64, _edition: u32, budget: u64, _scratch: *mut u8,
+    _scratch_len: usize, journal: *mut u8, journal_len: usize,
 ) -> Drained {
     let ring = std::slice::from_raw_parts(ring, ring_len);
     let journal = std::slice::from_raw_parts_mut(journal, journal_len);
@@ -83,8 +83,8 @@ pub unsafe extern "C" fn other_drain(
 #[no_mangle]
 pub unsafe extern "C" fn other_read(
     ring: *const u8, ring_len: usize, head: u64, tail: u64, sample_type: u64, read_format: u64, sample_id_all: u32,
-    user_mask: u64, interrupt_mask: u64, _edition: u32, budget: u64, _scratch: *mut u8, _scratch_len: usize,
-    journal: *mut u8, journal_len: usize,
+    user_mask: u64, interrupt_mask: u64, _branch_sample_type: u64, _edition: u32, budget: u64, _scratch: *mut u8,
+    _scratch_len: usize, journal: *mut u8, journal_len: usize,
 ) -> Drained {
     let ring = std::slice::from_raw_parts(ring, ring_len);
     let journal = std::slice::from_raw_parts_mut(journal, journal_len);

@@ -234,7 +234,7 @@ static uint64_t check_all(const struct whole *w)
     uint64_t refused = 0;
     for (size_t at = 0; at < w->length; at += size_of(w->bytes + at))
         refused += ollskuvan_check(w->bytes + at, size_of(w->bytes + at), a->sample_type, a->read_format,
-                       a->sample_id_all, a->user_mask, a->interrupt_mask, 3) != 0;
+                       a->sample_id_all, a->user_mask, a->interrupt_mask, a->branch_sample_type, 3) != 0;
     return refused;
 }
 
@@ -244,7 +244,7 @@ static uint64_t read_all(const struct whole *w, uint64_t *fields, bool keep)
     uint64_t refused = 0;
     for (size_t at = 0; at < w->length; at += size_of(w->bytes + at)) {
         refused += ollskuvan_read(w->bytes + at, size_of(w->bytes + at), a->sample_type, a->read_format,
-                       a->sample_id_all, a->user_mask, a->interrupt_mask, 3, fields, OLLSKUVAN_FIELDS) != 0;
+                       a->sample_id_all, a->user_mask, a->interrupt_mask, a->branch_sample_type, 3, fields, OLLSKUVAN_FIELDS) != 0;
         if (keep)
             fields += OLLSKUVAN_FIELDS;
     }
@@ -257,7 +257,7 @@ static uint64_t write_all(const struct whole *w, const uint64_t *fields, uint8_t
     uint64_t refused = 0;
     for (size_t at = 0; at < w->length; at += size_of(w->bytes + at), fields += OLLSKUVAN_FIELDS)
         refused += ollskuvan_write(fields, OLLSKUVAN_FIELDS, w->bytes + at, size_of(w->bytes + at), a->sample_type,
-                       a->read_format, a->sample_id_all, a->user_mask, a->interrupt_mask, 3, buffer, MADE_RECORD_MAX) != 0;
+                       a->read_format, a->sample_id_all, a->user_mask, a->interrupt_mask, a->branch_sample_type, 3, buffer, MADE_RECORD_MAX) != 0;
     return refused;
 }
 
@@ -267,7 +267,7 @@ static uint64_t other_all(const struct whole *w, uint8_t *journal, size_t journa
     /* as one long ring: other_read asks for no allowed length */
     const struct made_attributes *a = &w->attributes;
     return other_read(w->bytes, w->length, w->length, 0, a->sample_type, a->read_format, a->sample_id_all, a->user_mask,
-        a->interrupt_mask, 3, UINT64_MAX, NULL, 0, journal, journal_length).stop;
+        a->interrupt_mask, a->branch_sample_type, 3, UINT64_MAX, NULL, 0, journal, journal_length).stop;
 }
 #endif
 

@@ -24,6 +24,18 @@ bool whole_argument(const char *text, const char *option, unsigned long long lea
     return false;
 }
 
+bool bits_argument(const char *text, const char *option, uint64_t *bits)
+{
+    bool hexadecimal = text[0] == '0' && text[1] == 'x' && isxdigit((unsigned char)text[2]);
+    char *end;
+    errno = 0;
+    *bits = strtoull(text, &end, hexadecimal ? 16 : 10);
+    if (errno == 0 && isdigit((unsigned char)*text) && *end == '\0' && *bits != 0)
+        return true;
+    complain("%s: bits are wanted, as a number or as 0x.. and not 0, not '%s'", option, text);
+    return false;
+}
+
 bool decimal_argument(const char *text, const char *option, double most, double *number)
 {
     char *end;

@@ -6,12 +6,16 @@
 
 #include <stdbool.h>
 #include <stddef.h>
+#include <stdint.h>
 
 /* The longest ring that the library takes, in pages of 4096 bytes. */
 enum { PAGES_MAX = 256 };
 
 bool whole_argument(const char *text, const char *option, unsigned long long least, unsigned long long most,
     unsigned long long *number);
+
+/* Bits, not 0: a number, or 0x and hexadecimal digits. */
+bool bits_argument(const char *text, const char *option, uint64_t *bits);
 
 /* More than 0, at most `most`. */
 bool decimal_argument(const char *text, const char *option, double most, double *number);

@@ -277,6 +277,17 @@ kill -TERM "$pid"; wait "$pid" 2>/dev/null
 [ $? -eq 143 ] || wrong "SIGTERM does not end late after the recording"
 exec 9>&-
 
+# ---- branches with the hardware index: saved with their branch sample type, or it is said that there are none here
+said=$("$programs/controller" --seconds 0.2 --branch 0x20009 --save "$work/branch" 2>&1)
+case $? in
+  0)
+    image=$(ls "$work"/branch-cpu*.img | head -n 1)
+    [ "$(tail -c 8 "$image" | od -An -tx8 | tr -d ' ')" = 0000000000020009 ] || wrong "the branch sample type is not saved behind the ring"
+    ;;
+  3) case $said in *"has no branch stacks of this branch sample type"*) echo "branches not tried: $said" ;; *) wrong "controller --branch: $said" ;; esac ;;
+  *) wrong "controller --branch failed: $said" ;;
+esac
+
 # ---- what cannot be done has a status
 fails() { # STATUS WORDS COMMAND..
   local status=$1 words=$2 said printed

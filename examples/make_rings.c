@@ -94,7 +94,7 @@ static void add(struct scene *s, const struct moment *m, uint64_t fields[OLLSKUV
     fields[OLLSKUVAN_SIZE] = 8 + body + trailer_bytes(s);
     fill_trailer(s, m, fields);
     uint32_t answer = ollskuvan_write(fields, OLLSKUVAN_FIELDS, (const uint8_t *)source, strlen(source), s->sample_type, 0, 1, 0, 0,
-        OLLSKUVAN_EDITION_3, ring->bytes + ring->used, OLLSKUVAN_RING_MAX - ring->used);
+        0, OLLSKUVAN_EDITION_3, ring->bytes + ring->used, OLLSKUVAN_RING_MAX - ring->used);
     if (answer != OLLSKUVAN_OK)
         die("a record cannot be written: the ring is too long, or the scene says what no record holds");
     ring->used += (size_t)fields[OLLSKUVAN_SIZE];

@@ -55,6 +55,15 @@ static enum perf_answer refuse_open(char why[WHY_ROOM], const char *what, int er
     return error == EACCES || error == EPERM || error == ENOSYS || error == ENOENT ? PERF_NOT_ALLOWED : PERF_FAILED;
 }
 
+/* A kernel or processor without branch stacks says so in several ways. */
+static enum perf_answer refuse_branches(char why[WHY_ROOM], int error)
+{
+    if (error != ENOENT && error != EOPNOTSUPP && error != EINVAL)
+        return refuse_open(why, "the branches of a cpu", error);
+    refuse(why, "this processor or kernel has no branch stacks of this branch sample type (%s)", strerror(error));
+    return error == EINVAL ? PERF_FAILED : PERF_NOT_ALLOWED;
+}
+
 static int open_event(struct perf_event_attr *attr, pid_t pid, int cpu)
 {
     return (int)syscall(SYS_perf_event_open, attr, pid, cpu, -1, PERF_FLAG_FD_CLOEXEC);
@@ -86,6 +95,16 @@ static void with_clock(struct perf_event_attr *attr)
     attr->config = PERF_COUNT_SW_CPU_CLOCK;
     attr->sample_period = 1000000; /* ns */
     attr->sample_type |= OLLSKUVAN_BIT_IP | OLLSKUVAN_BIT_PERIOD;
+}
+
+/* Only a processor's own counter has branch stacks. */
+static void with_branches(struct perf_event_attr *attr, uint64_t branch_sample_type)
+{
+    attr->type = PERF_TYPE_HARDWARE;
+    attr->config = PERF_COUNT_HW_CPU_CYCLES;
+    attr->sample_period = 1000000;
+    attr->sample_type |= OLLSKUVAN_BIT_IP | OLLSKUVAN_BIT_PERIOD | OLLSKUVAN_BIT_BRANCHES;
+    attr->branch_sample_type = branch_sample_type;
 }
 
 /* An older kernel refuses what it does not know: then without build ids. */
@@ -132,7 +151,8 @@ static enum perf_answer open_program_events(struct perf_ring *ring, const struct
     struct perf_event_attr attr;
     common(&attr);
     with_mappings(&attr);
-    attr.sample_type = ring->attributes.sample_type;
+    /* it has no samples of its own, and no software event has branches */
+    attr.sample_type = ring->attributes.sample_type & ~OLLSKUVAN_BIT_BRANCHES;
     attr.inherit = 1;
     ring->program_fd = open_or_without_build_id(&attr, want->program, want->cpu);
     if (ring->program_fd < 0)
@@ -155,11 +175,14 @@ static enum perf_answer open_events(struct perf_ring *ring, const struct perf_wa
         with_mappings(&attr);
     if (want->clock)
         with_clock(&attr);
+    if (want->branch != 0)
+        with_branches(&attr, want->branch);
     ring->fd = open_or_without_build_id(&attr, -1, want->cpu);
     if (ring->fd < 0)
-        return refuse_open(why, "the switches of a cpu", errno);
+        return want->branch != 0 ? refuse_branches(why, errno) : refuse_open(why, "the switches of a cpu", errno);
     ring->attributes = (struct ring_attributes){
-        .sample_type = attr.sample_type, .read_format = attr.read_format, .sample_id_all = 1, .edition = want->edition,
+        .sample_type = attr.sample_type, .read_format = attr.read_format, .branch_sample_type = attr.branch_sample_type,
+        .sample_id_all = 1, .edition = want->edition,
     };
     enum perf_answer answer = map_ring(ring, want->pages, why);
     return answer == PERF_OPEN && want->program != 0 ? open_program_events(ring, want, why) : answer;
@@ -270,16 +293,25 @@ static bool read_all(const char *path, uint8_t *all, size_t most, size_t *length
     return failed ? refuse(why, "it cannot be read: %s", strerror(error)) : true;
 }
 
+/* So many bytes behind the header: a ring, or a ring and the branch sample type. */
+static bool has_branch(size_t behind)
+{
+    size_t length = behind - IMAGE_BRANCH;
+    return behind >= OLLSKUVAN_RING_MIN + IMAGE_BRANCH && length <= OLLSKUVAN_RING_MAX && (length & (length - 1)) == 0;
+}
+
 bool ring_image_load(const char *path, struct ring_image *image, char why[WHY_ROOM])
 {
-    enum { MOST = IMAGE_HEADER + OLLSKUVAN_RING_MAX };
+    enum { MOST = IMAGE_HEADER + OLLSKUVAN_RING_MAX + IMAGE_BRANCH };
     size_t length = 0;
     uint8_t *all = malloc(MOST + 1); /* one more, so that a longer file is seen */
     if (all == NULL)
         return refuse(why, "out of memory");
     bool fits = read_all(path, all, MOST + 1, &length, why);
-    if (fits && (length < IMAGE_HEADER || length > MOST))
-        fits = refuse(why, "no ring image: it has %s", length > MOST ? "a ring of more than 1,048,576 bytes" : "fewer than 50 bytes");
+    if (fits && length < IMAGE_HEADER)
+        fits = refuse(why, "no ring image: it has fewer than 50 bytes");
+    if (fits && length > IMAGE_HEADER + OLLSKUVAN_RING_MAX && !has_branch(length - IMAGE_HEADER))
+        fits = refuse(why, "no ring image: it has a ring of more than 1,048,576 bytes");
     if (!fits) {
         free(all);
         return false;
@@ -290,6 +322,10 @@ bool ring_image_load(const char *path, struct ring_image *image, char why[WHY_RO
             .interrupt_mask = little(all + 40, 8), .edition = all[48], .sample_id_all = all[49] },
         .length = length - IMAGE_HEADER,
     };
+    if (has_branch(image->length)) {
+        image->length -= IMAGE_BRANCH;
+        image->attributes.branch_sample_type = little(all + IMAGE_HEADER + image->length, 8);
+    }
     memmove(all, all + IMAGE_HEADER, image->length);
     image->bytes = all;
     return true;
@@ -298,7 +334,8 @@ bool ring_image_load(const char *path, struct ring_image *image, char why[WHY_RO
 bool ring_image_save(const char *path, const struct ring_attributes *attributes, uint64_t head, uint64_t tail,
     const uint8_t *bytes, size_t length, char why[WHY_ROOM])
 {
-    uint8_t header[IMAGE_HEADER];
+    uint8_t header[IMAGE_HEADER], branch[IMAGE_BRANCH];
+    size_t behind = attributes->branch_sample_type != 0 ? sizeof branch : 0;
     put_little(header, 8, head);
     put_little(header + 8, 8, tail);
     put_little(header + 16, 8, attributes->sample_type);
@@ -307,10 +344,12 @@ bool ring_image_save(const char *path, const struct ring_attributes *attributes,
     put_little(header + 40, 8, attributes->interrupt_mask);
     header[48] = (uint8_t)attributes->edition;
     header[49] = attributes->sample_id_all != 0;
+    put_little(branch, 8, attributes->branch_sample_type);
     FILE *file = fopen(path, "wb");
     if (file == NULL)
         return refuse(why, "%s", strerror(errno));
-    bool written = fwrite(header, 1, sizeof header, file) == sizeof header && fwrite(bytes, 1, length, file) == length;
+    bool written = fwrite(header, 1, sizeof header, file) == sizeof header && fwrite(bytes, 1, length, file) == length &&
+        fwrite(branch, 1, behind, file) == behind;
     if (fclose(file) != 0 || !written)
         return refuse(why, "it cannot be written: %s", strerror(errno));
     return true;

@@ -12,7 +12,7 @@
 
 /* One attribute set serves a whole ring. */
 struct ring_attributes {
-    uint64_t sample_type, read_format, user_mask, interrupt_mask;
+    uint64_t sample_type, read_format, user_mask, interrupt_mask, branch_sample_type;
     uint32_t sample_id_all, edition;
 };
 
@@ -24,6 +24,7 @@ struct perf_want {
     size_t pages;  /* a power of two; 4 pages are the longest ring that ringdump takes */
     pid_t program; /* mappings of this process and its children alone; 0: of everyone. Names, forks and ends are everyone's */
     bool clock;    /* samples of the cpu clock, 1,000 a second, beside the switches */
+    uint64_t branch; /* not 0: samples of the cpu's cycles with the branches before them, by this branch sample type */
     uint32_t edition;
 };
 
@@ -73,6 +74,11 @@ size_t cpus_online(int *cpus, size_t most);
 
 /* ---- a saved ring: what ringdump takes ---- */
 
+/* IMAGE_HEADER bytes, then the ring. A branch sample type that is not 0 stands in
+ * IMAGE_BRANCH bytes behind the ring; ringdump, whose branch sample type is 0, does
+ * not take such an image (stop 1). Where they are not there it is 0: a ring's length
+ * is a power of two from 64 on, so the file's length tells which it is. */
+
 struct ring_image {
     struct ring_attributes attributes;
     uint64_t head, tail;
@@ -80,7 +86,7 @@ struct ring_image {
     size_t length;
 };
 
-enum { IMAGE_HEADER = 50 };
+enum { IMAGE_HEADER = 50, IMAGE_BRANCH = 8 };
 /* ringdump takes no longer ring. */
 enum { RINGDUMP_RING_MAX = 16384 };
 

@@ -92,8 +92,8 @@ static bool drain_some(struct controller *c, const struct perf_ring *ring)
     const struct ring_attributes *a = &ring->attributes;
     uint64_t head = perf_ring_head(ring), tail = perf_ring_tail(ring), began = now_ns();
     struct ollskuvan_drained done = ollskuvan_drain(ring->bytes, ring->length, head, tail, a->sample_type, a->read_format,
-        a->sample_id_all, a->user_mask, a->interrupt_mask, a->edition, c->options.budget, c->scratch, sizeof c->scratch,
-        c->journal, sizeof c->journal);
+        a->sample_id_all, a->user_mask, a->interrupt_mask, a->branch_sample_type, a->edition, c->options.budget, c->scratch,
+        sizeof c->scratch, c->journal, sizeof c->journal);
     uint64_t took = now_ns() - began;
     c->longest_ns = took > c->longest_ns ? took : c->longest_ns;
     c->drains++;
@@ -183,7 +183,9 @@ static bool save_ring(const struct controller *c, size_t number)
         return false;
     }
     printf("saved %s: a ring of %zu bytes, %llu of them to read%s%s\n", path, ring->length, (unsigned long long)(head - tail),
-        ring->length > RINGDUMP_RING_MAX ? " (longer than ringdump takes)" : "", c->full[number] ? "; it is full" : "");
+        ring->length > RINGDUMP_RING_MAX ? " (longer than ringdump takes)"
+            : ring->attributes.branch_sample_type != 0 ? " (with a branch sample type, which ringdump does not take)" : "",
+        c->full[number] ? "; it is full" : "");
     return true;
 }
 
@@ -241,6 +243,9 @@ static void usage(FILE *out)
         "  --pages N     pages of a ring (4, with --save 256; a power of two up to 256)\n"
         "  --cpu N       this cpu alone (all that are online)\n"
         "  --clock       samples of the cpu clock too\n"
+        "  --branch N    samples of the cpu's cycles too, with the branches before each, by\n"
+        "                this branch sample type (0x9: any of user code; 0x20000 more: the\n"
+        "                hardware index, see the manual page); not with --clock\n"
         "  --edition N   what the reader knows: 1, 2 or 3 (3)\n"
         "  --save NAME   drain nothing until the end, then write NAME-cpuN.img for each\n"
         "                ring, and NAME-names.txt\n"
@@ -270,6 +275,8 @@ static bool take_option(struct options *o, int letter)
         return true;
     case 'k':
         return o->want.clock = true;
+    case 'r':
+        return bits_argument(optarg, "--branch", &o->want.branch);
     case 'e':
         if (!whole_argument(optarg, "--edition", 1, 3, &n))
             return false;
@@ -288,8 +295,8 @@ static bool read_options(struct options *o, int argc, char **argv, bool *help)
 {
     static const struct option names[] = {
         { "seconds", 1, NULL, 's' }, { "budget", 1, NULL, 'b' }, { "pages", 1, NULL, 'p' }, { "cpu", 1, NULL, 'c' },
-        { "clock", 0, NULL, 'k' }, { "edition", 1, NULL, 'e' }, { "save", 1, NULL, 'w' }, { "help", 0, NULL, 'h' },
-        { NULL, 0, NULL, 0 },
+        { "clock", 0, NULL, 'k' }, { "branch", 1, NULL, 'r' }, { "edition", 1, NULL, 'e' }, { "save", 1, NULL, 'w' },
+        { "help", 0, NULL, 'h' }, { NULL, 0, NULL, 0 },
     };
     int letter;
     optind = 0; /* a program of several commands has looked at its own arguments before */
@@ -298,6 +305,10 @@ static bool read_options(struct options *o, int argc, char **argv, bool *help)
             return *help = true;
         if (!take_option(o, letter))
             return false;
+    }
+    if (o->want.clock && o->want.branch != 0) {
+        complain("--branch and --clock: a ring has samples of one kind");
+        return false;
     }
     o->want.program = optind < argc ? argv + optind : NULL;
     if (o->want.seconds == 0 && o->want.program == NULL)

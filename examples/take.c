@@ -305,8 +305,8 @@ uint64_t story_take(struct story *story, unsigned number, const uint8_t *ring, u
     struct reading r = { .story = story };
     for (;;) {
         struct ollskuvan_one one = ollskuvan_read_one(ring, source->length, head, tail, a->sample_type, a->read_format,
-            a->sample_id_all, a->user_mask, a->interrupt_mask, a->edition, story->scratch, OLLSKUVAN_RECORD_MAX, r.fields,
-            OLLSKUVAN_FIELDS);
+            a->sample_id_all, a->user_mask, a->interrupt_mask, a->branch_sample_type, a->edition, story->scratch,
+            OLLSKUVAN_RECORD_MAX, r.fields, OLLSKUVAN_FIELDS);
         if (one.size == 0) {
             if (source->stop == OLLSKUVAN_STOP_NOTHING) { /* the first fault is kept, also when a live ring goes on */
                 source->stop = one.stop;

@@ -105,6 +105,11 @@ printf "begin 17880 18115 mixer\nend 12128 12371 it\\\\x27s odd\n" >"$out/names.
 grep -q "35\.465 ms  'mixer' 17880/18115\$" "$out/named.txt" || wrong "--names: the name of a thread is not shown"
 grep -q "31\.895 ms  'it\\\\x27s odd' 12128/12371\$" "$out/named.txt" || wrong "--names: an odd name is not shown as it is"
 
+# ---- 8 bytes behind the ring are the branch sample type, which no record of this ring asks for
+{ cat examples/rings/kiln-cpu1.img; printf '\011\000\002\000\000\000\000\000'; } >"$out/branch.img"
+"$late" "$out/branch.img" | sed 's/branch\.img/kiln-cpu1.img/' >"$out/branch.txt" || wrong "late failed on an image with a branch sample type"
+"$late" examples/rings/kiln-cpu1.img | cmp -s - "$out/branch.txt" || wrong "an image with a branch sample type gives another report"
+
 # ---- wrong arguments and bad input are named, and nothing is printed as if it were a report
 refuses() { # STATUS WORDS PROGRAM ARGUMENT..
   local status=$1 words=$2 program=$3 said printed
@@ -148,6 +153,10 @@ refuses 2 '--cpu: cpu 7777 is not online' controller --cpu 7777
 refuses 2 '--cpu: a number from 0' controller --cpu -1
 refuses 2 '--budget: a number from 1' controller --budget 0
 refuses 2 '--edition: a number from 1 to 3' controller --edition 4
+for bits in 0 0x '' -1 9x 0xg 0x10000000000000000; do
+  refuses 2 "--branch: bits are wanted, as a number or as 0x.. and not 0, not '$bits'" controller --branch "$bits"
+done
+refuses 2 '--branch and --clock: a ring has samples of one kind' controller --clock --branch 0x9
 refuses 1 'No such file' controller --save "$out/none/saved"
 "$late" --help | grep -q '^usage: late ' || wrong "late --help"
 (exec -a 'x/two words' "$late" --help) | grep -q '^usage: two words ' || wrong "the usage does not take its name from argv[0]"

@@ -39,10 +39,10 @@
  *    page before it. head and tail are the 64-bit counts as the kernel and the
  *    caller keep them, not reduced by the ring's length.
  *  - One attribute set serves a whole ring: sample_type, read_format,
- *    sample_id_all, user_mask (sample_regs_user) and interrupt_mask
- *    (sample_regs_intr) are those the event was opened with. sample_id_all is
- *    set if it is not zero; it and the edition are not narrowed (edition 257 is
- *    not edition 1).
+ *    sample_id_all, user_mask (sample_regs_user), interrupt_mask
+ *    (sample_regs_intr) and branch_sample_type are those the event was opened
+ *    with. sample_id_all is set if it is not zero; it and the edition are not
+ *    narrowed (edition 257 is not edition 1).
  */
 #ifndef OLLSKUVAN_H
 #define OLLSKUVAN_H
@@ -62,8 +62,9 @@ extern "C" {
  * Editions: what is known of sample bits and record types.
  *   1: sample bits 0 to 15, types 1 to 9
  *   2: sample bits 0 to 18, types 1 to 15
- *   3: sample bits 0 to 24, types 1 to 20, and the build-id form of MMAP2
- * All three know read-format bits 0 to 3.
+ *   3: sample bits 0 to 24, types 1 to 20, the build-id form of MMAP2, and the
+ *      hardware index of a branch stack (branch bit 17)
+ * All three know read-format bits 0 to 3, and branch bits 0 to 16 and 18.
  */
 #define OLLSKUVAN_EDITION_1 1u
 #define OLLSKUVAN_EDITION_2 2u
@@ -115,12 +116,13 @@ extern "C" {
 #define OLLSKUVAN_REFUSED_NAME_ROOM 12u
 
 /* Refusals of a record: it is taken, the tail moves by its size, and it has no
- * value. 20 to 24 are tested in this order, before the bytes of the body are
- * looked at; of 30 to 33 the first in field order is given. */
+ * value. 20, 21, 22, 23, 25 and 24 are tested in this order, before the bytes of
+ * the body are looked at; of 30 to 33 the first in field order is given. */
 #define OLLSKUVAN_REFUSED_TYPE 20u        /* type 0, or above the edition's */
 #define OLLSKUVAN_REFUSED_SAMPLE_TYPE 21u /* a sample bit the edition doesn't know; a SAMPLE, or sample_id_all is set */
 #define OLLSKUVAN_REFUSED_READ_FORMAT 22u /* read-format bit 4 or higher; READ, or a SAMPLE with sample bit 4 */
 #define OLLSKUVAN_REFUSED_BUILD_ID 23u    /* MMAP2 with misc bit 14, edition below 3 */
+#define OLLSKUVAN_REFUSED_BRANCH_TYPE 25u /* a SAMPLE with sample bit 11: branch bit 17, edition below 3; or 19 or higher */
 #define OLLSKUVAN_REFUSED_WEIGHTS 24u     /* a SAMPLE with sample bits 14 and 24 both selected */
 #define OLLSKUVAN_REFUSED_SHORT 30u       /* a field or the trailer would pass the record's end */
 #define OLLSKUVAN_REFUSED_LEFT_OVER 31u   /* bytes are left over after the last field */
@@ -209,6 +211,20 @@ extern "C" {
 #define OLLSKUVAN_READ_FORMAT_ID (UINT64_C(1) << 2)
 #define OLLSKUVAN_READ_FORMAT_GROUP (UINT64_C(1) << 3)
 
+/* Branch bits (branch_sample_type). They count in a SAMPLE with sample bit 11
+ * alone. Bit 17 puts the hardware index between the count of branches and their
+ * entries; bits 0 to 16 and 18 choose which branches are taken and what an
+ * entry's flags say, and change no layout.
+ *
+ * Mind the kernel: with bit 17 the index is read wherever sample bit 11 is
+ * selected, with a count of 0 too. A kernel that has no branch stack for a sample
+ * writes a count of 0 and no index. As read here such a sample is one word short:
+ * it is refused (30), or, where the fields behind the branches happen to fit one
+ * word further on, it is accepted with these in the wrong places. Nothing in the
+ * record tells the two apart. Who cannot rule such samples out opens the event
+ * without branch bit 17, or without sample bit 11. */
+#define OLLSKUVAN_BRANCH_HW_INDEX (UINT64_C(1) << 17)
+
 /* ------------------------------------------------------------------------
  * The words of a value, for ollskuvan_read, ollskuvan_read_one and
  * ollskuvan_write. These numbers are final.
@@ -238,11 +254,12 @@ extern "C" {
  * To build a value from nothing and write it:
  *
  *  - Set all words to 0; then type, misc and each field that the type, misc bit
- *    14 (MMAP2), the sample bits, the read format and sample_id_all (the
- *    trailer) select, with the bytes of lists and names anywhere in the source.
+ *    14 (MMAP2), the sample bits, the read format, branch bit 17 and
+ *    sample_id_all (the trailer) select, with the bytes of lists and names
+ *    anywhere in the source.
  *  - Width: a field has the width that its comment below names, u8, u16 or u32,
  *    and is a u64 where none is named. A word that does not fit is 42. A misc
- *    above 65,535 is 42 too, after 20 to 24 and 41, which look at its bit 14.
+ *    above 65,535 is 42 too, after 20 to 25 and 41, which look at its bit 14.
  *    Places are no fields of the record, nor are the counts of a name, of
  *    registers and of a tag; the other counts and sizes are.
  *  - Size, word 2, is 8 for the header, plus the widths of the fields and the
@@ -352,7 +369,7 @@ extern "C" {
 #define OLLSKUVAN_SAMPLE_RAW_COUNT 22u       /* u32; bytes: the raw size */
 #define OLLSKUVAN_SAMPLE_RAW 23u             /* place */
 #define OLLSKUVAN_SAMPLE_BRANCHES_COUNT 24u  /* entries */
-#define OLLSKUVAN_SAMPLE_HW_INDEX 25u        /* kept: reads 0, must be 0 */
+#define OLLSKUVAN_SAMPLE_HW_INDEX 25u        /* sample bit 11 and branch bit 17; also where the count is 0 */
 #define OLLSKUVAN_SAMPLE_BRANCHES 26u        /* place; entries of 24 bytes */
 #define OLLSKUVAN_SAMPLE_USER_ABI 27u
 #define OLLSKUVAN_SAMPLE_USER_REGISTERS 28u       /* place */
@@ -490,15 +507,17 @@ struct ollskuvan_drained {
  */
 struct ollskuvan_drained ollskuvan_drain(const uint8_t *ring, size_t ring_len, uint64_t head, uint64_t tail,
     uint64_t sample_type, uint64_t read_format, uint32_t sample_id_all, uint64_t user_mask, uint64_t interrupt_mask,
-    uint32_t edition, uint64_t budget, uint8_t *scratch, size_t scratch_len, uint8_t *journal, size_t journal_len);
+    uint64_t branch_sample_type, uint32_t edition, uint64_t budget, uint8_t *scratch, size_t scratch_len,
+    uint8_t *journal, size_t journal_len);
 
 /*
  * ollskuvan_check answers for one record, which is the whole slice: 2; 7 if the
  * slice is shorter than 8 bytes; 6; 7 if the record's size is not the slice's
- * length; 20 to 24; 30 to 33; otherwise 0. It writes nothing.
+ * length; 20 to 25; 30 to 33; otherwise 0. It writes nothing.
  */
 uint32_t ollskuvan_check(const uint8_t *record, size_t record_len, uint64_t sample_type, uint64_t read_format,
-    uint32_t sample_id_all, uint64_t user_mask, uint64_t interrupt_mask, uint32_t edition);
+    uint32_t sample_id_all, uint64_t user_mask, uint64_t interrupt_mask, uint64_t branch_sample_type,
+    uint32_t edition);
 
 /*
  * ollskuvan_misc_meaning tells what a record's misc means, by its type: the CPU
@@ -526,8 +545,8 @@ uint32_t ollskuvan_copy_name(const uint8_t *record, size_t record_len, uint64_t 
  * words 0 to OLLSKUVAN_FIELDS - 1 are the value, further words are unchanged.
  */
 uint32_t ollskuvan_read(const uint8_t *record, size_t record_len, uint64_t sample_type, uint64_t read_format,
-    uint32_t sample_id_all, uint64_t user_mask, uint64_t interrupt_mask, uint32_t edition,
-    uint64_t *fields, size_t fields_len);
+    uint32_t sample_id_all, uint64_t user_mask, uint64_t interrupt_mask, uint64_t branch_sample_type,
+    uint32_t edition, uint64_t *fields, size_t fields_len);
 
 struct ollskuvan_one {
     uint64_t place;      /* where the record begins, in the ring or in the scratch */
@@ -557,7 +576,7 @@ struct ollskuvan_one {
  *
  * has one.size bytes: the record that the places of the value's lists and names
  * count from. answer is that of ollskuvan_read for this record, from 20 on: 20
- * to 24, 30 to 33, then 40 if fields_len is below OLLSKUVAN_FIELDS, otherwise 0.
+ * to 25, 30 to 33, then 40 if fields_len is below OLLSKUVAN_FIELDS, otherwise 0.
  * The record is shown and the tail moves whatever the answer. Accepted (0):
  * words 0 to OLLSKUVAN_FIELDS - 1 are the value, further words are unchanged.
  * Refused, 40 too: the words are unchanged.
@@ -566,7 +585,8 @@ struct ollskuvan_one {
  */
 struct ollskuvan_one ollskuvan_read_one(const uint8_t *ring, size_t ring_len, uint64_t head, uint64_t tail,
     uint64_t sample_type, uint64_t read_format, uint32_t sample_id_all, uint64_t user_mask, uint64_t interrupt_mask,
-    uint32_t edition, uint8_t *scratch, size_t scratch_len, uint64_t *fields, size_t fields_len);
+    uint64_t branch_sample_type, uint32_t edition, uint8_t *scratch, size_t scratch_len, uint64_t *fields,
+    size_t fields_len);
 
 /*
  * ollskuvan_write writes the record of a value: the first OLLSKUVAN_FIELDS
@@ -574,8 +594,8 @@ struct ollskuvan_one ollskuvan_read_one(const uint8_t *ring, size_t ring_len, ui
  * In this order:
  *   2;
  *   42 if fields_len is below OLLSKUVAN_FIELDS;
- *   20 to 24, by the words of type and misc (a type is compared as the whole
- *      word: any above the edition's is 20);
+ *   20, 21, 22, 23, 25, 24, by the words of type and misc (a type is compared as
+ *      the whole word: any above the edition's is 20);
  *   41 if a selected list or name, by place plus bytes as plain numbers, passes
  *      the source's end, even where it is empty. A list is selected by the type,
  *      misc bit 14 (build id), the sample bits and read-format bit 3; an abi of
@@ -597,7 +617,7 @@ struct ollskuvan_one ollskuvan_read_one(const uint8_t *ring, size_t ring_len, ui
  */
 uint32_t ollskuvan_write(const uint64_t *fields, size_t fields_len, const uint8_t *source, size_t source_len,
     uint64_t sample_type, uint64_t read_format, uint32_t sample_id_all, uint64_t user_mask, uint64_t interrupt_mask,
-    uint32_t edition, uint8_t *buffer, size_t buffer_len);
+    uint64_t branch_sample_type, uint32_t edition, uint8_t *buffer, size_t buffer_len);
 
 /* ------------------------------------------------------------------------
  * The numbers in words, for messages. These four are plain C and stand in

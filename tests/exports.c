@@ -76,17 +76,24 @@ static const uint8_t SWITCH[8] = {0x0e, 0, 0, 0, 0, 0x20, 8, 0};
 static const uint8_t LOST[24] = {2, 0, 0, 0, 0, 0, 24, 0, 7, 0, 0, 0, 0, 0, 0, 0, 9, 0, 0, 0, 0, 0, 0, 0};
 static const uint8_t COMM[24] = {3, 0, 0, 0, 0, 0x20, 24, 0, 1, 0, 0, 0, 2, 0, 0, 0, 'k', 'i', 'l', 'n', 0, 1, 2, 3};
 
+/* The attributes: sample type, read format, sample_id_all, user mask, interrupt mask, branch sample type. */
+#define NONE 0, 0, 0, 0, 0, 0
+/* Those that most tests do not give are 0. */
+#define SAMPLED(sample_type) sample_type, 0, 0, 0, 0, 0
+#define TRAILED(sample_type) sample_type, 0, 1, 0, 0, 0
+#define BRANCHED(sample_type, branch_sample_type) sample_type, 0, 0, 0, 0, branch_sample_type
+
 /* The attributes are empty but for what a test gives. */
 static struct ollskuvan_drained drain(const uint8_t *ring, size_t length, uint64_t head, uint64_t tail,
     uint32_t edition, uint64_t budget, uint8_t *scratch, size_t scratch_len, uint8_t *journal, size_t journal_len)
 {
-    return ollskuvan_drain(ring, length, head, tail, 0, 0, 0, 0, 0, edition, budget, scratch, scratch_len, journal,
+    return ollskuvan_drain(ring, length, head, tail, NONE, edition, budget, scratch, scratch_len, journal,
         journal_len);
 }
 
 static uint32_t check(const uint8_t *record, size_t length, uint32_t edition)
 {
-    return ollskuvan_check(record, length, 0, 0, 0, 0, 0, edition);
+    return ollskuvan_check(record, length, NONE, edition);
 }
 
 static void test_drain(void)
@@ -219,20 +226,20 @@ static void test_check(void)
     IS(check(lost, 24, 3), OLLSKUVAN_REFUSED_TYPE);
     put16(lost, OLLSKUVAN_TYPE_LOST);
     /* sample_id_all is any 32-bit number but 0 */
-    IS(ollskuvan_check(lost, 24, OLLSKUVAN_BIT_TIME, 0, 0, 0, 0, 3), OLLSKUVAN_OK);
-    IS(ollskuvan_check(lost, 24, OLLSKUVAN_BIT_TIME, 0, 1, 0, 0, 3), OLLSKUVAN_REFUSED_SHORT);
-    IS(ollskuvan_check(lost, 24, OLLSKUVAN_BIT_TIME, 0, 256, 0, 0, 3), OLLSKUVAN_REFUSED_SHORT);
-    IS(ollskuvan_check(lost, 24, UINT64_C(1) << 40, 0, 0x80000000u, 0, 0, 3), OLLSKUVAN_REFUSED_SAMPLE_TYPE);
+    IS(ollskuvan_check(lost, 24, SAMPLED(OLLSKUVAN_BIT_TIME), 3), OLLSKUVAN_OK);
+    IS(ollskuvan_check(lost, 24, TRAILED(OLLSKUVAN_BIT_TIME), 3), OLLSKUVAN_REFUSED_SHORT);
+    IS(ollskuvan_check(lost, 24, OLLSKUVAN_BIT_TIME, 0, 256, 0, 0, 0, 3), OLLSKUVAN_REFUSED_SHORT);
+    IS(ollskuvan_check(lost, 24, UINT64_C(1) << 40, 0, 0x80000000u, 0, 0, 0, 3), OLLSKUVAN_REFUSED_SAMPLE_TYPE);
     put16(lost, OLLSKUVAN_TYPE_SAMPLE);
-    IS(ollskuvan_check(lost, 24, OLLSKUVAN_BIT_IP, 0, 0, 0, 0, 3), OLLSKUVAN_REFUSED_LEFT_OVER);
-    IS(ollskuvan_check(lost, 24, OLLSKUVAN_BIT_IP | OLLSKUVAN_BIT_TID, 0, 0, 0, 0, 3), OLLSKUVAN_OK);
-    IS(ollskuvan_check(lost, 24, OLLSKUVAN_BIT_READ, UINT64_C(1) << 63, 0, 0, 0, 3), OLLSKUVAN_REFUSED_READ_FORMAT);
-    IS(ollskuvan_check(lost, 24, OLLSKUVAN_BIT_WEIGHT | OLLSKUVAN_BIT_WEIGHT_STRUCT, 0, 0, 0, 0, 3),
+    IS(ollskuvan_check(lost, 24, SAMPLED(OLLSKUVAN_BIT_IP), 3), OLLSKUVAN_REFUSED_LEFT_OVER);
+    IS(ollskuvan_check(lost, 24, SAMPLED(OLLSKUVAN_BIT_IP | OLLSKUVAN_BIT_TID), 3), OLLSKUVAN_OK);
+    IS(ollskuvan_check(lost, 24, OLLSKUVAN_BIT_READ, UINT64_C(1) << 63, 0, 0, 0, 0, 3), OLLSKUVAN_REFUSED_READ_FORMAT);
+    IS(ollskuvan_check(lost, 24, SAMPLED(OLLSKUVAN_BIT_WEIGHT | OLLSKUVAN_BIT_WEIGHT_STRUCT), 3),
         OLLSKUVAN_REFUSED_WEIGHTS);
-    IS(ollskuvan_check(lost, 24, OLLSKUVAN_BIT_USER_STACK, 0, 0, 0, 0, 3), OLLSKUVAN_REFUSED_INNER);
-    IS(ollskuvan_check(lost, 24, OLLSKUVAN_BIT_USER_REGISTERS, 0, 0, UINT64_MAX, 0, 3), OLLSKUVAN_REFUSED_SHORT);
-    IS(ollskuvan_check(lost, 24, OLLSKUVAN_BIT_USER_REGISTERS, 0, 0, UINT64_C(1) << 63, 0, 3), OLLSKUVAN_OK);
-    IS(ollskuvan_check(lost, 24, OLLSKUVAN_BIT_INTERRUPT_REGISTERS, 0, 0, 0, 0x10, 3), OLLSKUVAN_OK);
+    IS(ollskuvan_check(lost, 24, SAMPLED(OLLSKUVAN_BIT_USER_STACK), 3), OLLSKUVAN_REFUSED_INNER);
+    IS(ollskuvan_check(lost, 24, OLLSKUVAN_BIT_USER_REGISTERS, 0, 0, UINT64_MAX, 0, 0, 3), OLLSKUVAN_REFUSED_SHORT);
+    IS(ollskuvan_check(lost, 24, OLLSKUVAN_BIT_USER_REGISTERS, 0, 0, UINT64_C(1) << 63, 0, 0, 3), OLLSKUVAN_OK);
+    IS(ollskuvan_check(lost, 24, OLLSKUVAN_BIT_INTERRUPT_REGISTERS, 0, 0, 0, 0x10, 0, 3), OLLSKUVAN_OK);
     put16(lost, OLLSKUVAN_TYPE_MMAP2);
     put16(lost + 4, OLLSKUVAN_MISC_MMAP_BUILD_ID);
     IS(check(lost, 24, 2), OLLSKUVAN_REFUSED_BUILD_ID);
@@ -241,6 +248,71 @@ static void test_check(void)
     free(comm);
     free(lost);
     free(five);
+}
+
+/* A SAMPLE with one branch: count, hardware index, from, to, flags. */
+static const uint8_t BRANCHES[48] = {9, 0, 0, 0, 1, 0, 48, 0, 1, 0, 0, 0, 0, 0, 0, 0, 0xff, 0xff, 0xff, 0xff, 0xff, 0xff, 0xff,
+    0xff, 0x11, 0, 0, 0, 0, 0, 0, 0, 0x22, 0, 0, 0, 0, 0, 0, 0, 0x33, 0, 0, 0, 0, 0, 0, 0};
+
+/* The hardware index and 25, in record check and drain. */
+static void test_branches(void)
+{
+    const uint64_t bit = OLLSKUVAN_BIT_BRANCHES, index = OLLSKUVAN_BRANCH_HW_INDEX, odd = UINT64_C(1) << 19;
+    const uint64_t weights = OLLSKUVAN_BIT_WEIGHT | OLLSKUVAN_BIT_WEIGHT_STRUCT;
+    uint8_t *record = copied(BRANCHES, 48), *ring = block(64), *journal = block(16), *scratch = block(48);
+    struct ollskuvan_drained d;
+
+    IS(ollskuvan_check(record, 48, BRANCHED(bit, index), 1), OLLSKUVAN_REFUSED_BRANCH_TYPE);
+    IS(ollskuvan_check(record, 48, BRANCHED(bit, index), 2), OLLSKUVAN_REFUSED_BRANCH_TYPE);
+    IS(ollskuvan_check(record, 48, BRANCHED(bit, index), 3), OLLSKUVAN_OK);
+    IS(ollskuvan_check(record, 48, BRANCHED(bit, index | UINT64_C(0x5ffff)), 3), OLLSKUVAN_OK);
+    /* without bit 17 the index is no word of its own; bits 0 to 16 and 18 change nothing */
+    IS(ollskuvan_check(record, 48, BRANCHED(bit, 0), 3), OLLSKUVAN_REFUSED_LEFT_OVER);
+    IS(ollskuvan_check(record, 48, BRANCHED(bit, UINT64_C(0x5ffff)), 1), OLLSKUVAN_REFUSED_LEFT_OVER);
+    /* a bit from 19 up is refused by all, and narrowed by none */
+    IS(ollskuvan_check(record, 48, BRANCHED(bit, odd), 3), OLLSKUVAN_REFUSED_BRANCH_TYPE);
+    IS(ollskuvan_check(record, 48, BRANCHED(bit, odd), 1), OLLSKUVAN_REFUSED_BRANCH_TYPE);
+    IS(ollskuvan_check(record, 48, BRANCHED(bit, UINT64_C(1) << 63), 3), OLLSKUVAN_REFUSED_BRANCH_TYPE);
+    IS(ollskuvan_check(record, 48, BRANCHED(bit, UINT64_C(1) << 32), 2), OLLSKUVAN_REFUSED_BRANCH_TYPE);
+    /* 21 and 22 before it, 24 after it */
+    IS(ollskuvan_check(record, 48, BRANCHED(bit | UINT64_C(1) << 30, odd), 3), OLLSKUVAN_REFUSED_SAMPLE_TYPE);
+    IS(ollskuvan_check(record, 48, bit | OLLSKUVAN_BIT_READ, 16, 0, 0, 0, odd, 3), OLLSKUVAN_REFUSED_READ_FORMAT);
+    IS(ollskuvan_check(record, 48, BRANCHED(bit | weights, odd), 3), OLLSKUVAN_REFUSED_BRANCH_TYPE);
+    IS(ollskuvan_check(record, 48, BRANCHED(bit | weights, index), 3), OLLSKUVAN_REFUSED_WEIGHTS);
+    /* no sample bit 11, or no SAMPLE: never 25 */
+    IS(ollskuvan_check(record, 48, BRANCHED(weights, UINT64_MAX), 3), OLLSKUVAN_REFUSED_WEIGHTS);
+    IS(ollskuvan_check(record, 48, BRANCHED(0, UINT64_MAX), 1), OLLSKUVAN_REFUSED_LEFT_OVER);
+    IS(ollskuvan_check(LOST, 24, BRANCHED(bit, UINT64_MAX), 1), OLLSKUVAN_OK);
+    IS(ollskuvan_check(LOST, 24, bit, 0, 1, 0, 0, UINT64_MAX, 1), OLLSKUVAN_OK);
+
+    /* the index with a count of 0; what a kernel writes that has no branch stack is a word short */
+    memset(record + 8, 0, 8);
+    put16(record + 6, 24);
+    IS(ollskuvan_check(record, 24, BRANCHED(bit, index), 3), OLLSKUVAN_OK);
+    put16(record + 6, 16);
+    IS(ollskuvan_check(record, 16, BRANCHED(bit, index), 3), OLLSKUVAN_REFUSED_SHORT);
+    IS(ollskuvan_check(record, 16, BRANCHED(bit, 0), 3), OLLSKUVAN_OK);
+    put16(record + 6, 8);
+    IS(ollskuvan_check(record, 8, BRANCHED(bit, index), 3), OLLSKUVAN_REFUSED_SHORT);
+
+    /* a drain: across the ring's end, editions 3 and 2 */
+    memcpy(ring + 40, BRANCHES, 24);
+    memcpy(ring, BRANCHES + 24, 24);
+    d = ollskuvan_drain(ring, 64, 88, 40, BRANCHED(bit, index), 3, 9, scratch, 48, journal, 16);
+    IS(d.taken, 1);
+    IS(d.stop, OLLSKUVAN_STOP_NOTHING);
+    IS(get(journal + OLLSKUVAN_JOURNAL_ANSWER, 2), OLLSKUVAN_OK);
+    OK(memcmp(scratch, BRANCHES, 48) == 0);
+    d = ollskuvan_drain(ring, 64, 88, 40, BRANCHED(bit, index), 2, 9, scratch, 48, journal, 16);
+    IS(d.taken, 1);
+    IS(get(journal + OLLSKUVAN_JOURNAL_ANSWER, 2), OLLSKUVAN_REFUSED_BRANCH_TYPE);
+    d = ollskuvan_drain(ring, 64, 88, 40, BRANCHED(bit, odd | index), 3, 9, scratch, 48, journal, 16);
+    IS(get(journal + OLLSKUVAN_JOURNAL_ANSWER, 2), OLLSKUVAN_REFUSED_BRANCH_TYPE);
+
+    free(record);
+    free(ring);
+    free(journal);
+    free(scratch);
 }
 
 static void test_misc_meaning(void)
@@ -318,17 +390,17 @@ static void test_read_write(void)
     memcpy(few, fields, 55 * sizeof *few);
 
     /* read: 40 comes after what check answers */
-    IS(ollskuvan_read(NULL, 0, 0, 0, 0, 0, 0, 3, NULL, 0), OLLSKUVAN_REFUSED_LENGTH);
-    IS(ollskuvan_read(record, 24, 0, 0, 0, 0, 0, 257, NULL, 0), OLLSKUVAN_REFUSED_EDITION);
-    IS(ollskuvan_read(record, 24, 0, 0, 0, 0, 0, 3, NULL, 0), OLLSKUVAN_REFUSED_ROOM);
-    IS(ollskuvan_read(record, 24, 0, 0, 0, 0, 0, 3, few, 55), OLLSKUVAN_REFUSED_ROOM);
+    IS(ollskuvan_read(NULL, 0, NONE, 3, NULL, 0), OLLSKUVAN_REFUSED_LENGTH);
+    IS(ollskuvan_read(record, 24, NONE, 257, NULL, 0), OLLSKUVAN_REFUSED_EDITION);
+    IS(ollskuvan_read(record, 24, NONE, 3, NULL, 0), OLLSKUVAN_REFUSED_ROOM);
+    IS(ollskuvan_read(record, 24, NONE, 3, few, 55), OLLSKUVAN_REFUSED_ROOM);
     IS(few[0], 99);
     IS(few[54], 99);
-    IS(ollskuvan_read(record, 16, 0, 0, 0, 0, 0, 3, fields, 57), OLLSKUVAN_REFUSED_LENGTH);
+    IS(ollskuvan_read(record, 16, NONE, 3, fields, 57), OLLSKUVAN_REFUSED_LENGTH);
     IS(fields[0], 99);
-    IS(ollskuvan_read(record, 24, 0, 0, 0, 0, 0, 3, fields, 57), OLLSKUVAN_OK);
+    IS(ollskuvan_read(record, 24, NONE, 3, fields, 57), OLLSKUVAN_OK);
     IS(fields[56], 99);
-    IS(ollskuvan_read(record, 24, 0, 0, 0, 0, 0, 3, exact, OLLSKUVAN_FIELDS), OLLSKUVAN_OK);
+    IS(ollskuvan_read(record, 24, NONE, 3, exact, OLLSKUVAN_FIELDS), OLLSKUVAN_OK);
     OK(memcmp(fields, exact, OLLSKUVAN_FIELDS * sizeof *exact) == 0);
     IS(exact[OLLSKUVAN_TYPE], OLLSKUVAN_TYPE_COMM);
     IS(exact[OLLSKUVAN_MISC], OLLSKUVAN_MISC_COMM_EXEC);
@@ -341,42 +413,42 @@ static void test_read_write(void)
         IS(exact[i], 0);
 
     /* write: 2 before all else, then 42 for too few words, whatever type stands in them */
-    IS(ollskuvan_write(NULL, 0, NULL, 0, 0, 0, 0, 0, 0, 257, NULL, 0), OLLSKUVAN_REFUSED_EDITION);
-    IS(ollskuvan_write(few, 55, record, 24, 0, 0, 0, 0, 0, 257, NULL, 0), OLLSKUVAN_REFUSED_EDITION);
-    IS(ollskuvan_write(few, 55, record, 24, 0, 0, 0, 0, 0, 0, NULL, 0), OLLSKUVAN_REFUSED_EDITION);
-    IS(ollskuvan_write(NULL, 0, NULL, 0, 0, 0, 0, 0, 0, 3, NULL, 0), OLLSKUVAN_REFUSED_VALUE);
-    IS(ollskuvan_write(few, 55, record, 24, 0, 0, 0, 0, 0, 3, buffer, 32), OLLSKUVAN_REFUSED_VALUE);
-    IS(ollskuvan_write(exact, 56, record, 24, 0, 0, 0, 0, 0, 257, NULL, 0), OLLSKUVAN_REFUSED_EDITION);
-    IS(ollskuvan_write(exact, 56, NULL, 0, 0, 0, 0, 0, 0, 3, buffer, 32), OLLSKUVAN_REFUSED_PLACE);
-    IS(ollskuvan_write(exact, 56, record, 19, 0, 0, 0, 0, 0, 3, buffer, 32), OLLSKUVAN_REFUSED_PLACE);
-    IS(ollskuvan_write(exact, 56, record, 20, 0, 0, 0, 0, 0, 3, buffer, 23), OLLSKUVAN_REFUSED_ROOM);
-    IS(ollskuvan_write(exact, 56, record, 20, 0, 0, 0, 0, 0, 3, NULL, 0), OLLSKUVAN_REFUSED_ROOM);
+    IS(ollskuvan_write(NULL, 0, NULL, 0, NONE, 257, NULL, 0), OLLSKUVAN_REFUSED_EDITION);
+    IS(ollskuvan_write(few, 55, record, 24, NONE, 257, NULL, 0), OLLSKUVAN_REFUSED_EDITION);
+    IS(ollskuvan_write(few, 55, record, 24, NONE, 0, NULL, 0), OLLSKUVAN_REFUSED_EDITION);
+    IS(ollskuvan_write(NULL, 0, NULL, 0, NONE, 3, NULL, 0), OLLSKUVAN_REFUSED_VALUE);
+    IS(ollskuvan_write(few, 55, record, 24, NONE, 3, buffer, 32), OLLSKUVAN_REFUSED_VALUE);
+    IS(ollskuvan_write(exact, 56, record, 24, NONE, 257, NULL, 0), OLLSKUVAN_REFUSED_EDITION);
+    IS(ollskuvan_write(exact, 56, NULL, 0, NONE, 3, buffer, 32), OLLSKUVAN_REFUSED_PLACE);
+    IS(ollskuvan_write(exact, 56, record, 19, NONE, 3, buffer, 32), OLLSKUVAN_REFUSED_PLACE);
+    IS(ollskuvan_write(exact, 56, record, 20, NONE, 3, buffer, 23), OLLSKUVAN_REFUSED_ROOM);
+    IS(ollskuvan_write(exact, 56, record, 20, NONE, 3, NULL, 0), OLLSKUVAN_REFUSED_ROOM);
     OK(untouched(buffer, 32));
-    IS(ollskuvan_write(exact, 56, record, 20, 0, 0, 0, 0, 0, 3, buffer, 24), OLLSKUVAN_OK);
+    IS(ollskuvan_write(exact, 56, record, 20, NONE, 3, buffer, 24), OLLSKUVAN_OK);
     OK(memcmp(buffer, COMM, 20) == 0 && get(buffer + 20, 4) == 0 && untouched(buffer + 24, 8));
 
     /* the name from another place; further words are not looked at */
     memset(buffer, 0xc3, 32);
     fields[OLLSKUVAN_COMM_NAME] = 1;
-    IS(ollskuvan_write(fields, 57, source, 5, 0, 0, 0, 0, 0, 1, buffer, 32), OLLSKUVAN_OK);
+    IS(ollskuvan_write(fields, 57, source, 5, NONE, 1, buffer, 32), OLLSKUVAN_OK);
     OK(memcmp(buffer, COMM, 20) == 0 && get(buffer + 20, 4) == 0 && untouched(buffer + 24, 8));
-    IS(ollskuvan_write(fields, 57, source, 4, 0, 0, 0, 0, 0, 1, buffer, 32), OLLSKUVAN_REFUSED_PLACE);
+    IS(ollskuvan_write(fields, 57, source, 4, NONE, 1, buffer, 32), OLLSKUVAN_REFUSED_PLACE);
     fields[OLLSKUVAN_COMM_NAME] = UINT64_MAX;
-    IS(ollskuvan_write(fields, 57, source, 5, 0, 0, 0, 0, 0, 1, buffer, 32), OLLSKUVAN_REFUSED_PLACE);
+    IS(ollskuvan_write(fields, 57, source, 5, NONE, 1, buffer, 32), OLLSKUVAN_REFUSED_PLACE);
 
     /* 20 by the whole word; 42 for a kept word, a number too wide, a wrong size */
     memcpy(fields, exact, OLLSKUVAN_FIELDS * sizeof *exact);
     fields[OLLSKUVAN_TYPE] |= UINT64_C(1) << 32;
-    IS(ollskuvan_write(fields, 56, record, 24, 0, 0, 0, 0, 0, 3, buffer, 32), OLLSKUVAN_REFUSED_TYPE);
+    IS(ollskuvan_write(fields, 56, record, 24, NONE, 3, buffer, 32), OLLSKUVAN_REFUSED_TYPE);
     memcpy(fields, exact, OLLSKUVAN_FIELDS * sizeof *exact);
     fields[OLLSKUVAN_COMM_NAME_FLAG] = 1;
-    IS(ollskuvan_write(fields, 56, record, 24, 0, 0, 0, 0, 0, 3, buffer, 32), OLLSKUVAN_REFUSED_VALUE);
+    IS(ollskuvan_write(fields, 56, record, 24, NONE, 3, buffer, 32), OLLSKUVAN_REFUSED_VALUE);
     memcpy(fields, exact, OLLSKUVAN_FIELDS * sizeof *exact);
     fields[OLLSKUVAN_COMM_TID] = UINT64_C(1) << 32;
-    IS(ollskuvan_write(fields, 56, record, 24, 0, 0, 0, 0, 0, 3, buffer, 32), OLLSKUVAN_REFUSED_VALUE);
+    IS(ollskuvan_write(fields, 56, record, 24, NONE, 3, buffer, 32), OLLSKUVAN_REFUSED_VALUE);
     memcpy(fields, exact, OLLSKUVAN_FIELDS * sizeof *exact);
     fields[OLLSKUVAN_SIZE] = 32;
-    IS(ollskuvan_write(fields, 56, record, 24, 0, 0, 0, 0, 0, 3, buffer, 32), OLLSKUVAN_REFUSED_VALUE);
+    IS(ollskuvan_write(fields, 56, record, 24, NONE, 3, buffer, 32), OLLSKUVAN_REFUSED_VALUE);
 
     /* a value with no list needs no source; the trailer's word */
     memset(exact, 0, OLLSKUVAN_FIELDS * sizeof *exact);
@@ -384,13 +456,13 @@ static void test_read_write(void)
     exact[OLLSKUVAN_MISC] = OLLSKUVAN_MISC_SWITCH_OUT;
     exact[OLLSKUVAN_SIZE] = 8;
     memset(buffer, 0xc3, 32);
-    IS(ollskuvan_write(exact, 56, NULL, 0, 0, 0, 0, 0, 0, 2, buffer, 8), OLLSKUVAN_OK);
+    IS(ollskuvan_write(exact, 56, NULL, 0, NONE, 2, buffer, 8), OLLSKUVAN_OK);
     OK(memcmp(buffer, SWITCH, 8) == 0 && untouched(buffer + 8, 24));
     exact[OLLSKUVAN_SIZE] = 16;
     exact[OLLSKUVAN_TRAILER_TIME] = 0x1122334455667788u;
-    IS(ollskuvan_write(exact, 56, NULL, 0, OLLSKUVAN_BIT_TIME, 0, 0, 0, 0, 2, buffer, 16), OLLSKUVAN_REFUSED_VALUE);
-    IS(ollskuvan_write(exact, 56, NULL, 0, OLLSKUVAN_BIT_TIME, 0, 1, 0, 0, 2, buffer, 15), OLLSKUVAN_REFUSED_ROOM);
-    IS(ollskuvan_write(exact, 56, NULL, 0, OLLSKUVAN_BIT_TIME, 0, 1, 0, 0, 2, buffer, 16), OLLSKUVAN_OK);
+    IS(ollskuvan_write(exact, 56, NULL, 0, SAMPLED(OLLSKUVAN_BIT_TIME), 2, buffer, 16), OLLSKUVAN_REFUSED_VALUE);
+    IS(ollskuvan_write(exact, 56, NULL, 0, TRAILED(OLLSKUVAN_BIT_TIME), 2, buffer, 15), OLLSKUVAN_REFUSED_ROOM);
+    IS(ollskuvan_write(exact, 56, NULL, 0, TRAILED(OLLSKUVAN_BIT_TIME), 2, buffer, 16), OLLSKUVAN_OK);
     IS(get(buffer + 8, 8), 0x1122334455667788u);
     OK(untouched(buffer + 16, 16));
 
@@ -400,6 +472,53 @@ static void test_read_write(void)
     free(fields);
     free(exact);
     free(few);
+}
+
+/* The word of the index: read, written, read by its tail. */
+static void test_index_word(void)
+{
+    const uint64_t bit = OLLSKUVAN_BIT_BRANCHES, index = OLLSKUVAN_BRANCH_HW_INDEX;
+    uint8_t *record = copied(BRANCHES, 48), *buffer = block(48), *ring = block(64);
+    uint64_t *fields = malloc(OLLSKUVAN_FIELDS * sizeof *fields);
+    struct ollskuvan_one one;
+
+    if (!fields)
+        abort();
+    IS(ollskuvan_read(record, 48, BRANCHED(bit, index), 2, fields, OLLSKUVAN_FIELDS), OLLSKUVAN_REFUSED_BRANCH_TYPE);
+    IS(ollskuvan_read(record, 48, BRANCHED(bit, index), 3, fields, OLLSKUVAN_FIELDS), OLLSKUVAN_OK);
+    IS(fields[OLLSKUVAN_SAMPLE_BRANCHES_COUNT], 1);
+    IS(fields[OLLSKUVAN_SAMPLE_HW_INDEX], UINT64_MAX);
+    IS(fields[OLLSKUVAN_SAMPLE_BRANCHES], 24);
+    IS(ollskuvan_write(fields, 56, record, 48, BRANCHED(bit, index), 3, buffer, 48), OLLSKUVAN_OK);
+    OK(memcmp(buffer, BRANCHES, 48) == 0);
+    memset(buffer, 0xc3, 48);
+    /* 25 before 41, 42 and 40; the word is 42 where it is not selected */
+    IS(ollskuvan_write(fields, 56, NULL, 0, BRANCHED(bit, index), 1, NULL, 0), OLLSKUVAN_REFUSED_BRANCH_TYPE);
+    IS(ollskuvan_write(fields, 56, NULL, 0, BRANCHED(bit, UINT64_C(1) << 19), 3, NULL, 0), OLLSKUVAN_REFUSED_BRANCH_TYPE);
+    IS(ollskuvan_write(fields, 56, NULL, 0, BRANCHED(bit, index), 3, buffer, 48), OLLSKUVAN_REFUSED_PLACE);
+    fields[OLLSKUVAN_SIZE] = 40;
+    IS(ollskuvan_write(fields, 56, record, 48, BRANCHED(bit, index), 3, buffer, 48), OLLSKUVAN_REFUSED_VALUE);
+    IS(ollskuvan_write(fields, 56, record, 48, BRANCHED(bit, 0), 3, buffer, 48), OLLSKUVAN_REFUSED_VALUE);
+    OK(untouched(buffer, 48));
+    fields[OLLSKUVAN_SAMPLE_HW_INDEX] = 0;
+    IS(ollskuvan_write(fields, 56, record, 48, BRANCHED(bit, 0), 3, buffer, 48), OLLSKUVAN_OK);
+    OK(get(buffer + 8, 8) == 1 && get(buffer + 16, 8) == 0x11 && untouched(buffer + 40, 8));
+
+    memcpy(ring + 8, BRANCHES, 48);
+    one = ollskuvan_read_one(ring, 64, 56, 8, BRANCHED(bit, index), 3, NULL, 0, fields, OLLSKUVAN_FIELDS);
+    IS(one.size, 48);
+    IS(one.answer, OLLSKUVAN_OK);
+    IS(fields[OLLSKUVAN_SAMPLE_HW_INDEX], UINT64_MAX);
+    one = ollskuvan_read_one(ring, 64, 56, 8, BRANCHED(bit, index), 2, NULL, 0, fields, OLLSKUVAN_FIELDS);
+    IS(one.size, 48);
+    IS(one.answer, OLLSKUVAN_REFUSED_BRANCH_TYPE);
+    one = ollskuvan_read_one(ring, 64, 56, 8, BRANCHED(bit, UINT64_MAX), 3, NULL, 0, NULL, 0);
+    IS(one.answer, OLLSKUVAN_REFUSED_BRANCH_TYPE);
+
+    free(record);
+    free(buffer);
+    free(ring);
+    free(fields);
 }
 
 /* The reader of one record, and all that is lent to it. */
@@ -413,7 +532,7 @@ static struct ollskuvan_one read_one(uint64_t head, uint64_t tail, uint32_t edit
     memset(one_scratch, 0xc3, 32);
     for (i = 0; i < 57; i++)
         one_words[i] = 99;
-    return ollskuvan_read_one(one_ring, 64, head, tail, 0, 0, 0, 0, 0, edition, scratch_len ? one_scratch : NULL,
+    return ollskuvan_read_one(one_ring, 64, head, tail, NONE, edition, scratch_len ? one_scratch : NULL,
         scratch_len, words ? one_words : NULL, words);
 }
 
@@ -459,7 +578,7 @@ static void test_read_one(void)
         abort();
 
     /* null with length 0 everywhere; the rows in the order of the table */
-    one = ollskuvan_read_one(NULL, 0, 24, 5, 0, 0, 0, 0, 0, 257, NULL, 0, NULL, 0);
+    one = ollskuvan_read_one(NULL, 0, 24, 5, NONE, 257, NULL, 0, NULL, 0);
     IS(one.stop, OLLSKUVAN_STOP_RING_LENGTH);
     IS(one.tail, 5);
     STOPS(read_one(72, 1, 257, 24, 56), OLLSKUVAN_STOP_EDITION, 1);
@@ -527,10 +646,12 @@ int main(void)
     IS(sizeof(struct ollskuvan_one), 40);
     test_drain();
     test_check();
+    test_branches();
     test_misc_meaning();
     test_copy_name();
 #ifndef WITHOUT_VALUES
     test_read_write();
+    test_index_word();
     test_read_one();
 #endif
     printf("exports from C: %d calls and bytes as due, %d not\n", passed, failed);

@@ -20,7 +20,7 @@ enum { WORDS = 56, RECORD_ROOM = 2048, LONGEST = 1 << 21 };
 struct attributes {
     uint64_t sample_type, read_format;
     uint32_t sample_id_all;
-    uint64_t user_mask, interrupt_mask;
+    uint64_t user_mask, interrupt_mask, branch_sample_type;
 };
 
 /* The trailer's bits are 1, 2, 6, 7, 9 and 16. Of the masks the one has five ones, the other seven. */
@@ -28,13 +28,14 @@ enum { TRAILER_SELECTED = 1 << 1 | 1 << 2 | 1 << 6 | 1 << 7 | 1 << 9 | 1 << 16, 
 #define FIVE_ONES UINT64_C(0x8000000000010046)
 #define SEVEN_ONES UINT64_C(0xc000000800000017)
 
-static const struct attributes PLAIN = {0, 0, 0, 0, 0};
-static const struct attributes TRAILED = {TRAILER_SELECTED, 0, 1, 0, 0};
-static const struct attributes READ_ONE = {TRAILER_SELECTED, 7, 1, 0, 0};
-static const struct attributes READ_GROUP = {TRAILER_SELECTED, 15, 1, 0, 0};
-static const struct attributes READ_BARE_GROUP = {0, 8, 0, 0, 0};
-static const struct attributes SAMPLE_ONE = {ALL_BITS ^ 1 << 24, 7, 1, FIVE_ONES, SEVEN_ONES};
-static const struct attributes SAMPLE_GROUP = {ALL_BITS ^ 1 << 14, 15, 1, FIVE_ONES, SEVEN_ONES};
+static const struct attributes PLAIN = {0, 0, 0, 0, 0, 0};
+static const struct attributes TRAILED = {TRAILER_SELECTED, 0, 1, 0, 0, 0};
+static const struct attributes READ_ONE = {TRAILER_SELECTED, 7, 1, 0, 0, 0};
+static const struct attributes READ_GROUP = {TRAILER_SELECTED, 15, 1, 0, 0, 0};
+static const struct attributes READ_BARE_GROUP = {0, 8, 0, 0, 0, 0};
+static const struct attributes SAMPLE_ONE = {ALL_BITS ^ 1 << 24, 7, 1, FIVE_ONES, SEVEN_ONES, 1 << 17};
+static const struct attributes SAMPLE_GROUP = {ALL_BITS ^ 1 << 14, 15, 1, FIVE_ONES, SEVEN_ONES, 1 << 17};
+static const struct attributes SAMPLE_BRANCHES = {1 << 11, 0, 0, 0, 0, 0x5ffff};
 
 /* ---- the rows ---- */
 
@@ -116,6 +117,9 @@ static const uint32_t constants[ROWS] = {
 
 static uint8_t zeros[LONGEST];
 
+/* Empty attributes: sample type, read format, sample_id_all, both masks, branch sample type. */
+#define NONE 0, 0, 0, 0, 0, 0
+
 static void spell(uint8_t *at, uint64_t n, int bytes)
 {
     int i;
@@ -125,14 +129,14 @@ static void spell(uint8_t *at, uint64_t n, int bytes)
 
 /* Record check of zeros behind a header. */
 static uint32_t checked(uint32_t edition, uint64_t sample_type, uint64_t read_format, uint64_t type, uint64_t misc,
-    uint64_t size, uint64_t length)
+    uint64_t size, uint64_t length, uint64_t branch)
 {
     static uint8_t record[65536];
     memset(record, 0, (size_t)length);
     spell(record, type, 4);
     spell(record + 4, misc, 2);
     spell(record + 6, size, 2);
-    return ollskuvan_check(record, (size_t)length, sample_type, read_format, 0, 0, 0, edition);
+    return ollskuvan_check(record, (size_t)length, sample_type, read_format, 0, 0, 0, branch, edition);
 }
 
 /* The entry of one record of 8 bytes, of a type, at a tail. */
@@ -143,7 +147,7 @@ static size_t journalled(uint64_t type, uint64_t tail, uint8_t entry[64])
     spell(ring + tail % 64, type, 4);
     spell(ring + tail % 64 + 6, 8, 2);
     memset(entry, 0xc3, length);
-    ollskuvan_drain(ring, 64, tail + 8, tail, 0, 0, 0, 0, 0, 3, 1, NULL, 0, entry, length);
+    ollskuvan_drain(ring, 64, tail + 8, tail, NONE, 3, 1, NULL, 0, entry, length);
     while (length && entry[length - 1] == 0xc3)
         length--;
     return length;
@@ -165,7 +169,7 @@ static uint64_t ring_length(int longest)
 {
     uint64_t length, found = 0;
     for (length = 1; length <= LONGEST; length *= 2)
-        if (ollskuvan_drain(zeros, (size_t)length, 0, 0, 0, 0, 0, 0, 0, 3, 1, NULL, 0, NULL, 0).stop != 1)
+        if (ollskuvan_drain(zeros, (size_t)length, 0, 0, NONE, 3, 1, NULL, 0, NULL, 0).stop != 1)
             if (longest || !found)
                 found = length;
     return found;
@@ -174,7 +178,7 @@ static uint64_t ring_length(int longest)
 static uint64_t longest_record(void)
 {
     uint64_t size = 65535;
-    while (size && checked(3, 0, 0, 14, 0, size, size) == 6)
+    while (size && checked(3, 0, 0, 14, 0, size, size, 0) == 6)
         size--;
     return size;
 }
@@ -182,7 +186,7 @@ static uint64_t longest_record(void)
 static uint64_t oldest_edition(uint64_t type)
 {
     uint32_t edition = 1;
-    while (edition < 9 && checked(edition, 0, 0, type, 0, 8, 8) == 20)
+    while (edition < 9 && checked(edition, 0, 0, type, 0, 8, 8, 0) == 20)
         edition++;
     return edition;
 }
@@ -192,7 +196,7 @@ static uint64_t least_words(void)
     uint8_t record[8] = {14, 0, 0, 0, 0, 0, 8, 0};
     uint64_t words[99];
     size_t length = 0;
-    while (length < 99 && ollskuvan_read(record, 8, 0, 0, 0, 0, 0, 3, words, length) == 40)
+    while (length < 99 && ollskuvan_read(record, 8, NONE, 3, words, length) == 40)
         length++;
     return length;
 }
@@ -202,7 +206,7 @@ static uint64_t stopped(const uint64_t n[8])
     uint8_t ring[64] = {0}, scratch[64], journal[64];
     spell(ring + n[2] % 64 / 8 * 8, 14, 4);
     spell(ring + n[2] % 64 / 8 * 8 + 6, n[7], 2);
-    return ollskuvan_drain(ring, (size_t)n[0], n[1], n[2], 0, 0, 0, 0, 0, (uint32_t)n[3], n[4], scratch, (size_t)n[6],
+    return ollskuvan_drain(ring, (size_t)n[0], n[1], n[2], NONE, (uint32_t)n[3], n[4], scratch, (size_t)n[6],
         journal, (size_t)n[5]).stop;
 }
 
@@ -211,7 +215,7 @@ static uint64_t written(uint64_t size, uint64_t length)
 {
     uint64_t words[WORDS] = {2, 0, size};
     uint8_t buffer[64];
-    return ollskuvan_write(words, WORDS, NULL, 0, 0, 0, 0, 0, 0, 3, buffer, (size_t)length);
+    return ollskuvan_write(words, WORDS, NULL, 0, NONE, 3, buffer, (size_t)length);
 }
 
 static uint64_t shown(const struct row *row)
@@ -229,7 +233,7 @@ static uint64_t shown(const struct row *row)
     case ENTRY_KIND_GIVEN: return journalled(n[0], 0, buffer) ? (uint64_t)buffer[4] | (uint64_t)buffer[5] << 8 : 0;
     case MEANING_GIVEN: return ollskuvan_misc_meaning(n[0], n[1]);
     case STOP_GIVEN: return stopped(n);
-    case CHECK_GIVEN: return checked((uint32_t)n[0], n[1], n[2], n[3], n[4], n[5], n[6]);
+    case CHECK_GIVEN: return checked((uint32_t)n[0], n[1], n[2], n[3], n[4], n[5], n[6], n[7]);
     case COPY_GIVEN: return ollskuvan_copy_name(zeros, 8, n[0], n[1], buffer, (size_t)n[2]);
     case WRITE_GIVEN: return written(n[0], n[1]);
     default: return n[0]; /* SAME_NUMBER */
@@ -335,7 +339,7 @@ static void lay_all(void)
         }
         count = lay_record(i);
         answers[i] = ollskuvan_read(record, laid, with->sample_type, with->read_format, with->sample_id_all,
-            with->user_mask, with->interrupt_mask, 3, values[i], WORDS);
+            with->user_mask, with->interrupt_mask, with->branch_sample_type, 3, values[i], WORDS);
     }
 }
 

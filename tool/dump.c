@@ -31,6 +31,9 @@ static void print_image(const struct image *image)
     fputs("\nread format ", stdout);
     show_read_format(image->read_format);
     printf("\nmasks       user 0x%" PRIx64 ", interrupt 0x%" PRIx64 "\n", image->user_mask, image->interrupt_mask);
+    fputs("branch type ", stdout);
+    show_branch_type(image->branch_sample_type);
+    putchar('\n');
 }
 
 /* The header is told also of a record that is refused. */

@@ -43,7 +43,12 @@ static const struct {
         "Bits 0 to 3 are known. A READ is answered so, and a SAMPLE with sample bit 4." },
     { OLLSKUVAN_REFUSED_BUILD_ID, "An MMAP2 with misc bit 14, in edition 1 or 2." },
     { OLLSKUVAN_REFUSED_WEIGHTS, "A SAMPLE where sample bits 14 and 24 are both set." },
-    { OLLSKUVAN_REFUSED_SHORT, "Or the trailer does. A count is too great, or the attributes are not those of the event." },
+    { OLLSKUVAN_REFUSED_BRANCH_TYPE,
+        "A SAMPLE with sample bit 11 where branch bit 17 is set, the hardware index, in edition 1 or 2;\n"
+        "    or a branch bit from 19 up, in any." },
+    { OLLSKUVAN_REFUSED_SHORT,
+        "Or the trailer does. A count is too great, or the attributes are not those of the event. With\n"
+        "    branch bit 17 it may be a SAMPLE without a branch stack: the kernel writes no index there." },
     { OLLSKUVAN_REFUSED_LEFT_OVER, "Mostly the attributes are not those of the event." },
     { OLLSKUVAN_REFUSED_INNER,
         "Raw size plus 4, stack size and aux size are multiples of 8; the filled length is at\n"

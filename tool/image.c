@@ -10,7 +10,7 @@
 #include "commands.h"
 #include "messages.h"
 
-enum { MOST = IMAGE_HEADER_BYTES + OLLSKUVAN_RING_MAX };
+enum { MOST = IMAGE_HEADER_BYTES + OLLSKUVAN_RING_MAX + IMAGE_BRANCH_BYTES };
 
 /* ---- reading ---- */
 
@@ -31,6 +31,11 @@ static bool read_bytes(struct image *image, FILE *file)
     return false;
 }
 
+static bool length_is_allowed(size_t length)
+{
+    return length >= OLLSKUVAN_RING_MIN && length <= OLLSKUVAN_RING_MAX && (length & (length - 1)) == 0;
+}
+
 static void split(struct image *image)
 {
     const uint8_t *at = image->bytes;
@@ -46,6 +51,10 @@ static void split(struct image *image)
     image->sample_id_all = at[49];
     image->ring = at + IMAGE_HEADER_BYTES;
     image->length = image->present - IMAGE_HEADER_BYTES;
+    if (image->length >= IMAGE_BRANCH_BYTES && length_is_allowed(image->length - IMAGE_BRANCH_BYTES)) {
+        image->length -= IMAGE_BRANCH_BYTES;
+        image->branch_sample_type = little(image->ring + image->length, 8);
+    }
 }
 
 bool image_read(struct image *image, const char *path)
@@ -73,11 +82,6 @@ void image_free(struct image *image)
 }
 
 /* ---- what is wrong with it ---- */
-
-static bool length_is_allowed(size_t length)
-{
-    return length >= OLLSKUVAN_RING_MIN && length <= OLLSKUVAN_RING_MAX && (length & (length - 1)) == 0;
-}
 
 bool image_is_none(const struct image *image)
 {
@@ -122,8 +126,8 @@ uint8_t *image_drain(const struct image *image, struct ollskuvan_drained *done)
         return NULL;
     }
     *done = ollskuvan_drain(image->ring, image->length, image->head, image->tail, image->sample_type,
-        image->read_format, image->sample_id_all, image->user_mask, image->interrupt_mask, image->edition, UINT64_MAX,
-        scratch, sizeof scratch, journal, room);
+        image->read_format, image->sample_id_all, image->user_mask, image->interrupt_mask, image->branch_sample_type,
+        image->edition, UINT64_MAX, scratch, sizeof scratch, journal, room);
     return journal;
 }
 
@@ -132,8 +136,8 @@ struct ollskuvan_one image_read_one(const struct image *image, uint64_t tail, ui
 {
     static uint8_t scratch[OLLSKUVAN_RECORD_MAX];
     struct ollskuvan_one one = ollskuvan_read_one(image->ring, image->length, image->head, tail, image->sample_type,
-        image->read_format, image->sample_id_all, image->user_mask, image->interrupt_mask, image->edition, scratch,
-        sizeof scratch, fields, OLLSKUVAN_FIELDS);
+        image->read_format, image->sample_id_all, image->user_mask, image->interrupt_mask, image->branch_sample_type,
+        image->edition, scratch, sizeof scratch, fields, OLLSKUVAN_FIELDS);
     *record = (one.in_scratch != 0 ? scratch : image->ring) + one.place;
     return one;
 }

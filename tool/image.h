@@ -2,6 +2,10 @@
  * A saved ring: document 01's input of the program, 50 bytes and the ring. Rings
  * are taken up to the greatest length that the library allows, and not only up
  * to ringdump's 16,384 bytes.
+ *
+ * Where the event had a branch sample type, its 8 bytes follow the ring. A ring's
+ * length is a power of two from 64 on, so the bytes behind the first 50 tell
+ * whether they are there: 8 more than a power of two. Without them it is 0.
  */
 #ifndef TOOL_IMAGE_H
 #define TOOL_IMAGE_H
@@ -12,11 +16,11 @@
 
 #include "ollskuvan.h"
 
-enum { IMAGE_HEADER_BYTES = 50 };
+enum { IMAGE_HEADER_BYTES = 50, IMAGE_BRANCH_BYTES = 8 };
 
 struct image {
     const char *name; /* for messages */
-    uint64_t head, tail, sample_type, read_format, user_mask, interrupt_mask;
+    uint64_t head, tail, sample_type, read_format, user_mask, interrupt_mask, branch_sample_type;
     uint32_t edition, sample_id_all;
     const uint8_t *ring;
     size_t length;  /* of the ring; one more than is allowed stands for any longer one */

@@ -44,6 +44,16 @@ void show_read_format(uint64_t read_format)
     show_bits(read_format, names, sizeof names / sizeof names[0]);
 }
 
+/* The names are linux/perf_event.h's, in words. */
+void show_branch_type(uint64_t branch_sample_type)
+{
+    static const char *const names[] = { "user", "kernel", "hypervisor", "any", "any call", "any return", "indirect call",
+        "abort of a transaction", "in a transaction", "in no transaction", "conditional", "call stack", "indirect jump",
+        "call", "no flags", "no cycles", "type saved", "hardware index", "privilege saved" };
+    printf("0x%" PRIx64, branch_sample_type);
+    show_bits(branch_sample_type, names, sizeof names / sizeof names[0]);
+}
+
 /* Bits 13 and 14 mean something else for each type: at most one of its bit's meanings is among those of the record. */
 static const char *meaning_of_bit(unsigned bit, uint32_t meaning)
 {
@@ -246,10 +256,12 @@ bool is_selected(const struct value *value, const struct ollskuvan_word *row)
 {
     const struct ollskuvan_when *when = &row->when;
     uint64_t format = value->image->read_format, misc = value->fields[OLLSKUVAN_MISC];
+    uint64_t branch = value->image->branch_sample_type;
     if (row->word >= OLLSKUVAN_TRAILER_PID && value->image->sample_id_all == 0)
         return false;
     return (when->sample == 0 || (value->image->sample_type & when->sample) != 0) &&
         (format & when->format_set) == when->format_set && (format & when->format_clear) == 0 &&
+        (branch & when->branch) == when->branch &&
         (misc & when->misc_set) == when->misc_set && (misc & when->misc_clear) == 0 &&
         (when->not_zero == 0 || value->fields[when->not_zero] != 0);
 }

@@ -34,6 +34,7 @@ void show_misc(uint64_t type, uint64_t misc);
 /* "0x86 (pid and tid, time, cpu)" */
 void show_sample_type(uint64_t sample_type);
 void show_read_format(uint64_t read_format);
+void show_branch_type(uint64_t branch_sample_type);
 
 /* Sixteen bytes a line; a few of them unless the whole is wanted. */
 void show_bytes(const uint8_t *bytes, size_t count, bool whole);

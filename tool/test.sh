@@ -65,9 +65,10 @@ $out/names || wrong "the names of words, types and answers"
 
 # ---- the header's sentences on values and stack
 mkdir -p $out/made && $out/values made $out/made || wrong "the images of every type"
+mkdir -p $out/indexed && $out/values indexed $out/indexed || wrong "the images with a branch sample type"
 $out/values check >$out/values.txt || { wrong "the header's sentences on values"; head $out/values.txt; }
 tail -n 1 $out/values.txt
-$out/stack rings/*.img examples/rings/*.img $out/made/*.img || wrong "a call uses more stack than the header says"
+$out/stack rings/*.img examples/rings/*.img $out/made/*.img $out/indexed/*.img || wrong "a call uses more stack than the header says"
 
 # ---- every ring: dump beside ringdump, from a file and from standard input
 records() { # what a dump says in ringdump's terms: type and answer of each record
@@ -97,8 +98,26 @@ for image in rings/*.img examples/rings/*.img $out/made/*.img; do
 done
 [ $tried -ge 18 ] || wrong "only $tried rings were read"
 
+# ---- images with a branch sample type, 8 bytes behind the ring: ringdump takes none of them, and reads none wrongly
+for image in $out/indexed/*.img; do
+  name=$(basename "$image" .img)
+  target/bin/ringdump <"$image" | grep -q '^stop 1 tail ' || wrong "ringdump takes $image for a ring"
+  $tool dump "$image" >"$out/$name.txt" || wrong "dump $image failed"
+  $tool dump - <"$image" | cmp -s - "$out/$name.txt" || wrong "dump of standard input: $image"
+  $tool journal "$image" >$out/journal.txt || wrong "journal $image failed"
+  cmp -s <(records <"$out/$name.txt") <(entries <$out/journal.txt) || wrong "dump $image: other answers than its journal"
+  tried=$((tried + 1))
+done
+# the same ring as an image of before, without the 8 bytes: the branch sample type is 0, and the index a word too many
+head -c -8 $out/indexed/indexed.img >$out/not-indexed.img
+$tool dump $out/not-indexed.img | grep -q '^branch type 0x0$' || wrong "an image without a branch sample type"
+$tool journal $out/not-indexed.img | cmp -s - <(target/bin/ringdump <$out/not-indexed.img) ||
+  wrong "journal of an image without a branch sample type is not ringdump's"
+{ head -c -8 $out/indexed/indexed.img; head -c 8 /dev/zero; } >$out/indexed-0.img
+$tool dump $out/indexed-0.img | cmp -s - <($tool dump $out/not-indexed.img) || wrong "a branch sample type of 0 behind the ring"
+
 # ---- the dumps that are kept
-for name in tasks kernel every-type every-type-plain every-type-edition-2; do
+for name in tasks kernel every-type every-type-plain every-type-edition-2 indexed indexed-edition-2; do
   if [ "${1:-}" = --write ]; then
     cp "$out/$name.txt" "tool/expected/$name.txt"
   else
@@ -133,6 +152,8 @@ head -c 49 rings/tasks.img >$out/49.img
 head -c 50 rings/tasks.img >$out/50.img
 head -c $((50 + 63)) rings/tasks.img >$out/63.img
 head -c $((50 + 4095)) rings/tasks.img >$out/4095.img
+head -c -1 $out/indexed/indexed.img >$out/7-behind.img
+{ cat $out/indexed/indexed.img; printf 0; } >$out/9-behind.img
 { cat rings/tasks.img; head -c 1048576 /dev/zero; } >$out/long.img
 { printf PERFILE2; head -c 4000 /dev/zero; } >$out/perf.data
 refuses 1 'No such file' dump $out/none.img
@@ -144,6 +165,8 @@ refuses 1 '0 bytes follow the first 50, and a ring' dump $out/50.img
 refuses 1 '63 bytes follow' dump $out/63.img
 refuses 1 "4095 bytes follow the first 50, and a ring's length is a power of two from 64 to 1048576" dump $out/4095.img
 refuses 1 'more than 1048576 bytes follow' dump $out/long.img
+refuses 1 '8199 bytes follow' dump $out/7-behind.img
+refuses 1 '8201 bytes follow' dump $out/9-behind.img
 refuses 1 'perf.data' dump $out/perf.data
 patch edition 48 '\007'
 patch head-odd 0 '\001'
@@ -237,7 +260,7 @@ if [ -x target/examples/decode ]; then
 fi
 
 # ---- damaged images under the sanitizers
-$out/damage ${DAMAGED:-1000} $out/damaged.img rings/*.img examples/rings/*.img $out/made/*.img 2>$out/damage.txt ||
+$out/damage ${DAMAGED:-1000} $out/damaged.img rings/*.img examples/rings/*.img $out/made/*.img $out/indexed/*.img 2>$out/damage.txt ||
   { wrong "dump or journal of a damaged image: $(head -n 20 $out/damage.txt)"; }
 said=$(grep -E 'runtime error|Sanitizer' $out/damage.txt | head -n 3)
 [ -z "$said" ] || wrong "the sanitizers: $said"

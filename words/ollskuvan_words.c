@@ -31,6 +31,7 @@ const struct ollskuvan_answer ollskuvan_answers[] = {
     { OLLSKUVAN_REFUSED_READ_FORMAT, NULL, "a read-format bit that the edition doesn't know" },
     { OLLSKUVAN_REFUSED_BUILD_ID, NULL, "a build id, which the edition doesn't know" },
     { OLLSKUVAN_REFUSED_WEIGHTS, NULL, "both kinds of weight are selected" },
+    { OLLSKUVAN_REFUSED_BRANCH_TYPE, NULL, "a branch bit that the edition doesn't know" },
     { OLLSKUVAN_REFUSED_SHORT, NULL, "a field passes the record's end" },
     { OLLSKUVAN_REFUSED_LEFT_OVER, NULL, "bytes are left over after the last field" },
     { OLLSKUVAN_REFUSED_INNER, NULL, "a size or length inside breaks its rule" },
@@ -99,17 +100,18 @@ const char *ollskuvan_type_name(uint64_t type)
 #define TRAILER(FIELD, NAME, WIDTH, FORM, WHEN) \
     { 0, OLLSKUVAN_TRAILER_##FIELD, NAME, WIDTH, OLLSKUVAN_FORM_##FORM, 0, WHEN }
 
-#define ALWAYS { 0, 0, 0, 0, 0, 0 }
-#define BIT(NAME) { OLLSKUVAN_BIT_##NAME, 0, 0, 0, 0, 0 }
-#define EITHER(ONE, OTHER) { OLLSKUVAN_BIT_##ONE | OLLSKUVAN_BIT_##OTHER, 0, 0, 0, 0, 0 }
-#define BIT_AND_WORD(NAME, WORD) { OLLSKUVAN_BIT_##NAME, 0, 0, 0, 0, OLLSKUVAN_##WORD }
-#define BUILD_ID { 0, 0, 0, OLLSKUVAN_MISC_MMAP_BUILD_ID, 0, 0 }
-#define NO_BUILD_ID { 0, 0, 0, 0, OLLSKUVAN_MISC_MMAP_BUILD_ID, 0 }
+#define ALWAYS { 0, 0, 0, 0, 0, 0, 0 }
+#define BIT(NAME) { OLLSKUVAN_BIT_##NAME, 0, 0, 0, 0, 0, 0 }
+#define EITHER(ONE, OTHER) { OLLSKUVAN_BIT_##ONE | OLLSKUVAN_BIT_##OTHER, 0, 0, 0, 0, 0, 0 }
+#define BIT_AND_WORD(NAME, WORD) { OLLSKUVAN_BIT_##NAME, 0, 0, 0, 0, 0, OLLSKUVAN_##WORD }
+#define BIT_AND_BRANCH(NAME, BRANCH) { OLLSKUVAN_BIT_##NAME, 0, 0, OLLSKUVAN_BRANCH_##BRANCH, 0, 0, 0 }
+#define BUILD_ID { 0, 0, 0, 0, OLLSKUVAN_MISC_MMAP_BUILD_ID, 0, 0 }
+#define NO_BUILD_ID { 0, 0, 0, 0, 0, OLLSKUVAN_MISC_MMAP_BUILD_ID, 0 }
 /* Read values: without read-format bit 3 a value and its id, with it a list; the times in both. */
-#define TIMES(SAMPLE, NAME) { SAMPLE, OLLSKUVAN_READ_FORMAT_##NAME, 0, 0, 0, 0 }
-#define ALONE(SAMPLE) { SAMPLE, 0, OLLSKUVAN_READ_FORMAT_GROUP, 0, 0, 0 }
-#define ALONE_AND(SAMPLE, NAME) { SAMPLE, OLLSKUVAN_READ_FORMAT_##NAME, OLLSKUVAN_READ_FORMAT_GROUP, 0, 0, 0 }
-#define GROUP(SAMPLE) { SAMPLE, OLLSKUVAN_READ_FORMAT_GROUP, 0, 0, 0, 0 }
+#define TIMES(SAMPLE, NAME) { SAMPLE, OLLSKUVAN_READ_FORMAT_##NAME, 0, 0, 0, 0, 0 }
+#define ALONE(SAMPLE) { SAMPLE, 0, OLLSKUVAN_READ_FORMAT_GROUP, 0, 0, 0, 0 }
+#define ALONE_AND(SAMPLE, NAME) { SAMPLE, OLLSKUVAN_READ_FORMAT_##NAME, OLLSKUVAN_READ_FORMAT_GROUP, 0, 0, 0, 0 }
+#define GROUP(SAMPLE) { SAMPLE, OLLSKUVAN_READ_FORMAT_GROUP, 0, 0, 0, 0, 0 }
 
 const struct ollskuvan_word ollskuvan_words[] = {
     HEADER(TYPE, "type", 4),
@@ -186,7 +188,7 @@ const struct ollskuvan_word ollskuvan_words[] = {
     FIELD(SAMPLE, RAW_COUNT, "raw size", 4, COUNT, BIT(RAW)),
     LIST(SAMPLE, RAW, "raw", RAW_COUNT, BYTES, BIT(RAW)),
     FIELD(SAMPLE, BRANCHES_COUNT, "branches count", 8, COUNT, BIT(BRANCHES)),
-    FIELD(SAMPLE, HW_INDEX, "hardware index", 8, KEPT, ALWAYS),
+    FIELD(SAMPLE, HW_INDEX, "hardware index", 8, HEX, BIT_AND_BRANCH(BRANCHES, HW_INDEX)),
     LIST(SAMPLE, BRANCHES, "branches", BRANCHES_COUNT, BRANCHES, BIT(BRANCHES)),
     FIELD(SAMPLE, USER_ABI, "user abi", 8, ABI, BIT(USER_REGISTERS)),
     LIST(SAMPLE, USER_REGISTERS, "user registers", USER_REGISTERS_COUNT, USER_REGISTERS, BIT(USER_REGISTERS)),

@@ -38,6 +38,7 @@ struct ollskuvan_when {
     uint64_t sample;       /* one of these bits of the sample type is set */
     uint64_t format_set;   /* all of these bits of the read format are set */
     uint64_t format_clear; /* none of these is set */
+    uint64_t branch;       /* all of these bits of the branch sample type are set */
     uint16_t misc_set;
     uint16_t misc_clear;
     uint8_t not_zero; /* this word of the value is not 0 */

@@ -12,6 +12,7 @@ fn parse_info(numbers: &[u64]) -> RecordParseInfo {
     attr[24..32].copy_from_slice(&numbers[0].to_le_bytes()); // sample type
     attr[32..40].copy_from_slice(&numbers[1].to_le_bytes()); // read format
     attr[40..48].copy_from_slice(&(u64::from(numbers[2] != 0) << 18).to_le_bytes()); // sample_id_all
+    attr[72..80].copy_from_slice(&numbers[5].to_le_bytes()); // branch sample type
     attr[80..88].copy_from_slice(&numbers[3].to_le_bytes()); // user mask
     attr[96..104].copy_from_slice(&numbers[4].to_le_bytes()); // interrupt mask
     let attr = PerfEventAttr::parse::<_, byteorder::LittleEndian>(&attr[..], None).expect("attributes");
@@ -38,12 +39,12 @@ fn main() {
     for line in std::io::stdin().lock().lines() {
         let line = line.expect("a line");
         let words: Vec<&str> = line.split(' ').collect();
-        let numbers: Vec<u64> = words[1..7].iter().map(|w| w.parse().expect("a number")).collect();
-        let record: Vec<u8> = (0..words[7].len() / 2)
-            .map(|i| u8::from_str_radix(&words[7][2 * i..2 * i + 2], 16).expect("hexadecimal"))
+        let numbers: Vec<u64> = words[1..8].iter().map(|w| w.parse().expect("a number")).collect();
+        let record: Vec<u8> = (0..words[8].len() / 2)
+            .map(|i| u8::from_str_radix(&words[8][2 * i..2 * i + 2], 16).expect("hexadecimal"))
             .collect();
-        let info = parse_info(&numbers[..5]);
-        let said = std::panic::catch_unwind(|| answer(&record, numbers[5] as usize, info));
+        let info = parse_info(&numbers[..6]);
+        let said = std::panic::catch_unwind(|| answer(&record, numbers[6] as usize, info));
         let said = said.unwrap_or_else(|_| "the program ends (panic)".to_string());
         println!("{}: {}", words[0], said.chars().take(420).collect::<String>());
     }

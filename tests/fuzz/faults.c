@@ -10,16 +10,16 @@
 #include "ollskuvan.h"
 
 struct ollskuvan_drained reader_drain(const uint8_t *, size_t, uint64_t, uint64_t, uint64_t, uint64_t, uint32_t,
-    uint64_t, uint64_t, uint32_t, uint64_t, uint8_t *, size_t, uint8_t *, size_t);
-uint32_t reader_check(const uint8_t *, size_t, uint64_t, uint64_t, uint32_t, uint64_t, uint64_t, uint32_t);
+    uint64_t, uint64_t, uint64_t, uint32_t, uint64_t, uint8_t *, size_t, uint8_t *, size_t);
+uint32_t reader_check(const uint8_t *, size_t, uint64_t, uint64_t, uint32_t, uint64_t, uint64_t, uint64_t, uint32_t);
 uint32_t reader_misc_meaning(uint64_t, uint64_t);
 uint32_t reader_copy_name(const uint8_t *, size_t, uint64_t, uint64_t, uint8_t *, size_t);
-uint32_t reader_read(const uint8_t *, size_t, uint64_t, uint64_t, uint32_t, uint64_t, uint64_t, uint32_t,
+uint32_t reader_read(const uint8_t *, size_t, uint64_t, uint64_t, uint32_t, uint64_t, uint64_t, uint64_t, uint32_t,
     uint64_t *, size_t);
 struct ollskuvan_one reader_read_one(const uint8_t *, size_t, uint64_t, uint64_t, uint64_t, uint64_t, uint32_t,
-    uint64_t, uint64_t, uint32_t, uint8_t *, size_t, uint64_t *, size_t);
+    uint64_t, uint64_t, uint64_t, uint32_t, uint8_t *, size_t, uint64_t *, size_t);
 uint32_t reader_write(const uint64_t *, size_t, const uint8_t *, size_t, uint64_t, uint64_t, uint32_t, uint64_t,
-    uint64_t, uint32_t, uint8_t *, size_t);
+    uint64_t, uint64_t, uint32_t, uint8_t *, size_t);
 
 static int fault(int number) { return FAULT == number; }
 
@@ -28,7 +28,8 @@ static volatile uint8_t seen;
 
 struct ollskuvan_drained ollskuvan_drain(const uint8_t *ring, size_t ring_len, uint64_t head, uint64_t tail,
     uint64_t sample_type, uint64_t read_format, uint32_t sample_id_all, uint64_t user_mask, uint64_t interrupt_mask,
-    uint32_t edition, uint64_t budget, uint8_t *scratch, size_t scratch_len, uint8_t *journal, size_t journal_len)
+    uint64_t branch_sample_type, uint32_t edition, uint64_t budget, uint8_t *scratch, size_t scratch_len,
+    uint8_t *journal, size_t journal_len)
 {
     struct ollskuvan_drained d;
     uint64_t i;
@@ -42,7 +43,7 @@ struct ollskuvan_drained ollskuvan_drain(const uint8_t *ring, size_t ring_len, u
     if (fault(4) && edition > 255) /* the edition narrowed to a byte */
         edition &= 255;
     d = reader_drain(ring, ring_len, head, tail, sample_type, read_format, sample_id_all, user_mask, interrupt_mask,
-        edition, budget, scratch, scratch_len, journal, journal_len);
+        branch_sample_type, edition, budget, scratch, scratch_len, journal, journal_len);
     if (fault(5)) { /* the drain ends at a body refusal */
         for (i = 0; i < d.taken; i++)
             if (journal[16 * i + OLLSKUVAN_JOURNAL_ANSWER] >= 30) {
@@ -64,7 +65,8 @@ struct ollskuvan_drained ollskuvan_drain(const uint8_t *ring, size_t ring_len, u
 }
 
 uint32_t ollskuvan_check(const uint8_t *record, size_t record_len, uint64_t sample_type, uint64_t read_format,
-    uint32_t sample_id_all, uint64_t user_mask, uint64_t interrupt_mask, uint32_t edition)
+    uint32_t sample_id_all, uint64_t user_mask, uint64_t interrupt_mask, uint64_t branch_sample_type,
+    uint32_t edition)
 {
     uint32_t answer;
 
@@ -75,10 +77,15 @@ uint32_t ollskuvan_check(const uint8_t *record, size_t record_len, uint64_t samp
     if (fault(12) && record_len) /* one byte past the record is read */
         seen = record[record_len];
     answer = reader_check(record, record_len, sample_type, read_format, sample_id_all, user_mask, interrupt_mask,
-        edition);
+        branch_sample_type, edition);
     if (fault(13) && answer == OLLSKUVAN_REFUSED_INNER) /* an inner rule is not tested */
         answer = OLLSKUVAN_OK;
     if (fault(14) && answer == OLLSKUVAN_REFUSED_WEIGHTS) /* both weights are accepted */
+        answer = OLLSKUVAN_OK;
+    if (fault(34) && (sample_type & OLLSKUVAN_BIT_BRANCHES) && record_len >= 8) /* the hardware index is not known */
+        answer = reader_check(record, record_len, sample_type, read_format, sample_id_all, user_mask, interrupt_mask,
+            branch_sample_type & ~OLLSKUVAN_BRANCH_HW_INDEX, edition);
+    if (fault(35) && answer == OLLSKUVAN_REFUSED_BRANCH_TYPE && branch_sample_type >> 19 == 0) /* read in edition 2 */
         answer = OLLSKUVAN_OK;
     return answer;
 }
@@ -109,11 +116,11 @@ uint32_t ollskuvan_copy_name(const uint8_t *record, size_t record_len, uint64_t 
 }
 
 uint32_t ollskuvan_read(const uint8_t *record, size_t record_len, uint64_t sample_type, uint64_t read_format,
-    uint32_t sample_id_all, uint64_t user_mask, uint64_t interrupt_mask, uint32_t edition,
-    uint64_t *fields, size_t fields_len)
+    uint32_t sample_id_all, uint64_t user_mask, uint64_t interrupt_mask, uint64_t branch_sample_type,
+    uint32_t edition, uint64_t *fields, size_t fields_len)
 {
     uint32_t answer = reader_read(record, record_len, sample_type, read_format, sample_id_all, user_mask,
-        interrupt_mask, edition, fields, fields_len);
+        interrupt_mask, branch_sample_type, edition, fields, fields_len);
 
     if (fault(17) && answer != OLLSKUVAN_OK && fields_len) /* a word changed although the record is refused */
         fields[0] = 0;
@@ -123,15 +130,18 @@ uint32_t ollskuvan_read(const uint8_t *record, size_t record_len, uint64_t sampl
         fields[OLLSKUVAN_TRAILER_CPU] = fields[OLLSKUVAN_TRAILER_IDENTIFIER]; /* the last word taken for the cpu */
     if (fault(20) && answer == OLLSKUVAN_REFUSED_ROOM) /* too few words are no refusal */
         answer = OLLSKUVAN_OK;
+    if (fault(36) && answer == OLLSKUVAN_OK && fields[OLLSKUVAN_TYPE] == OLLSKUVAN_TYPE_SAMPLE)
+        fields[OLLSKUVAN_SAMPLE_HW_INDEX] = 0; /* the index is read and not told */
     return answer;
 }
 
 struct ollskuvan_one ollskuvan_read_one(const uint8_t *ring, size_t ring_len, uint64_t head, uint64_t tail,
     uint64_t sample_type, uint64_t read_format, uint32_t sample_id_all, uint64_t user_mask, uint64_t interrupt_mask,
-    uint32_t edition, uint8_t *scratch, size_t scratch_len, uint64_t *fields, size_t fields_len)
+    uint64_t branch_sample_type, uint32_t edition, uint8_t *scratch, size_t scratch_len, uint64_t *fields,
+    size_t fields_len)
 {
     struct ollskuvan_one one = reader_read_one(ring, ring_len, head, tail, sample_type, read_format, sample_id_all,
-        user_mask, interrupt_mask, edition, scratch, scratch_len, fields, fields_len);
+        user_mask, interrupt_mask, branch_sample_type, edition, scratch, scratch_len, fields, fields_len);
 
     if (fault(28) && one.size && one.answer) /* the tail stays at a refused record */
         one.tail = tail;
@@ -150,14 +160,14 @@ struct ollskuvan_one ollskuvan_read_one(const uint8_t *ring, size_t ring_len, ui
 
 uint32_t ollskuvan_write(const uint64_t *fields, size_t fields_len, const uint8_t *source, size_t source_len,
     uint64_t sample_type, uint64_t read_format, uint32_t sample_id_all, uint64_t user_mask, uint64_t interrupt_mask,
-    uint32_t edition, uint8_t *buffer, size_t buffer_len)
+    uint64_t branch_sample_type, uint32_t edition, uint8_t *buffer, size_t buffer_len)
 {
     uint32_t answer;
 
     if (fault(21) && source_len) /* one byte past the source is read */
         seen = source[source_len];
     answer = reader_write(fields, fields_len, source, source_len, sample_type, read_format, sample_id_all, user_mask,
-        interrupt_mask, edition, buffer, buffer_len);
+        interrupt_mask, branch_sample_type, edition, buffer, buffer_len);
     if (fault(22) && answer == OLLSKUVAN_OK && buffer_len > fields[OLLSKUVAN_SIZE]) /* a byte after the record */
         buffer[fields[OLLSKUVAN_SIZE]] ^= 1;
     if (fault(23) && answer == OLLSKUVAN_REFUSED_VALUE && buffer_len < 8) /* 40 before 42 */

@@ -8,8 +8,9 @@
  * outside a slice is still seen, every slice that is lent to it lies against a page that cannot be
  * touched: after its end, or before its start if flag AT_START is set; on its other side are guard bytes.
  *
- * An input is a control block of 48 bytes, then what ringdump takes: head, tail, sample type, read
- * format, user mask, interrupt mask (8 bytes each), edition, sample_id_all (1 byte each), and bytes.
+ * An input is a control block of 48 bytes, the branch sample type (8 bytes), then what ringdump takes: head,
+ * tail, sample type, read format, user mask, interrupt mask (8 bytes each), edition, sample_id_all (1 byte
+ * each), and bytes.
  * What is missing is zero. The control block:
  *   0  the call, modulo 4: drain (and read one), ringdump, record (check, misc, name copy, read, write again), write
  *   1  flags, see below            2  LAID: the ring's length is 64 << (this modulo 9)
@@ -33,7 +34,7 @@
 
 #include "ollskuvan.h"
 
-enum { CONTROL = 48, HEADER = 50, LONGEST = 65536, FIELDS = OLLSKUVAN_FIELDS };
+enum { CONTROL = 48, BRANCH = 8, HEADER = 50, LONGEST = 65536, FIELDS = OLLSKUVAN_FIELDS };
 
 enum {
     LAID = 1,          /* the bytes are records, laid into a ring from the tail on; else they are the ring */
@@ -47,16 +48,16 @@ enum {
 
 /* The independent reader, and ringdump with its main, read and write renamed. */
 struct ollskuvan_drained reader_drain(const uint8_t *, size_t, uint64_t, uint64_t, uint64_t, uint64_t, uint32_t,
-    uint64_t, uint64_t, uint32_t, uint64_t, uint8_t *, size_t, uint8_t *, size_t);
-uint32_t reader_check(const uint8_t *, size_t, uint64_t, uint64_t, uint32_t, uint64_t, uint64_t, uint32_t);
+    uint64_t, uint64_t, uint64_t, uint32_t, uint64_t, uint8_t *, size_t, uint8_t *, size_t);
+uint32_t reader_check(const uint8_t *, size_t, uint64_t, uint64_t, uint32_t, uint64_t, uint64_t, uint64_t, uint32_t);
 uint32_t reader_misc_meaning(uint64_t, uint64_t);
 uint32_t reader_copy_name(const uint8_t *, size_t, uint64_t, uint64_t, uint8_t *, size_t);
-uint32_t reader_read(const uint8_t *, size_t, uint64_t, uint64_t, uint32_t, uint64_t, uint64_t, uint32_t,
+uint32_t reader_read(const uint8_t *, size_t, uint64_t, uint64_t, uint32_t, uint64_t, uint64_t, uint64_t, uint32_t,
     uint64_t *, size_t);
 struct ollskuvan_one reader_read_one(const uint8_t *, size_t, uint64_t, uint64_t, uint64_t, uint64_t, uint32_t,
-    uint64_t, uint64_t, uint32_t, uint8_t *, size_t, uint64_t *, size_t);
+    uint64_t, uint64_t, uint64_t, uint32_t, uint8_t *, size_t, uint64_t *, size_t);
 uint32_t reader_write(const uint64_t *, size_t, const uint8_t *, size_t, uint64_t, uint64_t, uint32_t, uint64_t,
-    uint64_t, uint32_t, uint8_t *, size_t);
+    uint64_t, uint64_t, uint32_t, uint8_t *, size_t);
 size_t reader_print(const uint8_t *, size_t, uint8_t *, size_t);
 size_t reader_mutate(uint8_t *, size_t, size_t, uint32_t);
 int ringdump_main(void);
@@ -71,13 +72,14 @@ size_t LLVMFuzzerMutate(uint8_t *, size_t, size_t);
 /* The input that is being tried. */
 static struct {
     uint8_t control[CONTROL];
-    uint64_t head, tail, sample_type, read_format, user_mask, interrupt_mask;
+    uint64_t head, tail, sample_type, read_format, user_mask, interrupt_mask, branch_sample_type;
     uint32_t edition, sample_id_all;
     uint8_t bytes[LONGEST];
     size_t count;
 } in;
 
-#define ATTRIBUTES in.sample_type, in.read_format, in.sample_id_all, in.user_mask, in.interrupt_mask, in.edition
+#define ATTRIBUTES in.sample_type, in.read_format, in.sample_id_all, in.user_mask, in.interrupt_mask, \
+    in.branch_sample_type, in.edition
 
 /* ---- What was reached: told to libFuzzer as if it were coverage, and counted for the end's report. ---- */
 
@@ -146,8 +148,9 @@ static void differs(const char *words, ...)
     vfprintf(stderr, words, rest);
     va_end(rest);
     fprintf(stderr, "\n  edition %" PRIu32 "  sample type %#" PRIx64 "  read format %#" PRIx64
-        "  sample_id_all %#" PRIx32 "  user mask %#" PRIx64 "  interrupt mask %#" PRIx64 "\n", in.edition,
-        in.sample_type, in.read_format, in.sample_id_all, in.user_mask, in.interrupt_mask);
+        "  sample_id_all %#" PRIx32 "  user mask %#" PRIx64 "  interrupt mask %#" PRIx64 "  branch %#" PRIx64 "\n",
+        in.edition, in.sample_type, in.read_format, in.sample_id_all, in.user_mask, in.interrupt_mask,
+        in.branch_sample_type);
     executions = 0;
     abort();
 }
@@ -720,11 +723,12 @@ static uint64_t get64(const uint8_t *at)
 
 static void take_input(const uint8_t *data, size_t size)
 {
-    uint8_t head[CONTROL + HEADER] = { 0 };
-    const uint8_t *at = head + CONTROL;
+    uint8_t head[CONTROL + BRANCH + HEADER] = { 0 };
+    const uint8_t *at = head + CONTROL + BRANCH;
 
     memcpy(head, data, size < sizeof head ? size : sizeof head);
     memcpy(in.control, head, CONTROL);
+    in.branch_sample_type = get64(head + CONTROL);
     in.head = get64(at);
     in.tail = get64(at + 8);
     in.sample_type = get64(at + 16);
@@ -763,7 +767,7 @@ int LLVMFuzzerInitialize(int *count, char ***words)
 
 int LLVMFuzzerTestOneInput(const uint8_t *data, size_t size)
 {
-    if (size > CONTROL + HEADER + LONGEST)
+    if (size > CONTROL + BRANCH + HEADER + LONGEST)
         return 0;
     executions++;
     take_input(data, size);

@@ -25,12 +25,12 @@ pub struct COne {
 extern "C" {
     pub fn ollskuvan_drain(
         ring: *const u8, ring_len: usize, head: u64, tail: u64, sample_type: u64, read_format: u64,
-        sample_id_all: u32, user_mask: u64, interrupt_mask: u64, edition: u32, budget: u64,
+        sample_id_all: u32, user_mask: u64, interrupt_mask: u64, branch_sample_type: u64, edition: u32, budget: u64,
         scratch: *mut u8, scratch_len: usize, journal: *mut u8, journal_len: usize,
     ) -> CDrained;
     pub fn ollskuvan_check(
         record: *const u8, record_len: usize, sample_type: u64, read_format: u64, sample_id_all: u32,
-        user_mask: u64, interrupt_mask: u64, edition: u32,
+        user_mask: u64, interrupt_mask: u64, branch_sample_type: u64, edition: u32,
     ) -> u32;
     pub fn ollskuvan_misc_meaning(kind: u64, misc: u64) -> u32;
     pub fn ollskuvan_copy_name(
@@ -39,18 +39,18 @@ extern "C" {
     #[cfg(not(without_values))]
     pub fn ollskuvan_read(
         record: *const u8, record_len: usize, sample_type: u64, read_format: u64, sample_id_all: u32,
-        user_mask: u64, interrupt_mask: u64, edition: u32, fields: *mut u64, fields_len: usize,
+        user_mask: u64, interrupt_mask: u64, branch_sample_type: u64, edition: u32, fields: *mut u64, fields_len: usize,
     ) -> u32;
     #[cfg(not(without_values))]
     pub fn ollskuvan_read_one(
         ring: *const u8, ring_len: usize, head: u64, tail: u64, sample_type: u64, read_format: u64,
-        sample_id_all: u32, user_mask: u64, interrupt_mask: u64, edition: u32, scratch: *mut u8,
+        sample_id_all: u32, user_mask: u64, interrupt_mask: u64, branch_sample_type: u64, edition: u32, scratch: *mut u8,
         scratch_len: usize, fields: *mut u64, fields_len: usize,
     ) -> COne;
     #[cfg(not(without_values))]
     pub fn ollskuvan_write(
         fields: *const u64, fields_len: usize, source: *const u8, source_len: usize, sample_type: u64,
-        read_format: u64, sample_id_all: u32, user_mask: u64, interrupt_mask: u64, edition: u32,
+        read_format: u64, sample_id_all: u32, user_mask: u64, interrupt_mask: u64, branch_sample_type: u64, edition: u32,
         buffer: *mut u8, buffer_len: usize,
     ) -> u32;
 }
@@ -65,7 +65,7 @@ pub fn drain(
     let d = unsafe {
         ollskuvan_drain(
             ring.as_ptr(), ring.len(), head, tail, a.sample_type, a.read_format, a.sample_id_all, a.user_mask,
-            a.interrupt_mask, edition, budget, scratch.as_mut_ptr(), scratch.len(), journal.as_mut_ptr(),
+            a.interrupt_mask, a.branch_sample_type, edition, budget, scratch.as_mut_ptr(), scratch.len(), journal.as_mut_ptr(),
             journal.len(),
         )
     };
@@ -76,7 +76,7 @@ pub fn check(record: &[u8], a: &Attributes, edition: u32) -> u32 {
     unsafe {
         ollskuvan_check(
             record.as_ptr(), record.len(), a.sample_type, a.read_format, a.sample_id_all, a.user_mask,
-            a.interrupt_mask, edition,
+            a.interrupt_mask, a.branch_sample_type, edition,
         )
     }
 }
@@ -96,7 +96,7 @@ pub fn read(record: &[u8], a: &Attributes, edition: u32, fields: &mut [u64]) -> 
     unsafe {
         ollskuvan_read(
             record.as_ptr(), record.len(), a.sample_type, a.read_format, a.sample_id_all, a.user_mask,
-            a.interrupt_mask, edition, fields.as_mut_ptr(), fields.len(),
+            a.interrupt_mask, a.branch_sample_type, edition, fields.as_mut_ptr(), fields.len(),
         )
     }
 }
@@ -108,7 +108,7 @@ pub fn read_one(
     let o = unsafe {
         ollskuvan_read_one(
             ring.as_ptr(), ring.len(), head, tail, a.sample_type, a.read_format, a.sample_id_all, a.user_mask,
-            a.interrupt_mask, edition, scratch.as_mut_ptr(), scratch.len(), fields.as_mut_ptr(), fields.len(),
+            a.interrupt_mask, a.branch_sample_type, edition, scratch.as_mut_ptr(), scratch.len(), fields.as_mut_ptr(), fields.len(),
         )
     };
     One {
@@ -127,7 +127,7 @@ pub fn write(fields: &[u64], source: &[u8], a: &Attributes, edition: u32, buffer
     unsafe {
         ollskuvan_write(
             fields.as_ptr(), fields.len(), source.as_ptr(), source.len(), a.sample_type, a.read_format,
-            a.sample_id_all, a.user_mask, a.interrupt_mask, edition, buffer.as_mut_ptr(), buffer.len(),
+            a.sample_id_all, a.user_mask, a.interrupt_mask, a.branch_sample_type, edition, buffer.as_mut_ptr(), buffer.len(),
         )
     }
 }

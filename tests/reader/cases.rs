@@ -22,8 +22,8 @@ struct Lines {
 
 const KEYS: &[&str] = &[
     "what", "elsewhere", "call", "edition", "sample_type", "read_format", "sample_id_all", "user_mask",
-    "interrupt_mask", "record", "answer", "word", "ring", "head", "tail", "budget", "scratch", "journal", "records",
-    "stop", "new_tail", "entry",
+    "interrupt_mask", "branch_sample_type", "record", "answer", "word", "ring", "head", "tail", "budget", "scratch",
+    "journal", "records", "stop", "new_tail", "entry",
 ];
 
 impl Lines {
@@ -77,6 +77,7 @@ impl Lines {
             sample_id_all: self.number_or("sample_id_all", 0)? as u32,
             user_mask: self.number_or("user_mask", 0)?,
             interrupt_mask: self.number_or("interrupt_mask", 0)?,
+            branch_sample_type: self.number_or("branch_sample_type", 0)?,
         })
     }
 }
@@ -219,7 +220,7 @@ fn paths_of(folder: &Path) -> Result<Vec<PathBuf>, String> {
 }
 
 /// The records of the cases for programs that know no rings: name, sample type, read format,
-/// sample_id_all, user mask, interrupt mask, bytes before the ring's end, the first record.
+/// sample_id_all, user mask, interrupt mask, branch sample type, bytes before the ring's end, the first record.
 pub fn plain(folder: &Path) -> Result<(), String> {
     for path in paths_of(folder)? {
         let lines = Lines::parse(&fs::read_to_string(&path).map_err(|e| e.to_string())?)?;
@@ -233,13 +234,14 @@ pub fn plain(folder: &Path) -> Result<(), String> {
         }
         record.truncate(size);
         println!(
-            "{} {} {} {} {} {} {before} {}",
+            "{} {} {} {} {} {} {} {before} {}",
             path.file_stem().unwrap_or_default().to_string_lossy(),
             a.sample_type,
             a.read_format,
             a.sample_id_all,
             a.user_mask,
             a.interrupt_mask,
+            a.branch_sample_type,
             hex(&record)
         );
     }

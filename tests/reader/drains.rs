@@ -96,8 +96,8 @@ pub fn describe(case: &DrainCase) -> String {
 
 pub fn describe_attributes(a: &Attributes) -> String {
     format!(
-        "sample type {:#x}  read format {:#x}  sample_id_all {:#x}  user mask {:#x}  interrupt mask {:#x}",
-        a.sample_type, a.read_format, a.sample_id_all, a.user_mask, a.interrupt_mask
+        "sample type {:#x}  read format {:#x}  sample_id_all {:#x}  user mask {:#x}  interrupt mask {:#x}  branch {:#x}",
+        a.sample_type, a.read_format, a.sample_id_all, a.user_mask, a.interrupt_mask, a.branch_sample_type
     )
 }
 
@@ -257,11 +257,11 @@ fn record_of_size(r: &mut Random, kind: u32, a: &Attributes, size: usize) -> Vec
 
 pub const MUST: &[(&str, &[u32])] = &[
     ("drain", &[0, 1, 2, 3, 4, 5, 6, 7, 8, 9]),
-    ("check", &[0, 2, 6, 7, 20, 21, 22, 23, 24, 30, 31, 32, 33]),
+    ("check", &[0, 2, 6, 7, 20, 21, 22, 23, 24, 25, 30, 31, 32, 33]),
     ("name copy", &[0, 12, 41]),
 ];
 
-pub const BODY: &[u32] = &[0, 20, 21, 22, 23, 24, 30, 31, 32, 33];
+pub const BODY: &[u32] = &[0, 20, 21, 22, 23, 24, 25, 30, 31, 32, 33];
 
 /// Every record of the real rings: the drain as it is, and drains cut short.
 pub fn real_ring(name: &str, image: &ring::Image, tally: &mut Tally) -> Result<(), Difference> {

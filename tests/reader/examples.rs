@@ -1,5 +1,5 @@
-//! Document 01's own examples, P1 to P12 and the whole journal, and the settled readings of it,
-//! tried on the independent reader. No archive is needed.
+//! Document 01's own examples, P1 to P12 and the whole journal, the settled readings of it, and document
+//! 02's hardware index, tried on the independent reader. No archive is needed.
 
 use crate::record::*;
 use crate::ring::*;
@@ -62,9 +62,10 @@ pub fn run() -> bool {
     rings(&mut t);
     records(&mut t);
     readings(&mut t);
+    hardware_index(&mut t);
     program(&mut t);
     values(&mut t);
-    println!("examples of document 01: {} right, {} wrong", t.passed, t.failed);
+    println!("examples of documents 01 and 02: {} right, {} wrong", t.passed, t.failed);
     t.failed == 0
 }
 
@@ -201,6 +202,55 @@ fn readings(t: &mut Tried) {
     for (n, due) in [(1u64, 0), (2, 30), (1 << 60, 30), (0, 31)] {
         t.is("count never wraps", check(&made(8, 0, &words(&[1, n, 5, 6])), 3, &group), due);
     }
+}
+
+/// M-102: the word between count and entries, and 25.
+fn hardware_index(t: &mut Tried) {
+    let both = |sample_type, branch| Attributes { sample_type, branch_sample_type: branch, ..Attributes::EMPTY };
+    let index = 1u64 << 17;
+    // one branch, then a weight: n, the index, from, to, flags, weight
+    let record = made(9, 0, &words(&[1, 7, 11, 12, 13, 5]));
+    let a = both(1 << 11 | 1 << 14, index);
+    let read_words = |v: Value| [sample::BRANCHES_COUNT, sample::HW_INDEX, sample::BRANCHES, sample::WEIGHT].map(|w| v[w]);
+    t.is("index", read(&record, 3, &a).map(read_words), Ok([1, 7, 24, 5]));
+    for (edition, due) in [(1, 25), (2, 25), (3, 0)] {
+        t.is("index by edition", check(&record, edition, &a), due);
+    }
+    // without bit 17 the same bytes have one word too many, and it is no word of the value
+    t.is("no index", check(&record, 3, &both(1 << 11 | 1 << 14, 0)), 31);
+    let plain = made(9, 0, &words(&[1, 11, 12, 13, 5]));
+    t.is("no index, read", read(&plain, 3, &both(1 << 11 | 1 << 14, 0)).map(read_words), Ok([1, 0, 16, 5]));
+    // with n = 0 the word is there too
+    t.is("n = 0", check(&made(9, 0, &words(&[0, 7])), 3, &both(1 << 11, index)), 0);
+    t.is("n = 0 and no word", check(&made(9, 0, &words(&[0])), 3, &both(1 << 11, index)), 30);
+    t.is("n = 0, no word, a weight taken for it", check(&made(9, 0, &words(&[0, 5])), 3, &both(1 << 11 | 1 << 14, index)), 30);
+    t.is("no count", check(&made(9, 0, &[]), 3, &both(1 << 11, index)), 30);
+    t.is("a count too large", check(&made(9, 0, &words(&[u64::MAX, 7])), 3, &both(1 << 11, index)), 30);
+    // bits 0 to 16 and 18 change nothing, 19 and up are 25, in every edition; without sample bit 11 none counts
+    for edition in 1..=3 {
+        t.is("bits 0 to 16 and 18", check(&made(9, 0, &words(&[0])), edition, &both(1 << 11, 0x5_ffff)), 0);
+        for bit in 19..64 {
+            t.is("bit 19 and up", check(&made(9, 0, &words(&[0])), edition, &both(1 << 11, 1 << bit)), 25);
+        }
+        t.is("without bit 11", check(&made(9, 0, &words(&[5])), edition, &both(1, u64::MAX)), 0);
+        t.is("no SAMPLE", check(&made(2, 0, &words(&[5, 6])), edition, &both(1 << 11, u64::MAX)), 0);
+        let all = Attributes { sample_id_all: 1, ..both(1 << 11 | 1 << 2, u64::MAX) };
+        t.is("no SAMPLE, with a trailer", check(&made(2, 0, &words(&[5, 6, 7])), edition, &all), 0);
+        t.is("21 first", check(&made(9, 0, &[]), edition, &both(1 << 11 | 1 << 25, u64::MAX)), 21);
+        let format = Attributes { read_format: 16, ..both(1 << 11 | 1 << 4, u64::MAX) };
+        t.is("22 first", check(&made(9, 0, &[]), edition, &format), 22);
+    }
+    t.is("25 before 24", check(&made(9, 0, &[]), 3, &both(1 << 11 | 1 << 14 | 1 << 24, 1 << 19)), 25);
+    t.is("24 where 17 is known", check(&made(9, 0, &[]), 3, &both(1 << 11 | 1 << 14 | 1 << 24, index)), 24);
+    // the writer: the word where it is selected, 42 where it is not and not 0, 25 before 41
+    let mut value = [0; FIELDS];
+    (value[TYPE], value[SIZE], value[sample::HW_INDEX]) = (9, 24, 7);
+    let mut buffer = [9; 24];
+    let write = |value: &Value, edition, branch, buffer: &mut [u8]| writer::write(value, &[], edition, &both(1 << 11, branch), buffer);
+    t.is("written", (write(&value, 3, index, &mut buffer), buffer[8..].to_vec()), (0, words(&[0, 7])));
+    t.is("42 where it is not selected", write(&with_word(value, SIZE, 16), 3, 0, &mut buffer), 42);
+    t.is("25 by the writer", write(&with_word(value, sample::BRANCHES, 1), 2, index, &mut buffer), 25);
+    t.is("41 by the writer", write(&with_word(value, sample::BRANCHES, 1), 3, index, &mut buffer), 41);
 }
 
 fn program(t: &mut Tried) {

@@ -25,10 +25,10 @@ pub unsafe fn lent_mut<'s, T>(pointer: *mut T, length: usize) -> &'s mut [T] {
 #[cfg_attr(not(own_names), no_mangle)]
 pub unsafe extern "C" fn ollskuvan_drain(
     ring: *const u8, ring_len: usize, head: u64, tail: u64, sample_type: u64, read_format: u64,
-    sample_id_all: u32, user_mask: u64, interrupt_mask: u64, edition: u32, budget: u64,
+    sample_id_all: u32, user_mask: u64, interrupt_mask: u64, branch_sample_type: u64, edition: u32, budget: u64,
     scratch: *mut u8, scratch_len: usize, journal: *mut u8, journal_len: usize,
 ) -> CDrained {
-    let attributes = Attributes { sample_type, read_format, sample_id_all, user_mask, interrupt_mask };
+    let attributes = Attributes { sample_type, read_format, sample_id_all, user_mask, interrupt_mask, branch_sample_type };
     let ring = Ring { bytes: lent(ring, ring_len), head, edition, attributes };
     let d = ring::drain(&ring, tail, budget, lent_mut(scratch, scratch_len), lent_mut(journal, journal_len));
     CDrained { taken: d.taken, bytes: d.bytes, tail: d.tail, stop: d.stop }
@@ -38,9 +38,9 @@ pub unsafe extern "C" fn ollskuvan_drain(
 #[cfg_attr(not(own_names), no_mangle)]
 pub unsafe extern "C" fn ollskuvan_check(
     record: *const u8, record_len: usize, sample_type: u64, read_format: u64, sample_id_all: u32,
-    user_mask: u64, interrupt_mask: u64, edition: u32,
+    user_mask: u64, interrupt_mask: u64, branch_sample_type: u64, edition: u32,
 ) -> u32 {
-    let a = Attributes { sample_type, read_format, sample_id_all, user_mask, interrupt_mask };
+    let a = Attributes { sample_type, read_format, sample_id_all, user_mask, interrupt_mask, branch_sample_type };
     record::check(lent(record, record_len), edition, &a)
 }
 
@@ -62,9 +62,9 @@ pub unsafe extern "C" fn ollskuvan_copy_name(
 #[cfg_attr(not(own_names), no_mangle)]
 pub unsafe extern "C" fn ollskuvan_read(
     record: *const u8, record_len: usize, sample_type: u64, read_format: u64, sample_id_all: u32,
-    user_mask: u64, interrupt_mask: u64, edition: u32, fields: *mut u64, fields_len: usize,
+    user_mask: u64, interrupt_mask: u64, branch_sample_type: u64, edition: u32, fields: *mut u64, fields_len: usize,
 ) -> u32 {
-    let a = Attributes { sample_type, read_format, sample_id_all, user_mask, interrupt_mask };
+    let a = Attributes { sample_type, read_format, sample_id_all, user_mask, interrupt_mask, branch_sample_type };
     match record::read(lent(record, record_len), edition, &a) {
         Err(refusal) => refusal,
         Ok(_) if fields_len < FIELDS => 40,
@@ -79,10 +79,10 @@ pub unsafe extern "C" fn ollskuvan_read(
 #[cfg_attr(not(own_names), no_mangle)]
 pub unsafe extern "C" fn ollskuvan_read_one(
     ring: *const u8, ring_len: usize, head: u64, tail: u64, sample_type: u64, read_format: u64,
-    sample_id_all: u32, user_mask: u64, interrupt_mask: u64, edition: u32, scratch: *mut u8,
+    sample_id_all: u32, user_mask: u64, interrupt_mask: u64, branch_sample_type: u64, edition: u32, scratch: *mut u8,
     scratch_len: usize, fields: *mut u64, fields_len: usize,
 ) -> COne {
-    let attributes = Attributes { sample_type, read_format, sample_id_all, user_mask, interrupt_mask };
+    let attributes = Attributes { sample_type, read_format, sample_id_all, user_mask, interrupt_mask, branch_sample_type };
     let ring = Ring { bytes: lent(ring, ring_len), head, edition, attributes };
     let o = ring::read_one(&ring, tail, lent_mut(scratch, scratch_len), lent_mut(fields, fields_len));
     COne {
@@ -100,9 +100,9 @@ pub unsafe extern "C" fn ollskuvan_read_one(
 #[cfg_attr(not(own_names), no_mangle)]
 pub unsafe extern "C" fn ollskuvan_write(
     fields: *const u64, fields_len: usize, source: *const u8, source_len: usize, sample_type: u64,
-    read_format: u64, sample_id_all: u32, user_mask: u64, interrupt_mask: u64, edition: u32,
+    read_format: u64, sample_id_all: u32, user_mask: u64, interrupt_mask: u64, branch_sample_type: u64, edition: u32,
     buffer: *mut u8, buffer_len: usize,
 ) -> u32 {
-    let a = Attributes { sample_type, read_format, sample_id_all, user_mask, interrupt_mask };
+    let a = Attributes { sample_type, read_format, sample_id_all, user_mask, interrupt_mask, branch_sample_type };
     writer::write(lent(fields, fields_len), lent(source, source_len), edition, &a, lent_mut(buffer, buffer_len))
 }

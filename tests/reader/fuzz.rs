@@ -1,19 +1,22 @@
 //! The input of the fuzz target (tests/fuzz/target.c): its layout, seeds made of real rings and of the
 //! generator's records, and mutations that know what a record is.
 //!
-//! An input is a control block, then what the program ringdump takes: head, tail, the attributes and
-//! the ring's bytes. `LAID` in the flags says that the bytes are records, laid into a ring from the
+//! An input is a control block, the branch sample type, then what the program ringdump takes: head, tail, the
+//! other attributes and the ring's bytes. `LAID` in the flags says that the bytes are records, laid into a ring from the
 //! tail on; otherwise they are the ring as it is. The target's other two calls take them as one record.
 
 #![allow(dead_code)] // the program makes the seeds, the archive the mutations
 
 use crate::made::*;
-use crate::record::le16;
+use crate::record::{le16, number};
 use crate::ring::Image;
 use crate::rules::edition;
 
 pub const CONTROL: usize = 48;
+const BRANCH: usize = 8;
 const HEADER: usize = 50;
+/// What stands before the ring's bytes.
+const BEFORE: usize = CONTROL + BRANCH + HEADER;
 
 // The bytes of the control block that are set here; target.c has the whole list.
 const CALL: usize = 0;
@@ -41,15 +44,19 @@ impl Input {
     /// Anything is an input: what is missing is zero.
     fn parse(bytes: &[u8]) -> Input {
         let mut whole = bytes.to_vec();
-        if whole.len() < CONTROL + HEADER {
-            whole.resize(CONTROL + HEADER, 0);
+        if whole.len() < BEFORE {
+            whole.resize(BEFORE, 0);
         }
         let (control, rest) = whole.split_at(CONTROL);
-        Input { control: control.try_into().unwrap(), image: Image::parse(rest).unwrap() }
+        let (branch, rest) = rest.split_at(BRANCH);
+        let mut image = Image::parse(rest).unwrap();
+        image.attributes.branch_sample_type = number(branch);
+        Input { control: control.try_into().unwrap(), image }
     }
 
     fn bytes(&self) -> Vec<u8> {
-        [&self.control[..], &self.image.bytes()].concat()
+        let branch = self.image.attributes.branch_sample_type.to_le_bytes();
+        [&self.control[..], &branch, &self.image.bytes()].concat()
     }
 
     fn laid(&self) -> bool {
@@ -144,7 +151,7 @@ fn mutate_control(r: &mut Random, control: &mut [u8; CONTROL]) {
 
 fn mutate_attributes(r: &mut Random, image: &mut Image) {
     let a = &mut image.attributes;
-    match r.below(8) {
+    match r.below(10) {
         0 => image.edition = r.pick(&[1, 2, 3]),
         1 => image.edition = some_edition(r) & 0xff,
         2 => a.sample_type ^= 1 << r.below(26),
@@ -152,6 +159,8 @@ fn mutate_attributes(r: &mut Random, image: &mut Image) {
         4 => a.read_format ^= 1 << r.below(5),
         5 => a.sample_id_all ^= 1,
         6 => a.user_mask ^= 1 << r.below(64),
+        7 => a.branch_sample_type ^= 1 << r.pick(&[17, 17, 18, 19]),
+        8 => a.branch_sample_type ^= 1 << r.below(64),
         _ => *a = some_attributes(r, image.edition),
     }
 }
@@ -160,7 +169,7 @@ fn mutate_attributes(r: &mut Random, image: &mut Image) {
 fn mutate_records(r: &mut Random, input: &mut Input, most: usize) {
     let mut records = input.records();
     let (edition, a) = (input.image.edition, input.image.attributes);
-    let room = most.saturating_sub(CONTROL + HEADER).clamp(8, 8 * (1 + r.below(80)) as usize);
+    let room = most.saturating_sub(BEFORE).clamp(8, 8 * (1 + r.below(80)) as usize);
     let at = r.below(records.len() as u64 + 1) as usize;
     if at == records.len() || r.one_in(5) {
         records.insert(at, fitting_record(r, edition, &a, room));
@@ -188,7 +197,7 @@ fn mutate_records(r: &mut Random, input: &mut Input, most: usize) {
 
 /// The one record of the calls on records.
 fn mutate_record(r: &mut Random, input: &mut Input, most: usize) {
-    let room = most.saturating_sub(CONTROL + HEADER).clamp(8, 8 * (1 + r.below(80)) as usize);
+    let room = most.saturating_sub(BEFORE).clamp(8, 8 * (1 + r.below(80)) as usize);
     let (edition, a) = (input.image.edition, input.image.attributes);
     let record = &mut input.image.ring;
     if record.len() < 8 || record.len() % 8 != 0 || r.one_in(4) {

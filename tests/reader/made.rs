@@ -97,6 +97,23 @@ fn some_sample_type(r: &mut Random, known: u32) -> u64 {
     bits
 }
 
+/// Bits 0 to 16 and 18 change nothing; 17 is there often where the edition knows it, at times where it does not.
+fn some_branch_type(r: &mut Random, edition_number: u32) -> u64 {
+    let mut bits = match r.below(3) {
+        0 => 0,
+        1 => r.next() & 0x5_ffff,
+        _ => 0x5_ffff,
+    };
+    let known = edition(edition_number).map_or(true, |e| e.hw_index);
+    if if known { r.one_in(2) } else { r.one_in(8) } {
+        bits |= 1 << 17;
+    }
+    if r.one_in(25) {
+        bits |= 1 << (19 + r.below(45));
+    }
+    bits
+}
+
 pub fn some_attributes(r: &mut Random, edition_number: u32) -> Attributes {
     let known = edition(edition_number).map_or(24, |e| e.last_sample_bit);
     let read_format = if r.one_in(25) { r.below(16) | 1 << (4 + r.below(60)) } else { r.below(16) };
@@ -106,6 +123,7 @@ pub fn some_attributes(r: &mut Random, edition_number: u32) -> Attributes {
         sample_id_all: if r.one_in(2) { 0 } else { r.pick(&[1, 1, 1, 2, 256, 0x8000_0000, u32::MAX]) },
         user_mask: some_mask(r),
         interrupt_mask: some_mask(r),
+        branch_sample_type: some_branch_type(r, edition_number),
     }
 }
 

@@ -39,7 +39,7 @@ reader drains [OPTIONS]               drain, record check and name copy: the lib
 reader values [OPTIONS]               read and write: the library against the independent reader and writer
 reader ones [OPTIONS]                 the reader of one record: the library against the independent reader
 reader meanings [OPTIONS]             what misc means: the library against the independent reader
-reader bits                           each sample bit, read format, type and trailer bit: written, read, compared
+reader bits                           each sample bit, read format, branch bit, type and trailer bit: written, read, compared
 reader images PROGRAM [WORDS...] [OPTIONS]
                                       ringdump's print over made images, real rings and inputs of every length
 reader cases FOLDER                   the kept cases: inputs that other readers get wrong, with the answers that are due

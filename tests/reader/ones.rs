@@ -165,6 +165,6 @@ pub fn real_ring(name: &str, image: &ring::Image, tally: &mut Tally) -> Result<(
 
 pub const MUST: &[(&str, &[u32])] = &[
     ("read one: stop", &[0, 1, 2, 3, 4, 5, 6, 7]),
-    ("read one", &[0, 20, 21, 22, 23, 24, 30, 31, 32, 33, 40]),
+    ("read one", &[0, 20, 21, 22, 23, 24, 25, 30, 31, 32, 33, 40]),
     ("read one: in scratch", &[0, 1]),
 ];

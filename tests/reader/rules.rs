@@ -1,6 +1,7 @@
-//! Document 01 as tables: editions, refusals 20 to 24, and what lies in the body of each type.
+//! Document 01 as tables: editions, refusals 20 to 25, and what lies in the body of each type. The hardware index and 25
+//! are document 02's, M-102.
 //!
-//! Written from the document alone. The reader (record.rs), the writer (writer.rs) and the
+//! Written from the documents alone. The reader (record.rs), the writer (writer.rs) and the
 //! generator (made.rs) walk the lists of items that are given here.
 
 use crate::words::*;
@@ -12,11 +13,18 @@ pub struct Attributes {
     pub sample_id_all: u32,
     pub user_mask: u64,
     pub interrupt_mask: u64,
+    pub branch_sample_type: u64,
 }
 
 impl Attributes {
-    pub const EMPTY: Attributes =
-        Attributes { sample_type: 0, read_format: 0, sample_id_all: 0, user_mask: 0, interrupt_mask: 0 };
+    pub const EMPTY: Attributes = Attributes {
+        sample_type: 0,
+        read_format: 0,
+        sample_id_all: 0,
+        user_mask: 0,
+        interrupt_mask: 0,
+        branch_sample_type: 0,
+    };
 
     pub fn sample_bit(&self, bit: u32) -> bool {
         self.sample_type >> bit & 1 == 1
@@ -24,6 +32,10 @@ impl Attributes {
 
     pub fn read_bit(&self, bit: u32) -> bool {
         self.read_format >> bit & 1 == 1
+    }
+
+    pub fn branch_bit(&self, bit: u32) -> bool {
+        self.branch_sample_type >> bit & 1 == 1
     }
 
     pub fn id_all(&self) -> bool {
@@ -36,12 +48,13 @@ pub struct Edition {
     pub last_sample_bit: u32,
     pub last_type: u64,
     pub build_id_form: bool,
+    pub hw_index: bool,
 }
 
 pub const EDITIONS: [Edition; 3] = [
-    Edition { number: 1, last_sample_bit: 15, last_type: 9, build_id_form: false },
-    Edition { number: 2, last_sample_bit: 18, last_type: 15, build_id_form: false },
-    Edition { number: 3, last_sample_bit: 24, last_type: 20, build_id_form: true },
+    Edition { number: 1, last_sample_bit: 15, last_type: 9, build_id_form: false, hw_index: false },
+    Edition { number: 2, last_sample_bit: 18, last_type: 15, build_id_form: false, hw_index: false },
+    Edition { number: 3, last_sample_bit: 24, last_type: 20, build_id_form: true, hw_index: true },
 ];
 
 pub fn edition(number: u32) -> Option<&'static Edition> {
@@ -71,7 +84,15 @@ pub fn misc_meaning(kind: u64, misc: u64) -> u32 {
     meaning
 }
 
-/// Refusals 20 to 24, in the order checked.
+/// 25: "Where sample bit 11 is selected, edition 3 reads and writes the word if bit 17 is set; editions 1 and 2 refuse such a
+/// SAMPLE with 25; a SAMPLE with sample bit 11 and a branch bit from 19 up is 25 in every edition, and any record but a
+/// SAMPLE with sample bit 11 never is."
+fn branches_unknown(kind: u64, e: &Edition, a: &Attributes) -> bool {
+    let from_19_up = a.branch_sample_type >> 19 != 0;
+    kind == SAMPLE && a.sample_bit(11) && (from_19_up || a.branch_bit(17) && !e.hw_index)
+}
+
+/// Refusals 20 to 25, in the order checked: "25 is checked after 23 and before 24".
 pub fn unknown(kind: u64, misc: u64, e: &Edition, a: &Attributes) -> Option<u32> {
     let sample = kind == SAMPLE;
     if kind == 0 || kind > e.last_type {
@@ -82,6 +103,8 @@ pub fn unknown(kind: u64, misc: u64, e: &Edition, a: &Attributes) -> Option<u32>
         Some(22)
     } else if has_build_id(kind, misc) && !e.build_id_form {
         Some(23)
+    } else if branches_unknown(kind, e, a) {
+        Some(25)
     } else if sample && a.sample_bit(14) && a.sample_bit(24) {
         Some(24)
     } else {
@@ -243,7 +266,12 @@ fn sample_body(a: &Attributes) -> Vec<Item> {
         items.push(list(sample::RAW, sample::RAW_COUNT, 1));
     }
     if bit(11) {
-        items.extend([n64(sample::BRANCHES_COUNT), list(sample::BRANCHES, sample::BRANCHES_COUNT, 24)]);
+        items.push(n64(sample::BRANCHES_COUNT));
+        // "one more word between branch count and entries when branch sample bit 17 is selected", whatever the count is
+        if a.branch_bit(17) {
+            items.push(n64(sample::HW_INDEX));
+        }
+        items.push(list(sample::BRANCHES, sample::BRANCHES_COUNT, 24));
     }
     if bit(12) {
         items.push(n64(sample::USER_ABI));

@@ -32,12 +32,13 @@ pub fn damaged_case(
     let (image, records) = &rings[r.below(rings.len() as u64) as usize];
     let mut attributes = image.attributes;
     let edition = if r.one_in(4) { some_edition(&mut r) } else { image.edition };
-    match r.below(10) {
+    match r.below(11) {
         0 => attributes = some_attributes(&mut r, edition),
         1 => attributes.sample_type ^= 1 << r.below(25),
         2 => attributes.read_format ^= 1 << r.below(5),
         3 => attributes.user_mask ^= r.next() & r.next() & r.next(),
         4 => attributes.sample_id_all ^= 1,
+        5 => attributes.branch_sample_type ^= 1 << r.pick(&[0, 16, 17, 17, 18, 19, 63]),
         _ => {}
     }
     // Laid again from another tail, so that another record crosses the end.

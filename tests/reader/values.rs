@@ -224,12 +224,14 @@ pub fn one_case(seed: u64, number: u64, tally: &mut Tally) -> Result<(), Differe
     let edition = if r.one_in(10) { some_edition(&mut r) } else { edition };
     let mut a = a;
     if r.one_in(8) {
-        match r.below(6) {
+        match r.below(8) {
             0 => a.sample_type |= 1 << 14 | 1 << 24,
             1 => a.sample_type ^= 1 << r.below(26),
             2 => a.read_format ^= 1 << r.below(5),
             3 => a.read_format |= 1 << (4 + r.below(60)),
             4 => a.sample_id_all ^= 1,
+            5 => a.branch_sample_type ^= 1 << 17,
+            6 => a.branch_sample_type ^= 1 << r.below(64),
             _ => a.user_mask ^= 1 << r.below(64),
         }
     }
@@ -266,6 +268,7 @@ pub fn edges(tally: &mut Tally) -> Result<u64, Difference> {
                 a.sample_id_all = round as u32 & 1;
                 a.user_mask &= 0xff;
                 a.interrupt_mask &= 0xff00;
+                a.branch_sample_type &= if e.hw_index { 0x7_ffff } else { 0x5_ffff };
                 let misc = if e.build_id_form && round % 2 == 1 { 0x4000 } else { 0 };
                 let record = sound_record(&mut r, kind, misc, &a, 2048, round % 3 == 0)
                     .ok_or_else(|| format!("no sound record of type {kind} in 2,048 bytes"))?;
@@ -331,7 +334,7 @@ fn edges_of(record: &[u8], a: &Attributes, edition: u32, r: &mut Random, tally: 
         at[*place] = size as u64 - bytes;
         compare_write(&at, record, a, edition, size, r, tally)?;
     }
-    // Each word with its neighbours: mostly 42, at times 20 to 24, 40, 41 or 0.
+    // Each word with its neighbours: mostly 42, at times 20 to 25, 40, 41 or 0.
     for word in 0..FIELDS {
         for n in neighbours(value[word]) {
             let mut near = value;
@@ -350,10 +353,11 @@ struct Tried {
     types: BTreeSet<(u32, u64)>,
     formats: BTreeSet<(u32, u64, u64)>,
     trailer_bits: BTreeSet<(u32, u64, u32)>,
+    branch_bits: BTreeSet<(u32, u32)>,
 }
 
 /// In the manner of perf's own sample-parsing test: each sample bit alone, then all together, each
-/// read format, each type, each trailer bit: written, read and compared. Fails if one was not tried.
+/// read format, each branch bit, each type, each trailer bit: written, read and compared. Fails if one was not tried.
 pub fn bits(tally: &mut Tally) -> Result<u64, Difference> {
     let mut r = Random::new(0xb175, 2);
     let mut tried = Tried::default();
@@ -366,6 +370,7 @@ pub fn bits(tally: &mut Tally) -> Result<u64, Difference> {
             sample_id_all: id_all,
             user_mask: masks.0,
             interrupt_mask: masks.1,
+            branch_sample_type: if e.hw_index { 1 << 17 } else { 0 },
         };
         // each sample bit alone
         for bit in 0..=e.last_sample_bit {
@@ -393,6 +398,7 @@ pub fn bits(tally: &mut Tally) -> Result<u64, Difference> {
                 return Err(format!("edition {}: a SAMPLE under {sample_type:#x} is written with {answer}, not {due}", e.number));
             }
         }
+        count += branch_bits(e, &mut r, tally, &mut tried)?;
         // each type, without a trailer, with all of it, with each of its bits alone, with no bit
         for kind in 1..=e.last_type {
             for misc in [0, 0x2001, 0x4002] {
@@ -421,6 +427,52 @@ pub fn bits(tally: &mut Tally) -> Result<u64, Difference> {
     Ok(count)
 }
 
+/// Each branch bit alone, with sample bit 11 and with every other: a bit that the edition knows changes the record by bit
+/// 17's word alone, any other is 25 in a SAMPLE with sample bit 11 and nothing elsewhere.
+fn branch_bits(e: &Edition, r: &mut Random, tally: &mut Tally, tried: &mut Tried) -> Result<u64, Difference> {
+    let mut count = 0;
+    for bit in 0..64 {
+        let known = bit < 19 && (bit != 17 || e.hw_index);
+        let with = |sample_type| Attributes { sample_type, branch_sample_type: 1 << bit, ..Attributes::EMPTY };
+        for kind in [SAMPLE, READ, 3] {
+            count += round_trip(e, kind, 0, &with(0x1004), r, tally, tried)?;
+        }
+        count += round_trip(e, READ, 0, &Attributes { sample_id_all: 1, ..with(0x804) }, r, tally, tried)?;
+        // nothing but a branch stack without entries: the count, and the word where it is read
+        for (words, right) in [(1, bit != 17), (2, bit == 17), (3, false)] {
+            let due = if !known { 25 } else if right { 0 } else if words == 1 { 30 } else { 31 };
+            let mut record = vec![9, 0, 0, 0, 0, 0, 8 + 8 * words as u8, 0];
+            record.resize(8 + 8 * words, 0);
+            let answer = compare_read(&record, &with(0x800), e.number, FIELDS, r, tally)?.err().unwrap_or(0);
+            let mut value = [0; FIELDS];
+            (value[TYPE], value[SIZE]) = (SAMPLE, record.len() as u64);
+            let (written, _) = compare_write(&value, &[], &with(0x800), e.number, 64, r, tally)?;
+            let due_written = if due == 0 || due == 25 { due } else { 42 };
+            if (answer, written) != (due, due_written) {
+                return Err(format!(
+                    "edition {}, branch bit {bit}, {words} words: read with {answer}, written with {written}, not {due} and {due_written}",
+                    e.number
+                ));
+            }
+        }
+        if known {
+            count += round_trip(e, SAMPLE, 0, &with(0x800), r, tally, tried)?;
+        }
+        tried.branch_bits.insert((e.number, bit));
+    }
+    // 25 after 21 and 22, before 24
+    for (sample_type, read_format, due) in
+        [(1u64 << 40 | 0x800, 0, 21), (0x810, 16, 22), (0x800 | 1 << 14 | 1 << 24, 0, if e.number == 3 { 25 } else { 21 })]
+    {
+        let a = Attributes { sample_type, read_format, branch_sample_type: 1 << 19, ..Attributes::EMPTY };
+        let answer = compare_read(&[9, 0, 0, 0, 0, 0, 8, 0], &a, e.number, FIELDS, r, tally)?.err();
+        if answer != Some(due) {
+            return Err(format!("edition {}: a SAMPLE under {sample_type:#x} with branch bit 19: {answer:?}, not {due}", e.number));
+        }
+    }
+    Ok(count)
+}
+
 fn trailer_of(e: &Edition) -> u64 {
     66_246 & ((1 << (e.last_sample_bit + 1)) - 1)
 }
@@ -430,6 +482,11 @@ fn not_tried(tried: &Tried) -> Result<(), Difference> {
         for bit in 0..=e.last_sample_bit {
             if !tried.bits.contains(&(e.number, bit)) {
                 return Err(format!("edition {}: sample bit {bit} was not tried", e.number));
+            }
+        }
+        for bit in 0..64 {
+            if !tried.branch_bits.contains(&(e.number, bit)) {
+                return Err(format!("edition {}: branch bit {bit} was not tried", e.number));
             }
         }
         for kind in 1..=e.last_type {
@@ -512,6 +569,6 @@ pub fn real_ring(name: &str, image: &Image, tally: &mut Tally) -> Result<(), Dif
 }
 
 pub const MUST: &[(&str, &[u32])] = &[
-    ("read", &[0, 2, 20, 21, 22, 23, 24, 30, 31, 32, 33, 40]),
-    ("write", &[0, 2, 20, 21, 22, 23, 24, 40, 41, 42]),
+    ("read", &[0, 2, 20, 21, 22, 23, 24, 25, 30, 31, 32, 33, 40]),
+    ("write", &[0, 2, 20, 21, 22, 23, 24, 25, 40, 41, 42]),
 ];

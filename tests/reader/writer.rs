@@ -23,13 +23,13 @@ pub fn listed(item: &Item) -> Option<(usize, usize, usize)> {
     }
 }
 
-/// The writer: 2; 42 for too few words; 20 to 24; 41; 42; 40; otherwise the record goes to the start of the buffer.
+/// The writer: 2; 42 for too few words; 20 to 25; 41; 42; 40; otherwise the record goes to the start of the buffer.
 pub fn write(value: &[u64], source: &[u8], edition_number: u32, a: &Attributes, buffer: &mut [u8]) -> u32 {
     let e = match edition(edition_number) {
         Some(e) => e,
         None => return 2,
     };
-    // Fewer words than a value has are no value: there is no type that 20 to 24 could look at.
+    // Fewer words than a value has are no value: there is no type that 20 to 25 could look at.
     if value.len() < FIELDS {
         return 42;
     }

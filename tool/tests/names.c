@@ -63,6 +63,8 @@ static bool samples_are_right(void)
         is("type 2^32 + 9", ollskuvan_type_name((UINT64_C(1) << 32) + 9), "unknown type") &
         is("stop 0", ollskuvan_stop_text(0), "nothing to take") &
         is("answer 0", ollskuvan_refusal_text(0), "accepted") &
+        is("word 25 of SAMPLE", ollskuvan_word_name(9, OLLSKUVAN_SAMPLE_HW_INDEX), "hardware index") &
+        is("refusal 25", ollskuvan_refusal_text(25), "a branch bit that the edition doesn't know") &
         is("stop 11", ollskuvan_stop_text(11), "unknown answer") &
         is("stop 20, which is none", ollskuvan_stop_text(20), ollskuvan_refusal_text(20)) &
         is("refusal 8, which is none", ollskuvan_refusal_text(8), ollskuvan_stop_text(8));

@@ -34,7 +34,7 @@ static volatile uint32_t answer;
 
 #define ATTRIBUTES \
     image->sample_type, image->read_format, image->sample_id_all, image->user_mask, image->interrupt_mask, \
-        image->edition
+        image->branch_sample_type, image->edition
 
 static void do_nothing(void)
 {

@@ -5,6 +5,7 @@
  *
  *   values check            tries the header's sentences; prints what is wrong
  *   values made FOLDER      writes images that hold every record type, for dump
+ *   values indexed FOLDER   writes images with a branch sample type
  */
 #include <inttypes.h>
 #include <stdio.h>
@@ -170,7 +171,8 @@ static uint32_t write_to(const struct made *made, uint8_t *buffer, size_t room)
 {
     const struct image *a = &made->image;
     return ollskuvan_write(made->fields, OLLSKUVAN_FIELDS, source, SOURCE, a->sample_type, a->read_format,
-        a->sample_id_all, a->user_mask, a->interrupt_mask, a->edition, buffer, room);
+        a->sample_id_all, a->user_mask, a->interrupt_mask, a->branch_sample_type, a->edition,
+        buffer, room);
 }
 
 static uint32_t write_made(const struct made *made)
@@ -182,7 +184,8 @@ static uint32_t read_made(const struct made *made, uint64_t *fields)
 {
     const struct image *a = &made->image;
     return ollskuvan_read(record, (size_t)made->fields[OLLSKUVAN_SIZE], a->sample_type, a->read_format,
-        a->sample_id_all, a->user_mask, a->interrupt_mask, a->edition, fields, OLLSKUVAN_FIELDS);
+        a->sample_id_all, a->user_mask, a->interrupt_mask, a->branch_sample_type, a->edition,
+        fields, OLLSKUVAN_FIELDS);
 }
 
 /* ---- the header's sentences ---- */
@@ -364,6 +367,7 @@ static void check_type(uint64_t type)
     made.image.sample_id_all = (uint32_t)some(2);
     made.image.user_mask = some(0) & some(0);
     made.image.interrupt_mask = some(8) == 0 ? 0 : some(256);
+    made.image.branch_sample_type = some(UINT64_C(1) << 19);
     fill(&made, type, some(65536));
     made.fields[OLLSKUVAN_SIZE] = size_of(&made);
     check_round_trip(&made);
@@ -386,17 +390,19 @@ static uint64_t misc_of(uint64_t type, bool second)
     return (second ? OLLSKUVAN_MISC_MMAP_BUILD_ID : OLLSKUVAN_MISC_MMAP_DATA) | (type & 7);
 }
 
-/* All types one after the other, in a ring that starts near its end so that one record crosses it. */
-static void write_image(const char *folder, const char *name, const struct image *a, bool second)
+/* Types first to last one after the other, in a ring that starts near its end so that one record crosses it. */
+static void write_image(const char *folder, const char *name, const struct image *a, bool second, uint64_t first,
+    uint64_t last)
 {
     enum { RING = 8192, START = RING - 200 };
-    static uint8_t bytes[IMAGE_HEADER_BYTES + RING];
+    static uint8_t bytes[IMAGE_HEADER_BYTES + RING + IMAGE_BRANCH_BYTES];
+    size_t length = sizeof bytes - (a->branch_sample_type == 0 ? IMAGE_BRANCH_BYTES : 0);
     struct made made = { .image = *a, .plain = true };
     char path[4096];
     size_t at = START;
     made.image.edition = 3;
     memset(bytes, 0, sizeof bytes);
-    for (uint64_t type = 1; type <= TYPES; type++) {
+    for (uint64_t type = first; type <= last; type++) {
         fill(&made, type, misc_of(type, second));
         made.fields[OLLSKUVAN_SIZE] = size_of(&made);
         is("writing", type, NULL, write_made(&made), OLLSKUVAN_OK);
@@ -411,9 +417,10 @@ static void write_image(const char *folder, const char *name, const struct image
     put_little(bytes + 40, 8, a->interrupt_mask);
     bytes[48] = (uint8_t)a->edition;
     bytes[49] = (uint8_t)a->sample_id_all;
+    put_little(bytes + IMAGE_HEADER_BYTES + RING, 8, a->branch_sample_type);
     snprintf(path, sizeof path, "%s/%s.img", folder, name);
     FILE *file = fopen(path, "wb");
-    if (file == NULL || fwrite(bytes, 1, sizeof bytes, file) != sizeof bytes || fclose(file) != 0) {
+    if (file == NULL || fwrite(bytes, 1, length, file) != length || fclose(file) != 0) {
         perror(path);
         exit(1);
     }
@@ -423,16 +430,26 @@ static void write_images(const char *folder)
 {
     struct image a = { .sample_type = 0x1ffbfff, .read_format = 0xf, .sample_id_all = 1, .user_mask = 0xff0fff,
         .interrupt_mask = 0x1c0, .edition = 3 };
-    write_image(folder, "every-type", &a, true);
+    write_image(folder, "every-type", &a, true, 1, TYPES);
     a.edition = 1;
-    write_image(folder, "every-type-edition-1", &a, true);
+    write_image(folder, "every-type-edition-1", &a, true, 1, TYPES);
     a.edition = 2;
     a.sample_id_all = 0;
-    write_image(folder, "every-type-edition-2", &a, true);
+    write_image(folder, "every-type-edition-2", &a, true, 1, TYPES);
     a.edition = 3;
     a.sample_type = 0x7fff;
     a.read_format = 7;
-    write_image(folder, "every-type-plain", &a, false);
+    write_image(folder, "every-type-plain", &a, false, 1, TYPES);
+}
+
+/* READ, a SAMPLE with the hardware index, MMAP2: in editions 3 and 2. */
+static void write_indexed(const char *folder)
+{
+    struct image a = { .sample_type = OLLSKUVAN_BIT_TIME | OLLSKUVAN_BIT_BRANCHES | OLLSKUVAN_BIT_WEIGHT, .sample_id_all = 1,
+        .branch_sample_type = OLLSKUVAN_BRANCH_HW_INDEX | 9, .edition = 3 };
+    write_image(folder, "indexed", &a, false, OLLSKUVAN_TYPE_READ, OLLSKUVAN_TYPE_MMAP2);
+    a.edition = 2;
+    write_image(folder, "indexed-edition-2", &a, false, OLLSKUVAN_TYPE_READ, OLLSKUVAN_TYPE_MMAP2);
 }
 
 int main(int argc, char **argv)
@@ -441,13 +458,15 @@ int main(int argc, char **argv)
         source[i] = (uint8_t)('a' + i % 26);
     if (argc == 3 && strcmp(argv[1], "made") == 0) {
         write_images(argv[2]);
+    } else if (argc == 3 && strcmp(argv[1], "indexed") == 0) {
+        write_indexed(argv[2]);
     } else if (argc == 2 && strcmp(argv[1], "check") == 0) {
         for (unsigned round = 0; round < ROUNDS; round++)
             for (uint64_t type = 1; type <= TYPES; type++)
                 check_type(type);
         printf("values: %" PRIu64 " sentences of the header tried, %u wrong\n", tried, wrongs);
     } else {
-        fputs("usage: values check | made FOLDER\n", stderr);
+        fputs("usage: values check | made FOLDER | indexed FOLDER\n", stderr);
         return 2;
     }
     return wrongs == 0 ? 0 : 1;

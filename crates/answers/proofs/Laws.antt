@@ -55,7 +55,7 @@ module _ (is : List Item) (xs : List ℕ) (t u : ℕ) (e : t ≡ u) where
   unfolding fieldsAnswer fieldsOf
   answer-walked c h ec = rw (sym e, le-leb (8 + t) (length xs) h, ec)
 
--- 20 to 24 by what the rules say, then 30 to 33
+-- 20 to 25 by what the rules say, then 30 to 33
 module _ (k l : Known) (a : Attributes) (kind misc : ℕ) (xs : List ℕ) (why : ℕ) (el : l ≡ k) (e : why ≡ unreadable l a kind misc) where
   unreadable-is : unreadable k a kind misc ≡ why
   unreadable-is = sym (e ∙ ap (λ (x : Known). unreadable x a kind misc) el)

@@ -1,4 +1,4 @@
--- The answer for a record by its header's type and misc: 20 to 24, then 30 to 33, else 0. At the record's own type and misc it is `judge`.
+-- The answer for a record by its header's type and misc: 20 to 25, then 30 to 33, else 0. At the record's own type and misc it is `judge`.
 -- Assumes nothing: this is a definition.
 use Prim.Native.Nat.{ℕ}
 use mathlib.Core.List.{List}

@@ -1,4 +1,4 @@
-// The answer for a record: the walk over its fields, the trailer, 30 to 33 after 20 to 24, and record check. The header is taken by the reader
+// The answer for a record: the walk over its fields, the trailer, 30 to 33 after 20 to 25, and record check. The header is taken by the reader
 // that holds the record and its place.
 ghost use mathlib.Core.Path.{_≡_};
 ghost use Prim.Native.Nat.{_<_, _≤_};
@@ -42,7 +42,7 @@ fn turn(s: &[u8], kind: u64, misc: u64, a: Attributes, k: usize, c: Cursor) -> C
     }
 }
 
-// Over the rows of a type's fields. No edition is an argument: it enters by 20 to 24 alone.
+// Over the rows of a type's fields. No edition is an argument: it enters by 20 to 25 alone.
 pub fn walk(s: &[u8], kind: u64, misc: u64, a: Attributes, first: Cursor) -> Cursor
     ensures { λ r. ⌜ r ≡ walk (now (s .entry)) (schema kind misc a) first ⌝ }
 {
@@ -101,7 +101,7 @@ fn fields_answer(r: &[u8], kind: u64, misc: u64, a: Attributes) -> u16
     closed(end, c)
 }
 
-// 20 to 24, then 30 to 33, else 0, by the header's type and misc.
+// 20 to 25, then 30 to 33, else 0, by the header's type and misc.
 fn answer(r: &[u8], kind: u64, misc: u64, e: u64, a: Attributes) -> u16
     ensures { λ x. ⌜ x ≡ answerBy (known editions e) a kind misc (now (r .entry)) ⌝ }
 {

@@ -1,6 +1,6 @@
 -- The lists of a SAMPLE, each as one straight piece: a count and its elements, raw, registers, stack. Assumes nothing.
 use mathlib.Core.Path.{_≡_, refl, sym, ap, _∙_, subst}
-use mathlib.Core.Bool.{Bool, true, false, cond}
+use mathlib.Core.Bool.{Bool, true, false, cond, _&&_}
 use mathlib.Core.List.{List, [], _∷_, _++_}
 use mathlib.Core.Logic.{⊎-elim}
 use Prim.Native.Nat.{ℕ, _+_, _-_, _*_, _%_, _<_, _≤_}
@@ -18,12 +18,12 @@ use Rattle.meaning.specs.declared.Width.{Width}
 use Rattle.meaning.specs.declared.Width.the-variants.{W4, W8}
 use Rattle.meaning.specs.Bytes.{num, numberAt, ones}
 use Rattle.meaning.specs.Items.{cursor, bytes, span, rule, holds, counted, before, step, walk}
-use Rattle.meaning.specs.Schema.{item, keptWord}
+use Rattle.meaning.specs.Schema.{item}
 use Rattle.laws.specs.Shapes.{shape-out, shape-bad, shape-in}
 use Rattle.blocks.specs.declared.Place.{Place}
 use Rattle.blocks.specs.Seen.{place, seal, Leaves, Ends, walk-append}
 use Rattle.laws.specs.Again.{stuck}
-use Rattle.blocks.specs.Steady.{steady, total, steady-in, steady-out}
+use Rattle.blocks.specs.Steady.{oneWidth, widthOf, steady, total, steady-in, steady-out}
 
 -- ---- one item that is on, from a cursor that was not refused
 
@@ -105,8 +105,9 @@ off-skip xs sh is c = go (eqb (c .why) 0)
 abbrev pub countedList : Bool → ℕ → List Item
 countedList on unit = item on (Count W8) ∷ item on (Times unit) ∷ []
 
-abbrev pub branchList : Bool → List Item
-branchList on = item on (Count W8) ∷ keptWord ∷ item on (Times 24) ∷ []
+-- branches: with `index`, the hardware index stands between count and entries
+abbrev pub branchList : Bool → Bool → List Item
+branchList on index = item on (Count W8) ∷ item (on && index) (Number W8) ∷ item on (Times 24) ∷ []
 
 -- raw (a size of four bytes) and aux (of eight)
 abbrev pub sizedBytes : Bool → Width → List Item
@@ -242,10 +243,14 @@ pub off-ends : (xs : List ℕ) (sh : Shape) (is : List Item) (at : ℕ) (p : Pla
 unfolding Leaves
 off-ends xs sh is at p h = ((λ n old. h .0 n old ∙ ap seal (sym (off-skip xs sh is (cursor at n old 0)))), h .1)
 
--- branches: the word kept between count and entries is off
-pub branches-as : (xs : List ℕ) (on : Bool) (at : ℕ) (p : Place) → Leaves xs (countedList on 24) at p → Leaves xs (branchList on) at p
-unfolding Leaves walk
-branches-as xs on at p h n old = h n old ∙ ap seal (sym (off-skip xs (Number W8) (item on (Times 24) ∷ []) (step xs (item on (Count W8)) (cursor at n old 0))))
+-- branches: the bytes of the count, and of the hardware index where it is there
+abbrev pub branchFixed : Bool → ℕ
+branchFixed index = cond index 16 8
+
+pub branch-ends : (xs : List ℕ) (index : Bool) (at : ℕ) → at ≤ length xs → (p : Place) → p ≡ countedPlace xs at (branchFixed index) 24 → Ends xs (branchList true index) at p
+unfolding steady oneWidth total widthOf span
+branch-ends xs true at l p e = counted-ends xs at 16 24 (item true (Number W8) ∷ []) refl refl l p e
+branch-ends xs false at l p e = counted-ends xs at 8 24 (item false (Number W8) ∷ []) refl refl l p e
 
 -- a size, and so many bytes; both together are a multiple of 8
 module _ (w : Width) (xs : List ℕ) (at : ℕ) where

@@ -8,7 +8,7 @@ ghost use Rattle.meaning.specs.declared.Item.{Item};
 ghost use Rattle.meaning.specs.Bytes.{ones};
 ghost use Rattle.blocks.specs.Seen.{place, Leaves, Ends};
 ghost use Rattle.blocks.specs.Steady.{steady, total};
-ghost use Rattle.blocks.specs.Blocks.{countedList, countedPlace, rawBytes, auxBytes, registerList, stackBytes, filledAnswer};
+ghost use Rattle.blocks.specs.Blocks.{countedList, countedPlace, branchList, rawBytes, auxBytes, registerList, stackBytes, filledAnswer};
 
 pub mod scan;
 
@@ -74,6 +74,19 @@ pub fn counted(s: &[u8], at: usize, on: bool, unit: usize) -> Place
         return Place { at, why: 0 };
     }
     elements(s, at, 8, unit)
+}
+
+// Branches: a count, the hardware index if there is one, and so many entries of 24 bytes.
+pub fn branches(s: &[u8], at: usize, on: bool, index: bool) -> Place
+    requires { ⌜ at ≤ length (now s) ⌝ }
+    requires { ⌜ length (now s) < 65536 ⌝ }
+    ensures { λ r. ⌜ Ends (now (s .entry)) (branchList on index) at r ⌝ }
+{
+    if !on {
+        return Place { at, why: 0 };
+    }
+    let fixed = if index { 16 } else { 8 };
+    elements(s, at, fixed, 24)
 }
 
 // Raw: a size, and so many bytes; both together are a multiple of 8.

@@ -14,12 +14,16 @@ pub record Case : Type 0 where
   pub kind : ℕ
   pub misc : ℕ
   pub attributes : Attributes
-  -- 20 to 24 or 0; and whether something is outside
+  -- 20 to 25 or 0; and whether something is outside
   pub says : ℕ
   pub out : Bool
 
 abbrev attributes : ℕ → ℕ → Bool → Attributes
-attributes sample format all = record { sample = sample; format = format; all = all; user = 0; interrupt = 0 }
+attributes sample format all = record { sample = sample; format = format; all = all; user = 0; interrupt = 0; branch = 0 }
+
+-- with branches, and a branch sample type
+abbrev branching : ℕ → Attributes
+branching x = record { sample = 2 ^ 11; format = 0; all = false; user = 0; interrupt = 0; branch = x }
 
 abbrev case : ℕ → ℕ → ℕ → Attributes → ℕ → Bool → Case
 case e t misc a n out = record { edition = e; kind = t; misc = misc; attributes = a; says = n; out = out }
@@ -45,6 +49,13 @@ cases =
     -- 24 is no edition's
     ∷ case 3 9 0 (attributes (2 ^ 14 + 2 ^ 24) 0 false) 24 false
     ∷ case 2 9 0 (attributes (2 ^ 14 + 2 ^ 24) 0 false) 21 true
+    -- branch bits: 17 from edition 3 on, 18 in all, 19 in none; and only of a SAMPLE with branches
+    ∷ case 2 9 0 (branching (2 ^ 17)) 25 true
+    ∷ case 3 9 0 (branching (2 ^ 17)) 0 false
+    ∷ case 1 9 0 (branching (2 ^ 18 + 65535)) 0 false
+    ∷ case 3 9 0 (branching (2 ^ 19)) 25 true
+    ∷ case 3 9 0 (branching (2 ^ 63)) 25 true
+    ∷ case 1 3 0 (branching (2 ^ 17 + 2 ^ 19)) 0 false
     ∷ []
 
 pub record Found : Type 0 where
@@ -70,5 +81,5 @@ unfolding unreadable first known bit outside depends bits
 as-wanted = refl
 
 -- the way on: a fourth row rises too. kept: the laws of editions hold of any rows that rise
-pub four-rise : rising (editions ++ (edition 21 25 5 true ∷ [])) ≡ true
+pub four-rise : rising (editions ++ (edition 21 25 5 true true ∷ [])) ≡ true
 four-rise = refl

@@ -12,13 +12,13 @@ use Rattle.meaning.specs.declared.Attributes.{Attributes}
 use Rattle.meaning.specs.declared.Known.{Known}
 use Rattle.meaning.specs.Refusals.{Refusal, first, orElse}
 use Rattle.meaning.specs.Schema.{schema, trailer}
-use Rattle.meaning.specs.Editions.{editions, allowed, known, Thing, knows, outside, when, bits, kind, sampleBit, formatBit, buildId, depends, hasSampleBits, hasReadValues, hasBuildId, unknowns, clashes, unreadable, isUnknown}
+use Rattle.meaning.specs.Editions.{editions, allowed, known, Thing, knows, outside, when, bits, kind, sampleBit, formatBit, buildId, branchBit, depends, hasSampleBits, hasReadValues, hasBuildId, hasBranches, strangeBranch, unknowns, clashes, unreadable, isUnknown}
 use Rattle.meaning.specs.Records.{layout, kindOf, miscOf, sizeOf, room, fieldsAnswer, judge, checkBy, check}
 use Rattle.laws.specs.Bytes.{apart, and-true}
 use Rattle.editions.specs.Fairness.{within, rising, Words, dependsOf, Fair}
 use Rattle.runs.specs.Cutting.{framed}
 use Rattle.laws.specs.Rows.{or-false}
-use Rattle.editions.specs.Outside.{outside-append, outside-when, bits-outside, outside-less, known-within}
+use Rattle.editions.specs.Outside.{outside-append, outside-when, bits-outside, branch-outside, outside-less, known-within}
 use Rattle.editions.specs.InTable.{fields-known}
 
 -- ---- any list of rows
@@ -89,7 +89,7 @@ first-else (r ∷ rs) rest body z =
     by true g q = kept (r .number) (eqb (r .number) 0) refl g
     by false g q = q
 
--- ---- the rows 20 to 23 hold exactly where something that the reading depends on is outside
+-- ---- the rows 20 to 23 and 25 hold exactly where something that the reading depends on is outside
 pub kind-outside : (k : Known) (t : ℕ) → (eqb t 0 || ltb (k .kinds) t) ≡ not (knows k (kind t))
 kind-outside k zero = refl
 kind-outside k (suc t) = by (ltb (k .kinds) (suc t)) refl
@@ -118,15 +118,22 @@ unfolding outside
 form-outside k true t = sym (or-nil (not (knows k t)))
 form-outside k false t = refl
 
+branches-outside : (k : Known) (t : ℕ) (a : Attributes) → a .branch < 2 ^ 64
+    → (hasBranches t a && strangeBranch k a) ≡ outside k (when (hasBranches t a) (bits branchBit (a .branch) 0 64))
+branches-outside k t a s =
+    ap (λ (b : Bool). hasBranches t a && b) (sym (branch-outside k (a .branch) s)) ∙ sym (outside-when k (hasBranches t a) (bits branchBit (a .branch) 0 64))
+
 pub rules-outside : (k : Known) (t misc : ℕ) (a : Attributes) → Words a → anyHolds (unknowns k t misc a) ≡ outside k (depends t misc a)
 unfolding depends outside
 rules-outside k t misc a ws =
     let x : List Thing = when (hasSampleBits t a) (bits sampleBit (a .sample) 0 64) in
     let y : List Thing = when (hasReadValues t a) (bits formatBit (a .format) 0 64) in
     let z : List Thing = when (hasBuildId t misc) (buildId ∷ []) in
-    let c4 = or-nil _ ∙ form-outside k (hasBuildId t misc) buildId in
-    let c3 = ap₂ (λ (p q : Bool). p || q) (format-outside k t a (ws .format)) c4 ∙ sym (outside-append k y z) in
-    let c2 = ap₂ (λ (p q : Bool). p || q) (sample-outside k t a (ws .sample)) c3 ∙ sym (outside-append k x (y ++ z)) in
+    let v : List Thing = when (hasBranches t a) (bits branchBit (a .branch) 0 64) in
+    let c5 = or-nil _ ∙ branches-outside k t a (ws .branch) in
+    let c4 = ap₂ (λ (p q : Bool). p || q) (form-outside k (hasBuildId t misc) buildId) c5 ∙ sym (outside-append k z v) in
+    let c3 = ap₂ (λ (p q : Bool). p || q) (format-outside k t a (ws .format)) c4 ∙ sym (outside-append k y (z ++ v)) in
+    let c2 = ap₂ (λ (p q : Bool). p || q) (sample-outside k t a (ws .sample)) c3 ∙ sym (outside-append k x (y ++ (z ++ v))) in
     ap₂ (λ (p q : Bool). p || q) (kind-outside k t) c2
 
 -- ---- fair answers
@@ -146,7 +153,7 @@ fair-first rs₁ rs₂ rest₁ rest₂ out u h w =
           first-none rs₁ rest₁ (s .0) ∙ w .alike (s .1) ∙ sym (first-none rs₂ rest₂ (h (s .0)));
     }
 
--- 20 to 24, then what the body says, is one chain
+-- 20 to 25, then what the body says, is one chain
 unreadable-chain : (k : Known) (a : Attributes) (t misc body : ℕ) → orElse (unreadable k a t misc) body ≡ first (unknowns k t misc a) (first (clashes t a) body)
 unfolding unreadable
 unreadable-chain k a t misc body =

@@ -36,7 +36,7 @@ front a = sampleFirst a ++ readValues a (bit (a .sample) 4)
 
 -- its lists in two stretches
 abbrev pub lists : Attributes → List Item
-lists a = countedList (bit (a .sample) 5) 8 ++ (rawBytes (bit (a .sample) 10) ++ branchList (bit (a .sample) 11))
+lists a = countedList (bit (a .sample) 5) 8 ++ (rawBytes (bit (a .sample) 10) ++ branchList (bit (a .sample) 11) (bit (a .branch) 17))
 
 abbrev pub state : Attributes → List Item
 state a = registerList (bit (a .sample) 12) (a .user) ++ stackBytes (bit (a .sample) 13)

@@ -29,7 +29,7 @@ fn front(s: &[u8], a: Attributes, sums: &[u64; 8]) -> Place
     c
 }
 
-// Callchain, raw, branches.
+// Callchain, raw, branches with the hardware index.
 fn lists(s: &[u8], at: usize, a: Attributes) -> Place
     requires { ⌜ at ≤ length (now s) ⌝ }
     requires { ⌜ length (now s) < 65536 ⌝ }
@@ -46,7 +46,8 @@ fn lists(s: &[u8], at: usize, a: Attributes) -> Place
         return d;
     }
     let then = d.at;
-    blocks::counted(s, then, wire::has_bit(x, 11), 24)
+    let index = wire::has_bit(a.branch, 17);
+    blocks::branches(s, then, wire::has_bit(x, 11), index)
 }
 
 // User registers, user stack.

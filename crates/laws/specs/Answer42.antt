@@ -85,7 +85,7 @@ module _ (rows : List Known) (e : ℕ) (a : Attributes) where
       let u = and-true (allZero (spare lay ws)) (fits lay (meant lay src ws)) (s .0) in
       record { edition = p .0; known = q .0; inside = r .0; spared = u .0; fitting = u .1; enough = leb-true _ _ (t .0) }
 
-  -- past 2, 20 to 24, and 41
+  -- past 2, 20 to 25, and 41
   past-41 : (src ws : List ℕ) (space : ℕ) → allowed rows e ≡ true → lay .unknown (getD ws 0 0) (getD ws 1 0) ≡ 0 → passes src ws ≡ false
       → writeAnswer rows e a src ws space ≡ cond (writable lay src ws) (cond (leb (length (bytesOf src ws)) space) 0 40) 42
   unfolding writeAnswer writeBy
@@ -162,7 +162,7 @@ module _ (rows : List Known) (e : ℕ) (a : Attributes) where
         same-clean = λ q. sym c ∙ q;
       }
 
-  -- ---- 42, past 2, 20 to 24 and 41: exactly when no record decodes, under that edition and those attributes, to the same numbers and listed bytes
+  -- ---- 42, past 2, 20 to 25 and 41: exactly when no record decodes, under that edition and those attributes, to the same numbers and listed bytes
 
   write-42 : (t u : Bool) → _≡_ {A = ℕ} (cond t (cond u 0 40) 42) 42 → t ≡ false
   write-42 true true h = absurd (omega (arith, h))

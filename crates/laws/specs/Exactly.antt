@@ -97,7 +97,7 @@ walk-laid (i ∷ is) F c h e =
     let h₁ : step F i c .why ≡ 0 = fine F is (step F i c) h in
     one-laid (i .on) (i .shape) is F c (fine₁ F i c h₁) h₁ (walk-laid is F (step F i c) h e)
 
--- a record that is laid out by the schema: a header whose size is the length, a multiple of 8; nothing that the edition does not know (20 to 24); the
+-- a record that is laid out by the schema: a header whose size is the length, a multiple of 8; nothing that the edition does not know (20 to 25); the
 -- fields; and a trailer of as many bytes as its selected items take
 pub record LaidOut (lay : Layout) (xs : List ℕ) : Type 0 where
   pub least : 8 ≤ length xs

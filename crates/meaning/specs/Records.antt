@@ -18,8 +18,8 @@ use Rattle.meaning.specs.Writing.{fit, write, cleaned}
 use Rattle.meaning.specs.Schema.{schema, trailer}
 use Rattle.meaning.specs.Editions.{unreadable, known, allowed}
 
--- what an edition and attributes fix: the fields by type and misc, the trailer by type, and 20 to 24 (0: none of them).
--- "What a record decodes to depends on the edition only through refusals 20 to 24": only `unknown` has it
+-- what an edition and attributes fix: the fields by type and misc, the trailer by type, and 20 to 25 (0: none of them).
+-- "What a record decodes to depends on the edition only through refusals 20 to 24", and M-102's 25: only `unknown` has it
 pub record Layout : Type 0 where
   pub body : ℕ → ℕ → List Item
   pub trail : ℕ → List Item
@@ -99,7 +99,7 @@ closed end c = orElse (c .why) (cond (eqb (c .at) end) 0 31)
 unfoldable pub fieldsAnswer : List Item → ℕ → List ℕ → ℕ
 fieldsAnswer is t xs = cond (leb (8 + t) (length xs)) (closed (length xs - t) (walk (fieldsOf t xs) is (origin 8))) 30
 
--- the answer for the bytes of a record: 20 to 24, then 30 to 33, else 0
+-- the answer for the bytes of a record: 20 to 25, then 30 to 33, else 0
 unfoldable pub judge : Layout → List ℕ → ℕ
 judge lay xs =
     orElse (lay .unknown (kindOf xs) (miscOf xs)) (fieldsAnswer (lay .body (kindOf xs) (miscOf xs)) (room (lay .trail (kindOf xs))) xs)

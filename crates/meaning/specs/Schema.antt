@@ -66,7 +66,8 @@ sampleFirst a =
     ∷ []
 
 -- "callchain 5 (n, n u64), raw 10 (u32 size, bytes), branches 11 (n, n entries of 24 bytes), user registers 12, user stack 13 (size, bytes,
--- filled length; size 0 has neither)". The kept word is for M-102's hardware index
+-- filled length; size 0 has neither)". M-102: "one more word between branch count and entries when branch sample bit 17 is selected", which is the
+-- hardware index; where there are no branches there is no index
 abbrev pub sampleLists : Attributes → List Item
 sampleLists a =
     selected a 5 (Count W8)
@@ -74,7 +75,7 @@ sampleLists a =
     ∷ selected a 10 (Size W4)
     ∷ selected a 10 (Times 1)
     ∷ selected a 11 (Count W8)
-    ∷ keptWord
+    ∷ item (bit (a .sample) 11 && bit (a .branch) 17) (Number W8)
     ∷ selected a 11 (Times 24)
     ∷ selected a 12 (Abi (a .user))
     ∷ selected a 12 Registers

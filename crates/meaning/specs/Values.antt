@@ -242,7 +242,7 @@ spareBy is ts ws = drop (bodyWords + width is) (take trailWords ws) ++ drop (tra
 unfoldable pub spare : Layout → List ℕ → List ℕ
 spare lay ws = spareBy (lay .body (getD ws 0 0) (getD ws 1 0)) (lay .trail (getD ws 0 0)) ws
 
--- ---- the writer: "2; 20 to 24; 41; 42; 40"
+-- ---- the writer: "2; 20 to 24; 41; 42; 40", with M-102's 25 after 23 and before 24
 
 -- 42 is decided by a test over the items; that it says exactly "no record decodes to the same numbers and listed bytes" is a theorem
 unfoldable pub writable : Layout → List ℕ → List ℕ → Bool

@@ -14,7 +14,7 @@ pub data Word : Type 0 where
   pid tid ppid ptid time addr len pgoff name nameCount : Word
   id lost streamId identifier cpu ip period : Word
   value valuesCount enabled running keptLost values : Word
-  callchainCount callchain rawSize raw branchesCount keptIndex branches : Word
+  callchainCount callchain rawSize raw branchesCount hardwareIndex branches : Word
   userAbi userRegisters userRegistersCount stackSize stack filled : Word
   weight dataSource transaction interruptAbi interruptRegisters interruptRegistersCount : Word
   physicalAddress cgroup dataPageSize codePageSize auxSize aux : Word
@@ -38,7 +38,7 @@ abbrev pub sampleNames : List Word
 sampleNames =
     (identifier ∷ ip ∷ pid ∷ tid ∷ time ∷ addr ∷ id ∷ streamId ∷ cpu ∷ period ∷ [])
     ++ (readNames
-    ++ ((callchainCount ∷ callchain ∷ rawSize ∷ raw ∷ branchesCount ∷ keptIndex ∷ branches ∷ [])
+    ++ ((callchainCount ∷ callchain ∷ rawSize ∷ raw ∷ branchesCount ∷ hardwareIndex ∷ branches ∷ [])
     ++ ((userAbi ∷ userRegisters ∷ userRegistersCount ∷ stackSize ∷ stack ∷ filled ∷ [])
     ++ ((weight ∷ dataSource ∷ transaction ∷ interruptAbi ∷ interruptRegisters ∷ interruptRegistersCount ∷ [])
     ++ (physicalAddress ∷ cgroup ∷ dataPageSize ∷ codePageSize ∷ auxSize ∷ aux ∷ [])))))

@@ -2,21 +2,24 @@
 // place in it, and what the callers are told. What document 01 says of them stands in specs/.
 
 // What an edition knows: record types 1 to `kinds`, sample bits below `samples`, read-format bits below `formats`, the
-// build-id form of MMAP2 or not.
+// build-id form of MMAP2 or not, branch sample bit 17 (the hardware index) or not.
 pub struct Known {
     pub kinds: u64,
     pub samples: u64,
     pub formats: u64,
     pub builds: bool,
+    pub index: bool,
 }
 
-// One attribute set serves a whole ring: sample type, read format, sample_id_all, user and interrupt register masks.
+// One attribute set serves a whole ring: sample type, read format, sample_id_all, user and interrupt register masks,
+// branch sample type.
 pub struct Attributes {
     pub sample: u64,
     pub format: u64,
     pub all: bool,
     pub user: u64,
     pub interrupt: u64,
+    pub branch: u64,
 }
 
 pub enum Width {

@@ -16,8 +16,15 @@ use meaning::Attributes;
 use meaning::Drained;
 use one::OneTold;
 
-fn attributes(sample: u64, format: u64, all: u32, user: u64, interrupt: u64) -> Attributes
-    ensures { λ r. ⌜ r ≡ given sample format all user interrupt ⌝ }
+fn attributes(
+    sample: u64,
+    format: u64,
+    all: u32,
+    user: u64,
+    interrupt: u64,
+    branch: u64,
+) -> Attributes
+    ensures { λ r. ⌜ r ≡ given sample format all user interrupt branch ⌝ }
 {
     Attributes {
         sample,
@@ -25,6 +32,7 @@ fn attributes(sample: u64, format: u64, all: u32, user: u64, interrupt: u64) -> 
         all: all != 0,
         user,
         interrupt,
+        branch,
     }
 }
 
@@ -38,16 +46,17 @@ pub extern "C" fn ollskuvan_drain(
     all: u32,
     user: u64,
     interrupt: u64,
+    branch: u64,
     edition: u32,
     budget: u64,
     scratch: &mut [u8],
     journal: &mut [u8],
 ) -> Drained
-    ensures { λ r. ⌜ r ≡ told (drain editions edition (given sample format all user interrupt) (now (ring .entry)) head tail budget (now (journal .entry)) (now (scratch .entry))) ⌝ }
-    ensures { λ _. ⌜ now (journal .exit) ≡ drain editions edition (given sample format all user interrupt) (now (ring .entry)) head tail budget (now (journal .entry)) (now (scratch .entry)) .state .journal ⌝ }
-    ensures { λ _. ⌜ now (scratch .exit) ≡ drain editions edition (given sample format all user interrupt) (now (ring .entry)) head tail budget (now (journal .entry)) (now (scratch .entry)) .state .scratch ⌝ }
+    ensures { λ r. ⌜ r ≡ told (drain editions edition (given sample format all user interrupt branch) (now (ring .entry)) head tail budget (now (journal .entry)) (now (scratch .entry))) ⌝ }
+    ensures { λ _. ⌜ now (journal .exit) ≡ drain editions edition (given sample format all user interrupt branch) (now (ring .entry)) head tail budget (now (journal .entry)) (now (scratch .entry)) .state .journal ⌝ }
+    ensures { λ _. ⌜ now (scratch .exit) ≡ drain editions edition (given sample format all user interrupt branch) (now (ring .entry)) head tail budget (now (journal .entry)) (now (scratch .entry)) .state .scratch ⌝ }
 {
-    let a = attributes(sample, format, all, user, interrupt);
+    let a = attributes(sample, format, all, user, interrupt, branch);
     let e = edition as u64;
     fast_drain::drain(ring, head, tail, e, a, budget, scratch, journal)
 }
@@ -63,15 +72,16 @@ pub extern "C" fn ollskuvan_read_one(
     all: u32,
     user: u64,
     interrupt: u64,
+    branch: u64,
     edition: u32,
     scratch: &mut [u8],
     fields: &mut [u64],
 ) -> OneTold
-    ensures { λ r. ⌜ r ≡ oneTold editions edition (given sample format all user interrupt) (now (ring .entry)) head tail (now (scratch .entry)) (now (fields .entry)) ⌝ }
+    ensures { λ r. ⌜ r ≡ oneTold editions edition (given sample format all user interrupt branch) (now (ring .entry)) head tail (now (scratch .entry)) (now (fields .entry)) ⌝ }
     ensures { λ _. ⌜ now (scratch .exit) ≡ oneScratch editions edition (now (ring .entry)) head tail (now (scratch .entry)) ⌝ }
-    ensures { λ _. ⌜ now (fields .exit) ≡ oneWords editions edition (given sample format all user interrupt) (now (ring .entry)) head tail (now (scratch .entry)) (now (fields .entry)) ⌝ }
+    ensures { λ _. ⌜ now (fields .exit) ≡ oneWords editions edition (given sample format all user interrupt branch) (now (ring .entry)) head tail (now (scratch .entry)) (now (fields .entry)) ⌝ }
 {
-    let a = attributes(sample, format, all, user, interrupt);
+    let a = attributes(sample, format, all, user, interrupt, branch);
     let e = edition as u64;
     one::read_one_into(ring, head, tail, e, a, scratch, fields)
 }
@@ -85,11 +95,12 @@ pub extern "C" fn ollskuvan_check(
     all: u32,
     user: u64,
     interrupt: u64,
+    branch: u64,
     edition: u32,
 ) -> u32
-    ensures { λ r. ⌜ r ≡ recordCheck editions edition (given sample format all user interrupt) (now (bytes .entry)) ⌝ }
+    ensures { λ r. ⌜ r ≡ recordCheck editions edition (given sample format all user interrupt branch) (now (bytes .entry)) ⌝ }
 {
-    let a = attributes(sample, format, all, user, interrupt);
+    let a = attributes(sample, format, all, user, interrupt, branch);
     let e = edition as u64;
     record::check(bytes, e, a) as u32
 }
@@ -124,13 +135,14 @@ pub extern "C" fn ollskuvan_read(
     all: u32,
     user: u64,
     interrupt: u64,
+    branch: u64,
     edition: u32,
     words: &mut [u64],
 ) -> u32
-    ensures { λ r. ⌜ r ≡ readIntoAnswer editions edition (given sample format all user interrupt) (now (bytes .entry)) (now (words .entry)) ⌝ }
-    ensures { λ _. ⌜ now (words .exit) ≡ readIntoWords editions edition (given sample format all user interrupt) (now (bytes .entry)) (now (words .entry)) ⌝ }
+    ensures { λ r. ⌜ r ≡ readIntoAnswer editions edition (given sample format all user interrupt branch) (now (bytes .entry)) (now (words .entry)) ⌝ }
+    ensures { λ _. ⌜ now (words .exit) ≡ readIntoWords editions edition (given sample format all user interrupt branch) (now (bytes .entry)) (now (words .entry)) ⌝ }
 {
-    let a = attributes(sample, format, all, user, interrupt);
+    let a = attributes(sample, format, all, user, interrupt, branch);
     let e = edition as u64;
     record::read_into(bytes, e, a, words) as u32
 }
@@ -145,13 +157,14 @@ pub extern "C" fn ollskuvan_write(
     all: u32,
     user: u64,
     interrupt: u64,
+    branch: u64,
     edition: u32,
     buffer: &mut [u8],
 ) -> u32
-    ensures { λ r. ⌜ r ≡ writeWordsAnswer edition (given sample format all user interrupt) (now (source .entry)) (now (words .entry)) (length (now (buffer .entry))) ⌝ }
-    ensures { λ _. ⌜ now (buffer .exit) ≡ writeWordsBuffer edition (given sample format all user interrupt) (now (source .entry)) (now (words .entry)) (now (buffer .entry)) ⌝ }
+    ensures { λ r. ⌜ r ≡ writeWordsAnswer edition (given sample format all user interrupt branch) (now (source .entry)) (now (words .entry)) (length (now (buffer .entry))) ⌝ }
+    ensures { λ _. ⌜ now (buffer .exit) ≡ writeWordsBuffer edition (given sample format all user interrupt branch) (now (source .entry)) (now (words .entry)) (now (buffer .entry)) ⌝ }
 {
-    let a = attributes(sample, format, all, user, interrupt);
+    let a = attributes(sample, format, all, user, interrupt, branch);
     let e = edition as u64;
     writer::write(words, source, e, a, buffer) as u32
 }

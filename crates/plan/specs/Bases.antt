@@ -24,7 +24,7 @@ use Rattle.blocks.specs.Steady.{oneWidth, widthOf, steady, total}
 use Rattle.exact.specs.Stretches.{groups, late, front, firstSum, total-append, or-no}
 use Rattle.plan.specs.Judged.{no-trailer}
 use Rattle.plan.specs.Sums.{readSum, read-count}
-use Rattle.plan.specs.Marks.{openMark, stretchedMark, refusedMark, nameFrom, isName, Marked, as-size, as-counted, as-named, as-refused, and-no, misc-unreadable, same-trailer, trail-eights}
+use Rattle.plan.specs.Marks.{lastType, openMark, stretchedMark, refusedMark, nameFrom, isName, Marked, as-size, as-counted, as-named, as-refused, and-no, misc-unreadable, same-trailer, trail-eights}
 
 -- by type, from 0 on: the bytes of header and fields, where all are of one width; how the bytes decide; 20 for what no edition has. READ (8) and
 -- SAMPLE (9) are set apart
@@ -52,7 +52,7 @@ bases-at t (b ∷ bs) (suc k) h = bases-at t bs k (omega (arith, h))
 -- what a base says of a type's layout: 20; a size; a count that decides; a name
 baseOk : ℕ → List Item → ℕ → Bool
 baseOk kind is b =
-    cond (eqb kind 0 || ltb 20 kind) (eqb b 131092)
+    cond (eqb kind 0 || ltb lastType kind) (eqb b 131092)
     (cond (eqb kind 8 || eqb kind 9) true
     (cond (ltb b openMark)
     (steady is && (eqb (8 + total is) b && (eqb (b % 8) 0 && leb b 1000)))
@@ -129,11 +129,11 @@ module _ (k : Known) (a : Attributes) (kind : ℕ) (l : 1 ≤ kind) (m : kind �
 
 -- ---- the marks of the types
 
-module _ (k : Known) (a : Attributes) (t : ℕ) (et : t ≡ room (trailer 1 a)) (lt : t ≤ 512) (n : k .kinds ≤ 20) where
+module _ (k : Known) (a : Attributes) (t : ℕ) (et : t ≡ room (trailer 1 a)) (lt : t ≤ 512) (n : k .kinds ≤ lastType) where
   abbrev base : ℕ → ℕ
   base kind = getD bases kind 0
 
-  twenty : (kind : ℕ) → kind < 32 → (eqb kind 0 || ltb 20 kind) ≡ true → withTrailer t (base kind) ≡ 131092
+  twenty : (kind : ℕ) → kind < 32 → (eqb kind 0 || ltb lastType kind) ≡ true → withTrailer t (base kind) ≡ 131092
   unfolding baseOk
   twenty kind h e =
       let o : eqb (base kind) 131092 ≡ true = rw e at (ok a kind h) in
@@ -151,9 +151,9 @@ module _ (k : Known) (a : Attributes) (t : ℕ) (et : t ≡ room (trailer 1 a)) 
     unfolding baseOk
     inner =
         let z : kind ≡ 0 → ⊥ = λ e. omega (arith, e, l) in
-        let v : kind ≤ 20 = omega (arith, m, n) in
+        let v : kind ≤ lastType = omega (arith, m, n) in
         let b : kind < 32 = omega (arith, v) in
-        simp (ne-eqb kind 0 z, le-ltb 20 kind v, ne-eqb kind 8 x, ne-eqb kind 9 y) at (ok a kind b)
+        simp (ne-eqb kind 0 z, le-ltb lastType kind v, ne-eqb kind 8 x, ne-eqb kind 9 y) at (ok a kind b)
 
     by-size : ltb (base kind) openMark ≡ true → Marked k a kind (base kind + t)
     by-size e =
@@ -237,7 +237,7 @@ fill-shorter p from to v q l f =
       high = λ j h. ⊎-elim (λ (y : from ≤ j). f .high j y) (λ (y : j < from). f .low j y) (le-or-lt from j);
     }
 
-module _ (k : Known) (a : Attributes) (t : ℕ) (et : t ≡ room (trailer 1 a)) (lt : t ≤ 512) (n : k .kinds ≤ 20) (q : List ℕ) (f : Filled (basesWith t) (k .kinds + 1) 21 131092 q) where
+module _ (k : Known) (a : Attributes) (t : ℕ) (et : t ≡ room (trailer 1 a)) (lt : t ≤ 512) (n : k .kinds ≤ lastType) (q : List ℕ) (f : Filled (basesWith t) (k .kinds + 1) (lastType + 1) 131092 q) where
   base-value : (kind : ℕ) → kind < 32 → getD (basesWith t) kind 0 ≡ withTrailer t (getD bases kind 0)
   unfolding basesWith
   base-value kind h = bases-at t bases kind h
@@ -249,9 +249,9 @@ module _ (k : Known) (a : Attributes) (t : ℕ) (et : t ≡ room (trailer 1 a)) 
       (λ (e : kind ≡ 0). f .low kind (omega (arith, e)) ∙ base-value kind h ∙ twenty k a t et lt n kind h (rw e))
       (λ (g : k .kinds < kind).
       ⊎-elim
-      (λ (b : 21 ≤ kind). f .high kind b ∙ base-value kind h ∙ twenty k a t et lt n kind h (let v : 20 < kind = omega (arith, b) in simp (lt-ltb 20 kind v, or-yes)))
-      (λ (b : kind < 21). f .inside kind (omega (arith, g)) b)
-      (le-or-lt 21 kind))
+      (λ (b : lastType + 1 ≤ kind). f .high kind b ∙ base-value kind h ∙ twenty k a t et lt n kind h (let v : lastType < kind = omega (arith, b) in simp (lt-ltb lastType kind v, or-yes)))
+      (λ (b : kind < lastType + 1). f .inside kind (omega (arith, g)) b)
+      (le-or-lt (lastType + 1) kind))
       c
 
   split : (kind : ℕ) → ((kind ≡ 0) ⊎ (k .kinds < kind)) ⊎ ((1 ≤ kind) × (kind ≤ k .kinds))

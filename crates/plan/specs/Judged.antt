@@ -31,7 +31,7 @@ sizes-shift p q m n k g h =
     (le-or-lt m n)
 
 module _ (lay : Layout) (xs : List ℕ) where
-  -- 20 to 24
+  -- 20 to 25
   pub unreadable-judged : (w : ℕ) → lay .unknown (kindOf xs) (miscOf xs) ≡ w → (w ≡ 0 → ⊥) → w ≡ judge lay xs
   unfolding judge
   unreadable-judged w u z = rw (u, ne-eqb w 0 z)

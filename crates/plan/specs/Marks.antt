@@ -17,7 +17,7 @@ use Rattle.meaning.specs.declared.Shape.{Shape}
 use Rattle.meaning.specs.declared.Shape.the-variants.{Number, Ignored, Count, Size, Times, Earlier, Registers, Filled, Abi, Limit, Listed, Bytes, Pad, Name}
 use Rattle.meaning.specs.Bytes.{bit}
 use Rattle.meaning.specs.Refusals.{first}
-use Rattle.meaning.specs.Editions.{unreadable}
+use Rattle.meaning.specs.Editions.{strangeBranch, unreadable}
 use Rattle.meaning.specs.Schema.{always, readValues, sample, mmap2, schemas, schema, trailer, u32, u64, tasks, threeWords}
 use Rattle.meaning.specs.Records.{layout, kindOf, miscOf, room, fieldsOf, judge}
 use Rattle.laws.specs.Bytes.{apart, and-true}
@@ -30,6 +30,10 @@ use Rattle.plan.specs.Judged.{unreadable-judged, short-judged, closes-ju
 use Rattle.laws.specs.Whole.{length-fields}
 
 -- ---- the marks
+
+-- no edition has a type above it
+abbrev pub lastType : ℕ
+lastType = 20
 
 -- below it a size; from it on, how the bytes decide; from `refusedMark` on, the refusal
 abbrev pub openMark : ℕ
@@ -83,7 +87,7 @@ pub record Marked (k : Known) (a : Attributes) (kind mark : ℕ) : Type 0 where
 
 -- all types that have a mark
 pub record Marks (k : Known) (a : Attributes) (marks : List ℕ) : Type 0 where
-  pub few : k .kinds ≤ 20
+  pub few : k .kinds ≤ lastType
   pub long : length marks ≡ 32
   pub at : (kind : ℕ) → kind < 32 → Marked k a kind (getD marks kind 0)
 
@@ -140,7 +144,7 @@ module _ (k : Known) (a : Attributes) (kind : ℕ) where
         refused = λ h. (omega (arith, z), omega (arith, l), λ misc. u misc ∙ (let e : w ≡ refusedMark + w - refusedMark = omega arith in e));
       }
 
--- ---- misc decides the layout and 20 to 24 of MMAP2 alone
+-- ---- misc decides the layout and 20 to 25 of MMAP2 alone
 
 getD-other : (xs ys : List (List Item)) (y z : List Item) (k : ℕ) → (k ≡ length xs → ⊥) → getD (xs ++ (y ∷ ys)) k [] ≡ getD (xs ++ (z ∷ ys)) k []
 getD-other [] ys y z zero h = absurd (h refl)
@@ -195,7 +199,8 @@ unfolding unreadable first
 reads-any k a kind misc h u =
     by (eqb kind 0 || ltb (k .kinds) kind) (leb (2 ^ k .samples) (a .sample) && (eqb kind 9 || a .all))
     (leb (2 ^ k .formats) (a .format) && (eqb kind 8 || (eqb kind 9 && bit (a .sample) 4)))
-    ((eqb kind 10 && bit misc 14) && not (k .builds)) ((eqb kind 10 && bit 0 14) && not (k .builds)) (cond (eqb kind 9 && weights a) 24 0) h u
+    ((eqb kind 10 && bit misc 14) && not (k .builds)) ((eqb kind 10 && bit 0 14) && not (k .builds))
+    (cond ((eqb kind 9 && bit (a .sample) 11) && strangeBranch k a) 25 (cond (eqb kind 9 && weights a) 24 0)) h u
   where
     by : (x y z v o : Bool) (w : ℕ) → v ≡ false → cond x 20 (cond y 21 (cond z 22 (cond o 23 w))) ≡ 0 → cond x 20 (cond y 21 (cond z 22 (cond v 23 w))) ≡ 0
     by true y z v o w q e = absurd (omega (arith, e))
@@ -204,19 +209,21 @@ reads-any k a kind misc h u =
     by false false false v true w q e = absurd (omega (arith, e))
     by false false false v false w q e = ap (λ (t : Bool). cond t 23 w) q ∙ e
 
-pub unreadable-most : (k : Known) (a : Attributes) (kind misc : ℕ) → unreadable k a kind misc ≤ 24
+pub unreadable-most : (k : Known) (a : Attributes) (kind misc : ℕ) → unreadable k a kind misc ≤ 25
 unfolding unreadable first
 unreadable-most k a kind misc =
     by (eqb kind 0 || ltb (k .kinds) kind) (leb (2 ^ k .samples) (a .sample) && (eqb kind 9 || a .all))
-    (leb (2 ^ k .formats) (a .format) && (eqb kind 8 || (eqb kind 9 && bit (a .sample) 4))) ((eqb kind 10 && bit misc 14) && not (k .builds)) (eqb kind 9 && weights a)
+    (leb (2 ^ k .formats) (a .format) && (eqb kind 8 || (eqb kind 9 && bit (a .sample) 4))) ((eqb kind 10 && bit misc 14) && not (k .builds))
+    ((eqb kind 9 && bit (a .sample) 11) && strangeBranch k a) (eqb kind 9 && weights a)
   where
-    by : (x y z v w : Bool) → cond {A = ℕ} x 20 (cond y 21 (cond z 22 (cond v 23 (cond w 24 0)))) ≤ 24
-    by true y z v w = omega arith
-    by false true z v w = omega arith
-    by false false true v w = omega arith
-    by false false false true w = omega arith
-    by false false false false true = omega arith
-    by false false false false false = omega arith
+    by : (x y z v s w : Bool) → cond {A = ℕ} x 20 (cond y 21 (cond z 22 (cond v 23 (cond s 25 (cond w 24 0))))) ≤ 25
+    by true y z v s w = omega arith
+    by false true z v s w = omega arith
+    by false false true v s w = omega arith
+    by false false false true s w = omega arith
+    by false false false false true w = omega arith
+    by false false false false false true = omega arith
+    by false false false false false false = omega arith
 
 pub and-no : (x : Bool) → (x && false) ≡ false
 and-no true = refl
@@ -243,15 +250,17 @@ build-unknown k a misc u e b =
 -- what is read has not both weights
 pub one-weight : (k : Known) (a : Attributes) → unreadable k a 9 0 ≡ 0 → weights a ≡ false
 unfolding unreadable first
-one-weight k a u = by (ltb (k .kinds) 9) (leb (2 ^ k .samples) (a .sample) && true) (leb (2 ^ k .formats) (a .format) && bit (a .sample) 4) false (weights a) u
+one-weight k a u =
+    by (ltb (k .kinds) 9) (leb (2 ^ k .samples) (a .sample) && true) (leb (2 ^ k .formats) (a .format) && bit (a .sample) 4) false (bit (a .sample) 11 && strangeBranch k a) (weights a) u
   where
-    by : (x y z v w : Bool) → cond {A = ℕ} x 20 (cond y 21 (cond z 22 (cond v 23 (cond w 24 0)))) ≡ 0 → w ≡ false
-    by true y z v w e = absurd (omega (arith, e))
-    by false true z v w e = absurd (omega (arith, e))
-    by false false true v w e = absurd (omega (arith, e))
-    by false false false true w e = absurd (omega (arith, e))
-    by false false false false true e = absurd (omega (arith, e))
-    by false false false false false e = refl
+    by : (x y z v s w : Bool) → cond {A = ℕ} x 20 (cond y 21 (cond z 22 (cond v 23 (cond s 25 (cond w 24 0))))) ≡ 0 → w ≡ false
+    by true y z v s w e = absurd (omega (arith, e))
+    by false true z v s w e = absurd (omega (arith, e))
+    by false false true v s w e = absurd (omega (arith, e))
+    by false false false true s w e = absurd (omega (arith, e))
+    by false false false false true w e = absurd (omega (arith, e))
+    by false false false false false true e = absurd (omega (arith, e))
+    by false false false false false false e = refl
 
 -- every type but SAMPLE has the same trailer
 pub same-trailer : (kind : ℕ) (a : Attributes) → (kind ≡ 9 → ⊥) → room (trailer kind a) ≡ room (trailer 1 a)
@@ -414,7 +423,7 @@ module _ (a : Attributes) (kind : ℕ) (c : Counted a kind) where
 -- ---- tables
 
 -- the types' marks, and then those of READ and SAMPLE
-pub marks-made : (k : Known) (a : Attributes) (p : List ℕ) (v w : ℕ) → k .kinds ≤ 20 → length p ≡ 32
+pub marks-made : (k : Known) (a : Attributes) (p : List ℕ) (v w : ℕ) → k .kinds ≤ lastType → length p ≡ 32
     → ((kind : ℕ) → kind < 32 → (kind ≡ 8 → ⊥) → (kind ≡ 9 → ⊥) → Marked k a kind (getD p kind 0)) → Marked k a 8 v → Marked k a 9 w → Marks k a (set (set p 8 v) 9 w)
 marks-made k a p v w n l m mv mw =
     record { few = n; long = length-set (set p 8 v) 9 w ∙ length-set p 8 v ∙ l; at = λ j b. go j b (eqb j 9) (eqb j 8) refl refl }

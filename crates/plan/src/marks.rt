@@ -3,14 +3,14 @@
 //   OPEN            the record says its own length: READ of a group, NAMESPACES, TEXT_POKE
 //   STRETCHED       a SAMPLE in stretches
 //   OPEN + from     a name starts at `from`
-//   REFUSED + why   refused whatever the bytes are: 20, 21, 22 or 24
+//   REFUSED + why   refused whatever the bytes are: 20, 21, 22, 25 or 24
 ghost use mathlib.Core.Path.{_≡_};
 ghost use Prim.Native.Nat.{ℕ, _+_, _≤_, _<_};
 ghost use lib.ListN.{length, getD};
 ghost use Rattle.meaning.specs.Schema.{trailer};
 ghost use Rattle.meaning.specs.Records.{room};
 ghost use Rattle.plan.specs.Sums.{sumsOf};
-ghost use Rattle.plan.specs.Marks.{Marked, Marks};
+ghost use Rattle.plan.specs.Marks.{lastType, Marked, Marks};
 ghost use Rattle.plan.specs.Bases.{basesWith, Filled, stretched};
 use meaning::Attributes;
 use meaning::Known;
@@ -20,6 +20,9 @@ pub const OPEN: u64 = 65536;
 pub const STRETCHED: u64 = 65537;
 
 pub const REFUSED: u64 = 131072;
+
+// Types 0 to 20 have a row in document 01; what is above is 20 in every edition.
+const TYPES: usize = 21;
 
 // The marks of all types, under an edition that has them; READ (8) and SAMPLE (9) are set afterwards. As a literal it is 32 stores: an
 // array that is indexed by a variable would be copied at each use.
@@ -80,14 +83,14 @@ fn filled(p: [u64; 32], from: usize, to: usize, v: u64) -> [u64; 32]
 
 // All types but READ and SAMPLE: those above the edition's are 20; where the trailer has a sample bit that the edition does not know, the others are 21.
 fn type_marks(known: Known, a: Attributes, trail: u64) -> [u64; 32]
-    requires { ⌜ known .kinds ≤ 20 ⌝ }
+    requires { ⌜ known .kinds ≤ lastType ⌝ }
     requires { ⌜ trail ≡ room (trailer 1 a) ⌝ }
     requires { ⌜ trail ≤ 512 ⌝ }
     ensures { λ r. ⌜ (length r ≡ 32) ⌝ }
     ensures { λ r. ⌜ ((kind : ℕ) → kind < 32 → (kind ≡ 8 → ⊥) → (kind ≡ 9 → ⊥) → Marked known a kind (getD r kind 0)) ⌝ }
 {
     let next = known.kinds as usize + 1;
-    let p = filled(bases(trail), next, 21, 131092);
+    let p = filled(bases(trail), next, TYPES, 131092);
     let why = record::unreadable(known, a, 1, 0);
     if why != 0 {
         return filled(p, 1, next, REFUSED + why as u64);
@@ -138,7 +141,7 @@ fn sample_mark(known: Known, a: Attributes, sums: &[u64; 8]) -> u64
 }
 
 pub fn marks(known: Known, a: Attributes, sums: &[u64; 8]) -> [u64; 32]
-    requires { ⌜ known .kinds ≤ 20 ⌝ }
+    requires { ⌜ known .kinds ≤ lastType ⌝ }
     requires { ⌜ now sums ≡ sumsOf a ⌝ }
     ensures { λ r. ⌜ Marks known a r ⌝ }
 {

@@ -18,7 +18,7 @@ use Rattle.meaning.specs.declared.Shape.the-variants.{Number, Ignored, Count, S
 use Rattle.meaning.specs.Bytes.{num, bit, zeroIn}
 use Rattle.meaning.specs.Refusals.{Refusal, refusal, first, orElse}
 use Rattle.meaning.specs.Items.{bytes, refuse, span, rule, past, part, settle, shapeStep, step, walk, holds}
-use Rattle.meaning.specs.Editions.{editions, known, allowed, hasSampleBits, hasReadValues, hasBuildId, unknowns, clashes, unreadable, isIn}
+use Rattle.meaning.specs.Editions.{editions, known, allowed, hasSampleBits, hasReadValues, hasBuildId, hasBranches, strangeBranch, unknowns, clashes, unreadable, isIn}
 use Rattle.meaning.specs.Schema.{schema, trailer}
 use Rattle.meaning.specs.Records.{layout, kindOf, miscOf, sizeOf, room, origin, fieldsOf, closed, fieldsAnswer, judge, checkBy, check}
 use Rattle.laws.specs.Bytes.{apart}
@@ -85,7 +85,7 @@ bodyRows is t xs =
     refusal (not (leb (8 + t) (length xs))) 30
     ∷ (fieldRows (fieldsOf t xs) is (origin 8) ++ (refusal (not (eqb (walk (fieldsOf t xs) is (origin 8) .at) (length xs - t))) 31 ∷ []))
 
--- 20 to 24 by what the edition knows, then the body
+-- 20 to 25 by what the edition knows, then the body
 abbrev pub recordRows : Known → Attributes → List ℕ → List Refusal
 recordRows k a xs =
     unknowns k (kindOf xs) (miscOf xs) a
@@ -194,23 +194,26 @@ body-rows is t xs =
     ∙ sym (fields-or F is (origin 8) (first r 0)) ∙ sym (first-append (fieldRows F is (origin 8)) r 0) in
     unless (leb (8 + t) (length xs)) (closed (length xs - t) d) 30 ∙ ap (λ (k : ℕ). cond (not (leb (8 + t) (length xs))) 30 k) w
 
-five : (b20 b21 b22 b23 b24 : Bool) (x y : ℕ) → x ≡ y
-    → orElse (cond b20 20 (cond b21 21 (cond b22 22 (cond b23 23 (cond b24 24 0))))) x ≡ cond b20 20 (cond b21 21 (cond b22 22 (cond b23 23 (cond b24 24 y))))
-five true b21 b22 b23 b24 x y e = refl
-five false true b22 b23 b24 x y e = refl
-five false false true b23 b24 x y e = refl
-five false false false true b24 x y e = refl
-five false false false false true x y e = refl
-five false false false false false x y e = e
+six : (b20 b21 b22 b23 b25 b24 : Bool) (x y : ℕ) → x ≡ y
+    → orElse (cond b20 20 (cond b21 21 (cond b22 22 (cond b23 23 (cond b25 25 (cond b24 24 0)))))) x
+    ≡ cond b20 20 (cond b21 21 (cond b22 22 (cond b23 23 (cond b25 25 (cond b24 24 y)))))
+six true b21 b22 b23 b25 b24 x y e = refl
+six false true b22 b23 b25 b24 x y e = refl
+six false false true b23 b25 b24 x y e = refl
+six false false false true b25 b24 x y e = refl
+six false false false false true b24 x y e = refl
+six false false false false false true x y e = refl
+six false false false false false false x y e = e
 
 pub judge-rows : (k : Known) (a : Attributes) (xs : List ℕ) → judge (layout k a) xs ≡ first (recordRows k a xs) 0
 unfolding judge layout unreadable first
 judge-rows k a xs =
-    five
+    six
     (eqb (kindOf xs) 0 || ltb (k .kinds) (kindOf xs))
     (leb (2 ^ k .samples) (a .sample) && hasSampleBits (kindOf xs) a)
     (leb (2 ^ k .formats) (a .format) && hasReadValues (kindOf xs) a)
     (hasBuildId (kindOf xs) (miscOf xs) && not (k .builds))
+    (hasBranches (kindOf xs) a && strangeBranch k a)
     (eqb (kindOf xs) 9 && (bit (a .sample) 14 && bit (a .sample) 24))
     (fieldsAnswer (schema (kindOf xs) (miscOf xs) a) (room (trailer (kindOf xs) a)) xs)
     _ (body-rows (schema (kindOf xs) (miscOf xs) a) (room (trailer (kindOf xs) a)) xs)
@@ -254,7 +257,7 @@ check-exactly e a xs k p =
     let q = check-rows e a xs in
     (λ h. x .0 (sym q ∙ h), λ h. q ∙ x .1 h)
 
--- ---- the rows 20 to 24 in words, for a slice that is one record by its header, in an edition
+-- ---- the rows 20 to 25 in words, for a slice that is one record by its header, in an edition
 
 -- the rows before its own do not hold, and its own does
 lead : (b : Bool) (n k x : ℕ) → (n ≡ k → ⊥) → {A : Type 0} → (x ≡ k → A) × (A → x ≡ k) → (cond b n x ≡ k → (b ≡ false) × A) × ((b ≡ false) × A → cond b n x ≡ k)
@@ -281,6 +284,9 @@ module _ (e : ℕ) (a : Attributes) (xs : List ℕ) (ok : allowed editions e ≡
   abbrev form-unknown : Bool
   form-unknown = hasBuildId (kindOf xs) (miscOf xs) && not (known editions e .builds)
 
+  abbrev branch-unknown : Bool
+  branch-unknown = hasBranches (kindOf xs) a && strangeBranch (known editions e) a
+
   abbrev two-weights : Bool
   two-weights = eqb (kindOf xs) 9 && (bit (a .sample) 14 && bit (a .sample) 24)
 
@@ -293,8 +299,11 @@ module _ (e : ℕ) (a : Attributes) (xs : List ℕ) (ok : allowed editions e ≡
   abbrev from-24 : ℕ
   from-24 = cond two-weights 24 body
 
+  abbrev from-25 : ℕ
+  from-25 = cond branch-unknown 25 from-24
+
   abbrev from-23 : ℕ
-  from-23 = cond form-unknown 23 from-24
+  from-23 = cond form-unknown 23 from-25
 
   abbrev from-22 : ℕ
   from-22 = cond format-unknown 22 from-23
@@ -304,14 +313,17 @@ module _ (e : ℕ) (a : Attributes) (xs : List ℕ) (ok : allowed editions e ≡
 
   chained : told ≡ cond type-unknown 20 from-21
   unfolding judge layout unreadable first
-  chained = check-framed editions e ok a xs one ∙ five type-unknown bit-unknown format-unknown form-unknown two-weights body body refl
+  chained = check-framed editions e ok a xs one ∙ six type-unknown bit-unknown format-unknown form-unknown branch-unknown two-weights body body refl
 
   -- what may come after each of them
   abbrev after-24 : List ℕ
   after-24 = 24 ∷ fieldNumbers
 
+  abbrev after-25 : List ℕ
+  after-25 = 25 ∷ after-24
+
   abbrev after-23 : List ℕ
-  after-23 = 23 ∷ after-24
+  after-23 = 23 ∷ after-25
 
   abbrev after-22 : List ℕ
   after-22 = 22 ∷ after-23
@@ -322,8 +334,11 @@ module _ (e : ℕ) (a : Attributes) (xs : List ℕ) (ok : allowed editions e ≡
   in-24 : isIn from-24 after-24 ≡ true
   in-24 = in-cond after-24 two-weights 24 body refl (in-more fieldNumbers after-24 body refl body-in)
 
+  in-25 : isIn from-25 after-25 ≡ true
+  in-25 = in-cond after-25 branch-unknown 25 from-24 refl (in-more after-24 after-25 from-24 refl in-24)
+
   in-23 : isIn from-23 after-23 ≡ true
-  in-23 = in-cond after-23 form-unknown 23 from-24 refl (in-more after-24 after-23 from-24 refl in-24)
+  in-23 = in-cond after-23 form-unknown 23 from-25 refl (in-more after-25 after-23 from-25 refl in-25)
 
   in-22 : isIn from-22 after-22 ≡ true
   in-22 = in-cond after-22 format-unknown 22 from-23 refl (in-more after-23 after-22 from-23 refl in-23)
@@ -357,14 +372,32 @@ module _ (e : ℕ) (a : Attributes) (xs : List ℕ) (ok : allowed editions e ≡
       chain
       (lead type-unknown 20 23 from-21 (λ h. omega (arith, h))
       (lead bit-unknown 21 23 from-22 (λ h. omega (arith, h))
-      (lead format-unknown 22 23 from-23 (λ h. omega (arith, h)) (hit form-unknown 23 from-24 (other 23 after-24 refl from-24 in-24)))))
+      (lead format-unknown 22 23 from-23 (λ h. omega (arith, h)) (hit form-unknown 23 from-25 (other 23 after-25 refl from-25 in-25)))))
+
+  -- 25: "editions 1 and 2 refuse such a SAMPLE with 25; a SAMPLE with sample bit 11 and a branch bit from 19 up is 25 in every edition .. after 23 and
+  -- before 24"
+  pub answers-25 : (told ≡ 25 → (type-unknown ≡ false) × ((bit-unknown ≡ false) × ((format-unknown ≡ false) × ((form-unknown ≡ false) × (branch-unknown ≡ true)))))
+      × ((type-unknown ≡ false) × ((bit-unknown ≡ false) × ((format-unknown ≡ false) × ((form-unknown ≡ false) × (branch-unknown ≡ true)))) → told ≡ 25)
+  answers-25 =
+      chain
+      (lead type-unknown 20 25 from-21 (λ h. omega (arith, h))
+      (lead bit-unknown 21 25 from-22 (λ h. omega (arith, h))
+      (lead format-unknown 22 25 from-23 (λ h. omega (arith, h))
+      (lead form-unknown 23 25 from-25 (λ h. omega (arith, h)) (hit branch-unknown 25 from-24 (other 25 after-24 refl from-24 in-24))))))
+
+  -- "any record but a SAMPLE with sample bit 11 never is"
+  pub never-25 : hasBranches (kindOf xs) a ≡ false → told ≡ 25 → ⊥
+  never-25 f h = apart (sym (ap (λ (b : Bool). b && strangeBranch (known editions e) a) f) ∙ answers-25 .0 h .1 .1 .1 .1)
 
   -- 24: "SAMPLE with bits 14 and 24 both selected"
-  pub answers-24 : (told ≡ 24 → (type-unknown ≡ false) × ((bit-unknown ≡ false) × ((format-unknown ≡ false) × ((form-unknown ≡ false) × (two-weights ≡ true)))))
-      × ((type-unknown ≡ false) × ((bit-unknown ≡ false) × ((format-unknown ≡ false) × ((form-unknown ≡ false) × (two-weights ≡ true)))) → told ≡ 24)
+  pub answers-24 : (told ≡ 24
+      → (type-unknown ≡ false) × ((bit-unknown ≡ false) × ((format-unknown ≡ false) × ((form-unknown ≡ false) × ((branch-unknown ≡ false) × (two-weights ≡ true))))))
+      × ((type-unknown ≡ false) × ((bit-unknown ≡ false) × ((format-unknown ≡ false) × ((form-unknown ≡ false) × ((branch-unknown ≡ false) × (two-weights ≡ true)))))
+      → told ≡ 24)
   answers-24 =
       chain
       (lead type-unknown 20 24 from-21 (λ h. omega (arith, h))
       (lead bit-unknown 21 24 from-22 (λ h. omega (arith, h))
       (lead format-unknown 22 24 from-23 (λ h. omega (arith, h))
-      (lead form-unknown 23 24 from-24 (λ h. omega (arith, h)) (hit two-weights 24 body (other 24 fieldNumbers refl body body-in))))))
+      (lead form-unknown 23 24 from-25 (λ h. omega (arith, h))
+      (lead branch-unknown 25 24 from-24 (λ h. omega (arith, h)) (hit two-weights 24 body (other 24 fieldNumbers refl body body-in)))))))

@@ -111,7 +111,7 @@ module _ (e : ℕ) (a : Attributes) where
           let r = record-again lay zs (sound (known editions e) a) u (check-of editions e a zs h .1) in
           ap (λ (l : List ℕ). value lay l) (sym (r .1)) ∙ record-there lay (value lay zs) (sound (known editions e) a) (r .0) .2
 
-  -- ---- "42 exactly when no record decodes, under that edition and those attributes, to the same numbers and listed bytes": where 2, 20 to 24 and
+  -- ---- "42 exactly when no record decodes, under that edition and those attributes, to the same numbers and listed bytes": where 2, 20 to 25 and
   -- 41, which come before it, do not hold
 
   pub exactly-42 : (src ws : List ℕ) (space : ℕ) → allowed editions e ≡ true → lay .unknown (getD ws 0 0) (getD ws 1 0) ≡ 0 → passes editions e a src ws ≡ false

@@ -1,7 +1,8 @@
 -- Demand 3, in its own words: "An older reader never misleads. Take any ring, pointers, attributes, scratch, budget and journal room, and two of the
 -- editions that 01 lists. Both cut the ring into the same records and stop at the same tail for the same reason. Each record the older edition answers
 -- as the newer does, or refuses as unknown to it, and this exactly where the type, or a selected bit or form bit on which that record's reading depends
--- by 01's rules 20 to 23, lies outside what that edition knows."
+-- by 01's rules 20 to 23, lies outside what that edition knows." With M-102 25 "stands beside rules 20 to 23, the branch sample bits beside the selected
+-- bits".
 -- `depends` lists what a record's reading depends on, with no edition for an argument; `outside` says that something of a list lies outside; `Fair`
 -- holds two answers to it. Each theorem stands twice: over any table of editions that rises, so that a fourth edition is a row and not a proof,
 -- and over document 01's table. Assumes nothing.

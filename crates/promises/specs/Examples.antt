@@ -30,7 +30,7 @@ pub data Case : Type 0 where
   switchesOut : ℕ → List ℕ → Case
 
 abbrev attributes : ℕ → Attributes
-attributes sample = record { sample = sample; format = 0; all = false; user = 0; interrupt = 0 }
+attributes sample = record { sample = sample; format = 0; all = false; user = 0; interrupt = 0; branch = 0 }
 
 -- a record of a type: its header and its body
 abbrev rec : ℕ → ℕ → List ℕ → List ℕ

@@ -231,7 +231,7 @@ pub table-part-of : (κs : Lfts 0) (a : Dens κs table.part_of.Kinds.ps) (x y : 
     → (misc : ℕ) (b : Attributes) → map (itemOf b misc (a .0)) (slice (x .from) (x .to) rows) ≡ map (itemOf b misc (a .0)) (slice (y .from) (y .to) rows)
 table-part-of κs a x y s t p q misc b = same (p .layout-is misc b) (q .layout-is misc b)
 
--- ---- rules, answers, record: one record: editions, 20 to 24, the walk, record check, the reader of its words
+-- ---- rules, answers, record: one record: editions, 20 to 25, the walk, record check, the reader of its words
 
 pub rules-allowed : Result rules.allowed.Kinds.ps rules.allowed.Kinds.r rules.allowed.Reads.Learnt
 rules-allowed κs a x y s t p q = same p q
@@ -280,6 +280,10 @@ blocks-elements κs a x y s t p q = same p q
 pub blocks-counted : Result blocks.counted.Kinds.ps blocks.counted.Kinds.r blocks.counted.Reads.Learnt
 unfolding Leaves
 blocks-counted κs a x y s t p q = same (p .0 0 0) (q .0 0 0)
+
+pub blocks-branches : Result blocks.branches.Kinds.ps blocks.branches.Kinds.r blocks.branches.Reads.Learnt
+unfolding Leaves
+blocks-branches κs a x y s t p q = same (p .0 0 0) (q .0 0 0)
 
 pub blocks-raw : Result blocks.raw.Kinds.ps blocks.raw.Kinds.r blocks.raw.Reads.Learnt
 unfolding Leaves
@@ -495,19 +499,19 @@ fast-scratch κs a x y s t p q = same (p .1 .1) (q .1 .1)
 pub ollskuvan-drain : Result ollskuvan.ollskuvan_drain.Kinds.ps ollskuvan.ollskuvan_drain.Kinds.r ollskuvan.ollskuvan_drain.Reads.Learnt
 ollskuvan-drain κs a x y s t p q = same (p .0) (q .0)
 
-pub ollskuvan-drain-journal : Seen ollskuvan.ollskuvan_drain.Kinds.ps ollskuvan.ollskuvan_drain.Kinds.r ollskuvan.ollskuvan_drain.Reads.Learnt (λ κs x s. now (s .1 .1 .1 .1 .1 .1 .1 .1 .1 .1 .1 .0))
+pub ollskuvan-drain-journal : Seen ollskuvan.ollskuvan_drain.Kinds.ps ollskuvan.ollskuvan_drain.Kinds.r ollskuvan.ollskuvan_drain.Reads.Learnt (λ κs x s. now (s .1 .1 .1 .1 .1 .1 .1 .1 .1 .1 .1 .1 .0))
 ollskuvan-drain-journal κs a x y s t p q = same (p .1 .0) (q .1 .0)
 
-pub ollskuvan-drain-scratch : Seen ollskuvan.ollskuvan_drain.Kinds.ps ollskuvan.ollskuvan_drain.Kinds.r ollskuvan.ollskuvan_drain.Reads.Learnt (λ κs x s. now (s .1 .1 .1 .1 .1 .1 .1 .1 .1 .1 .0))
+pub ollskuvan-drain-scratch : Seen ollskuvan.ollskuvan_drain.Kinds.ps ollskuvan.ollskuvan_drain.Kinds.r ollskuvan.ollskuvan_drain.Reads.Learnt (λ κs x s. now (s .1 .1 .1 .1 .1 .1 .1 .1 .1 .1 .1 .0))
 ollskuvan-drain-scratch κs a x y s t p q = same (p .1 .1) (q .1 .1)
 
 pub ollskuvan-read-one : Result ollskuvan.ollskuvan_read_one.Kinds.ps ollskuvan.ollskuvan_read_one.Kinds.r ollskuvan.ollskuvan_read_one.Reads.Learnt
 ollskuvan-read-one κs a x y s t p q = same (p .0) (q .0)
 
-pub ollskuvan-read-one-scratch : Seen ollskuvan.ollskuvan_read_one.Kinds.ps ollskuvan.ollskuvan_read_one.Kinds.r ollskuvan.ollskuvan_read_one.Reads.Learnt (λ κs x s. now (s .1 .1 .1 .1 .1 .1 .1 .1 .1 .0))
+pub ollskuvan-read-one-scratch : Seen ollskuvan.ollskuvan_read_one.Kinds.ps ollskuvan.ollskuvan_read_one.Kinds.r ollskuvan.ollskuvan_read_one.Reads.Learnt (λ κs x s. now (s .1 .1 .1 .1 .1 .1 .1 .1 .1 .1 .0))
 ollskuvan-read-one-scratch κs a x y s t p q = same (p .1 .0) (q .1 .0)
 
-pub ollskuvan-read-one-words : Seen ollskuvan.ollskuvan_read_one.Kinds.ps ollskuvan.ollskuvan_read_one.Kinds.r ollskuvan.ollskuvan_read_one.Reads.Learnt (λ κs x s. now (s .1 .1 .1 .1 .1 .1 .1 .1 .1 .1 .0))
+pub ollskuvan-read-one-words : Seen ollskuvan.ollskuvan_read_one.Kinds.ps ollskuvan.ollskuvan_read_one.Kinds.r ollskuvan.ollskuvan_read_one.Reads.Learnt (λ κs x s. now (s .1 .1 .1 .1 .1 .1 .1 .1 .1 .1 .1 .0))
 ollskuvan-read-one-words κs a x y s t p q = same (p .1 .1) (q .1 .1)
 
 pub ollskuvan-check : Result ollskuvan.ollskuvan_check.Kinds.ps ollskuvan.ollskuvan_check.Kinds.r ollskuvan.ollskuvan_check.Reads.Learnt
@@ -525,13 +529,13 @@ ollskuvan-copy-name-buffer κs a x y s t p q = same (p .1) (q .1)
 pub ollskuvan-read : Result ollskuvan.ollskuvan_read.Kinds.ps ollskuvan.ollskuvan_read.Kinds.r ollskuvan.ollskuvan_read.Reads.Learnt
 ollskuvan-read κs a x y s t p q = same (p .0) (q .0)
 
-pub ollskuvan-read-words : Seen ollskuvan.ollskuvan_read.Kinds.ps ollskuvan.ollskuvan_read.Kinds.r ollskuvan.ollskuvan_read.Reads.Learnt (λ κs x s. now (s .1 .1 .1 .1 .1 .1 .1 .0))
+pub ollskuvan-read-words : Seen ollskuvan.ollskuvan_read.Kinds.ps ollskuvan.ollskuvan_read.Kinds.r ollskuvan.ollskuvan_read.Reads.Learnt (λ κs x s. now (s .1 .1 .1 .1 .1 .1 .1 .1 .0))
 ollskuvan-read-words κs a x y s t p q = same (p .1) (q .1)
 
 pub ollskuvan-write : Result ollskuvan.ollskuvan_write.Kinds.ps ollskuvan.ollskuvan_write.Kinds.r ollskuvan.ollskuvan_write.Reads.Learnt
 ollskuvan-write κs a x y s t p q = same (p .0) (q .0)
 
-pub ollskuvan-write-buffer : Seen ollskuvan.ollskuvan_write.Kinds.ps ollskuvan.ollskuvan_write.Kinds.r ollskuvan.ollskuvan_write.Reads.Learnt (λ κs x s. now (s .1 .1 .1 .1 .1 .1 .1 .1 .0))
+pub ollskuvan-write-buffer : Seen ollskuvan.ollskuvan_write.Kinds.ps ollskuvan.ollskuvan_write.Kinds.r ollskuvan.ollskuvan_write.Reads.Learnt (λ κs x s. now (s .1 .1 .1 .1 .1 .1 .1 .1 .1 .0))
 ollskuvan-write-buffer κs a x y s t p q = same (p .1) (q .1)
 
 -- ---- writer: the words that tell an item, and its form

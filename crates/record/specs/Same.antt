@@ -1,4 +1,4 @@
--- What a record decodes to is one thing, and takes the edition by 20 to 24 alone. Assumes nothing.
+-- What a record decodes to is one thing, and takes the edition by 20 to 25 alone. Assumes nothing.
 use mathlib.Core.Path.{_≡_, refl, sym, ap, _∙_}
 use Prim.Native.Nat.{ℕ}
 use mathlib.Core.List.{List}
@@ -11,7 +11,7 @@ use Rattle.meaning.specs.Editions.{unreadable}
 use Rattle.meaning.specs.Records.{layout, kindOf, miscOf, room, fieldsAnswer, judge}
 use Rattle.meaning.specs.Values.{recordWords, read}
 
--- "What a record decodes to depends on the edition only through refusals 20 to 24": where those agree, so do the answers
+-- "What a record decodes to depends on the edition only through refusals 20 to 24", and M-102's 25: where those agree, so do the answers
 pub same-answer : (k l : Known) (a : Attributes) (xs : List ℕ) → unreadable k a (kindOf xs) (miscOf xs) ≡ unreadable l a (kindOf xs) (miscOf xs)
     → judge (layout k a) xs ≡ judge (layout l a) xs
 unfolding judge layout

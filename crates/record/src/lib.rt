@@ -1,4 +1,4 @@
-// One record: the reader of its words. What it is read by is passed on: editions and 20 to 24, the walk, the trailer, record check.
+// One record: the reader of its words. What it is read by is passed on: editions and 20 to 25, the walk, the trailer, record check.
 ghost use mathlib.Core.Path.{_≡_};
 ghost use Rattle.meaning.specs.Editions.{editions};
 ghost use Rattle.meaning.specs.Values.{read};

@@ -1,10 +1,10 @@
-// What an edition knows, and the refusals 20 to 24, one Bool each, in the order of document 01's table.
+// What an edition knows, and the refusals 20 to 25, one Bool each, in the order of document 01's table.
 ghost use mathlib.Core.Path.{_≡_};
 ghost use mathlib.Core.Bool.{_&&_, _||_, cond, not};
 ghost use Prim.Native.Nat.{_^_};
 ghost use lib.Dec.{leb, ltb, eqb};
 ghost use Rattle.meaning.specs.Bytes.{bit};
-ghost use Rattle.meaning.specs.Editions.{editions, allowed, known, hasSampleBits, hasReadValues, hasBuildId, unreadable};
+ghost use Rattle.meaning.specs.Editions.{editions, allowed, known, hasSampleBits, hasReadValues, hasBuildId, hasBranches, strangeBranch, unreadable};
 use meaning::Attributes;
 use meaning::Known;
 
@@ -27,24 +27,28 @@ pub fn edition(e: u64) -> Known
             samples: 16,
             formats: 4,
             builds: false,
+            index: false,
         },
         2 => Known {
             kinds: 15,
             samples: 19,
             formats: 4,
             builds: false,
+            index: false, // branch bit 17 is edition 3's
         },
         3 => Known {
             kinds: 20,
             samples: 25,
             formats: 4,
             builds: true,
+            index: true,
         },
         _ => Known {
             kinds: 0,
             samples: 0,
             formats: 0,
             builds: false,
+            index: false,
         },
     }
 }
@@ -96,6 +100,15 @@ fn build_id_unknown(k: Known, kind: u64, misc: u64) -> bool
     ((kind == 10) & wire::has_bit(misc, 14)) & !k.builds
 }
 
+// 25 (M-102): "editions 1 and 2 refuse such a SAMPLE with 25; a SAMPLE with sample bit 11 and a branch bit from 19 up is 25
+// in every edition".
+fn branch_unknown(k: Known, kind: u64, a: Attributes) -> bool
+    ensures { λ r. ⌜ r ≡ (hasBranches kind a && strangeBranch k a) ⌝ }
+{
+    ((kind == 9) & wire::has_bit(a.sample, 11))
+        & ((wire::has_bit(a.branch, 17) & !k.index) | past(a.branch, 19))
+}
+
 // 24: "SAMPLE with bits 14 and 24 both selected".
 fn two_weights(kind: u64, a: Attributes) -> bool
     ensures { λ r. ⌜ r ≡ (eqb kind 9 && (bit (a .sample) 14 && bit (a .sample) 24)) ⌝ }
@@ -103,12 +116,13 @@ fn two_weights(kind: u64, a: Attributes) -> bool
     (kind == 9) & (wire::has_bit(a.sample, 14) & wire::has_bit(a.sample, 24))
 }
 
-// The first of 20 to 24 that holds, or 0.
+// The first of 20 to 23, 25 and 24 that holds, or 0.
 pub fn unreadable(k: Known, a: Attributes, kind: u64, misc: u64) -> u16
     ensures { λ r. ⌜ r ≡ unreadable k a kind misc ⌝ }
 {
     let r24 = or(two_weights(kind, a), 24, 0);
-    let r23 = or(build_id_unknown(k, kind, misc), 23, r24);
+    let r25 = or(branch_unknown(k, kind, a), 25, r24);
+    let r23 = or(build_id_unknown(k, kind, misc), 23, r25);
     let r22 = or(format_unknown(k, kind, a), 22, r23);
     let r21 = or(sample_unknown(k, kind, a), 21, r22);
     or(kind_unknown(k, kind), 20, r21)

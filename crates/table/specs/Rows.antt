@@ -28,7 +28,7 @@ rows =
     1025 ∷ 1025 ∷ 1344 ∷ 1379 ∷ 1408 ∷ 1440 ∷ 1472 ∷ 1056 ∷ 1387 ∷  -- 8 READ
     512 ∷ 0 ∷ 33 ∷ 33 ∷ 64 ∷ 96 ∷ 192 ∷ 288 ∷ 225 ∷ 247 ∷ 256 ∷  -- 9 SAMPLE: the first fields
     1184 ∷ 1219 ∷ 1248 ∷ 1280 ∷ 1312 ∷ 1056 ∷ 1227 ∷  -- its read values
-    163 ∷ 168 ∷ 325 ∷ 327 ∷ 355 ∷ 1056 ∷ 362 ∷ 399 ∷ 397 ∷ 422 ∷ 423 ∷ 430 ∷  -- its lists
+    163 ∷ 168 ∷ 325 ∷ 327 ∷ 355 ∷ 1504 ∷ 362 ∷ 399 ∷ 397 ∷ 422 ∷ 423 ∷ 430 ∷  -- its lists
     1152 ∷ 480 ∷ 544 ∷ 592 ∷ 589 ∷ 608 ∷ 672 ∷ 704 ∷ 736 ∷ 646 ∷ 647 ∷  -- its last fields
     1025 ∷ 1025 ∷ 1024 ∷ 1024 ∷ 1024 ∷ 1121 ∷ 1121 ∷ 1120 ∷ 1120 ∷ 1105 ∷ 1110 ∷ 1106 ∷ 1025 ∷ 1025 ∷ 1045 ∷  -- 10 MMAP2
     1024 ∷ 1024 ∷ 1024 ∷  -- 11 AUX
@@ -74,6 +74,7 @@ guards a misc =
     ∷ bit (a .format) 0
     ∷ bit (a .format) 1
     ∷ (not (bit (a .format) 3) && bit (a .format) 2)
+    ∷ (bit (a .sample) 11 && bit (a .branch) 17)
     ∷ []
 
 -- below 32 a bit of the sample type; from 64 on such a bit in the trailer

@@ -77,6 +77,7 @@ fn other_guard(a: Attributes, misc: u64, g: u16) -> bool
         rows::IF_READ_ENABLED => wire::has_bit(a.format, 0),
         rows::IF_READ_RUNNING => wire::has_bit(a.format, 1),
         rows::IF_READ_ID => !grouped & wire::has_bit(a.format, 2),
+        rows::IF_INDEX => wire::has_bit(a.sample, 11) & wire::has_bit(a.branch, 17),
         _ => false,
     }
 }

@@ -32,6 +32,8 @@ pub const IF_READ_RUNNING: u16 = 13;
 
 pub const IF_READ_ID: u16 = 14;
 
+pub const IF_INDEX: u16 = 15;
+
 // A row is a guard times 32, and a shape.
 const SAMPLE_BIT: u16 = 32;
 
@@ -64,6 +66,8 @@ const READ_ENABLED: u16 = 32 * (32 + IF_READ_ENABLED);
 const READ_RUNNING: u16 = 32 * (32 + IF_READ_RUNNING);
 
 const READ_ID: u16 = 32 * (32 + IF_READ_ID);
+
+const INDEX: u16 = 32 * (32 + IF_INDEX);
 
 const TRAILER: u16 = 32 * 64;
 
@@ -193,7 +197,7 @@ pub const ROWS: [u16; ALL_ROWS] = [
     SAMPLE_BIT * 10 + SIZE_32, // raw: size
     SAMPLE_BIT * 10 + BYTES, // bytes
     SAMPLE_BIT * 11 + COUNT_64, // branches: n
-    NEVER + U64, // kept for the hardware index
+    INDEX + U64, // hardware index
     SAMPLE_BIT * 11 + BRANCHES, // n entries
     SAMPLE_BIT * 12 + USER_ABI, // user registers: abi
     SAMPLE_BIT * 12 + REGISTERS, // registers

@@ -20,8 +20,8 @@ use Rattle.meaning.specs.Ring.{lengths, lengthAllowed, distance, stopped, sized
 use Rattle.meaning.specs.Drain.{journalKind, entry, End, run, drain}
 use Rattle.meaning.specs.Names.{nameAnswer, nameBuffer}
 use Rattle.meaning.specs.Misc.{types13, types14, means13, means14, miscMeaning}
-use Rattle.tables.specs.Numbers.{from, among, Limits, editionLimits, exponents, Field, sampleOrder, trailerOrder, trailerMask, trailerBits, entryBytes, kindsOfTypes, miscBits}
-use Rattle.tables.specs.Rows.{Row, types, mappings, readings, samples, trailed, laid, said, clean, Judged, bodies, buildIds, oneRegister, slices, Stop, sizedRing, headersRing, go, stops, Copied, copies}
+use Rattle.tables.specs.Numbers.{from, among, Limits, editionLimits, exponents, Field, sampleOrder, indexedOrder, trailerOrder, trailerMask, trailerBits, entryBytes, kindsOfTypes, miscBits}
+use Rattle.tables.specs.Rows.{Row, types, mappings, readings, samples, indexed, trailed, laid, said, clean, Judged, bodies, branchStacks, buildIds, oneRegister, slices, Stop, sizedRing, headersRing, go, stops, Copied, copies}
 
 -- ---- tools of the comparison
 
@@ -40,14 +40,18 @@ agree true b = b
 agree false b = not b
 
 abbrev attributes : ℕ → ℕ → Bool → ℕ → ℕ → Attributes
-attributes sample format all user interrupt = record { sample = sample; format = format; all = all; user = user; interrupt = interrupt }
+attributes sample format all user interrupt = record { sample = sample; format = format; all = all; user = user; interrupt = interrupt; branch = 0 }
+
+-- a sample type and a branch sample type
+abbrev branching : ℕ → ℕ → Attributes
+branching sample branch = record { sample = sample; format = 0; all = false; user = 0; interrupt = 0; branch = branch }
 
 abbrev bits : List ℕ
 bits = from 0 64
 
 -- ---- editions
 
--- 20 to 24 of an edition
+-- 20 to 25 of an edition
 abbrev asked : Limits → Attributes → ℕ → ℕ → ℕ
 asked l a t misc = unreadable (known editions (l .edition)) a t misc
 
@@ -72,6 +76,15 @@ abbrev buildsAs : Limits → Bool
 buildsAs l =
     every (λ (b : ℕ). agree (eqb (asked l (attributes 0 0 false 0 0) 10 (2 ^ b)) 23) (eqb b 14 && (not (l .buildId) && leb 10 (l .lastType)))) (from 0 16)
 
+-- a branch sample bit counts for a SAMPLE with sample bit 11 (2048) and for nothing else; before 24 (both weights), after 21
+abbrev branchesAs : Limits → Bool
+branchesAs l =
+    every (λ (b : ℕ). agree (eqb (asked l (branching 2048 (2 ^ b)) 9 0) 25) (not (among b (l .branches)))) bits
+    && (every (λ (t : ℕ). agree (eqb (asked l (branching 2048 (2 ^ 64 - 1)) t 0) 25) (eqb t 9)) (from 0 30)
+    && (every (λ (b : ℕ). agree (eqb (asked l (branching (2 ^ b) (2 ^ 64 - 1)) 9 0) 25) (eqb b 11)) bits
+    && (eqb (asked l (branching (2048 + 2 ^ 14 + 2 ^ 24) (2 ^ 19)) 9 0) (cond (ltb (l .lastBit) 24) 21 25)
+    && eqb (asked l (branching (2048 + 2 ^ 25) (2 ^ 19)) 9 0) 21)))
+
 pub editions-types : every typesAs editionLimits ≡ true
 unfolding unreadable first known bit
 editions-types = refl
@@ -87,6 +100,10 @@ editions-formats = refl
 pub editions-builds : every buildsAs editionLimits ≡ true
 unfolding unreadable first known bit
 editions-builds = refl
+
+pub editions-branches : every branchesAs editionLimits ≡ true
+unfolding unreadable first known bit
+editions-branches = refl
 
 pub editions-three : map (allowed editions) (0 ∷ 1 ∷ 2 ∷ 3 ∷ 4 ∷ []) ≡ false ∷ true ∷ true ∷ true ∷ false ∷ []
 editions-three = refl
@@ -114,6 +131,11 @@ spans is = map (λ (i : Item). span (i .shape) (cursor 0 1 1 0) 100) is
 pub sample-bits : every (λ (b : ℕ). selects (sample (attributes (2 ^ b) 0 false 0 0)) sampleOrder b) bits ≡ true
 unfolding bit
 sample-bits = refl
+
+-- with branch bit 17 the hardware index is selected too, by sample bit 11; no other branch bit selects anything
+pub index-bits : every (λ (b : ℕ). selects (sample (branching (2 ^ b) (2 ^ 17))) indexedOrder b && selects (sample (branching (2 ^ b) (2 ^ 64 - 1 - 2 ^ 17))) sampleOrder b) bits ≡ true
+unfolding bit
+index-bits = refl
 
 pub sample-bytes : spans (sample (attributes 0 0 false 0 0)) ≡ map (λ (f : Field). f .bytes) sampleOrder
 unfolding span bit
@@ -151,7 +173,7 @@ kinds-same = refl
 -- ---- the bodies: a record of each type is accepted, says its words, and has its ignored bytes; written from its words it is the same but for those
 
 abbrev of : Row → Attributes
-of r = attributes (r .sample) (r .format) (r .trails) (r .user) (r .interrupt)
+of r = record { sample = r .sample; format = r .format; all = r .trails; user = r .user; interrupt = r .interrupt; branch = r .branch }
 
 abbrev reads : Row → Bool
 reads r =
@@ -182,11 +204,15 @@ pub samples-read : every reads samples ≡ true
 unfolding num bit ones zeroIn keep first span rule holds counted before past part settle shapeStep step walk kept cleaned known unreadable layout kindOf miscOf sizeOf roomShape room fieldsOf closed fieldsAnswer judge checkBy check cleanedBy cleanedRecord slotShape tell words wordsBy recordWords readAnswered read put
 samples-read = refl
 
+pub indexed-read : every reads indexed ≡ true
+unfolding num bit ones zeroIn keep first span rule holds counted before past part settle shapeStep step walk kept cleaned known unreadable layout kindOf miscOf sizeOf roomShape room fieldsOf closed fieldsAnswer judge checkBy check cleanedBy cleanedRecord slotShape tell words wordsBy recordWords readAnswered read put
+indexed-read = refl
+
 pub trailed-read : every reads trailed ≡ true
 unfolding num bit ones zeroIn keep first span rule holds counted before past part settle shapeStep step walk kept cleaned known unreadable layout kindOf miscOf sizeOf roomShape room fieldsOf closed fieldsAnswer judge checkBy check cleanedBy cleanedRecord slotShape tell words wordsBy recordWords readAnswered read put
 trailed-read = refl
 
-pub all-written : every writes (types ++ (mappings ++ (readings ++ (samples ++ trailed)))) ≡ true
+pub all-written : every writes (types ++ (mappings ++ (readings ++ (samples ++ (indexed ++ trailed))))) ≡ true
 unfolding num spell bit ones small nonzero allZero first emit number blank listed fitShape next fit write span rule holds counted before past part settle shapeStep step walk known unreadable layout roomShape room header fieldBytes written writeRecord fitsBy fits lists unit held means beyond anyBeyond tell width slotTold lastTold beforeTold slotsTold meant spareBy spare writable writeBy writeAnswer writeBuffer put
 all-written = refl
 
@@ -199,6 +225,10 @@ answers user j =
 pub bodies-same : every (λ (j : Judged). eqb (answers 1 j) (j .answer)) bodies ≡ true
 unfolding num bit ones zeroIn first span rule holds counted before past part settle shapeStep step walk known unreadable layout kindOf miscOf sizeOf roomShape room fieldsOf closed fieldsAnswer judge checkBy check
 bodies-same = refl
+
+pub branch-stacks-same : every (λ (s : ℕ × List ℕ × ℕ). eqb (check editions 3 (branching 2048 (s .0)) (9 ∷ 0 ∷ 0 ∷ 0 ∷ 0 ∷ 0 ∷ (8 + length (s .1)) ∷ 0 ∷ s .1)) (s .2)) branchStacks ≡ true
+unfolding num bit ones zeroIn first span rule holds counted before past part settle shapeStep step walk known unreadable layout kindOf miscOf sizeOf roomShape room fieldsOf closed fieldsAnswer judge checkBy check
+branch-stacks-same = refl
 
 pub build-ids-same : every (λ (j : Judged). eqb (answers 1 j) (j .answer)) buildIds ≡ true
 unfolding num bit ones zeroIn first span rule holds counted before past part settle shapeStep step walk known unreadable layout kindOf miscOf sizeOf roomShape room fieldsOf closed fieldsAnswer judge checkBy check

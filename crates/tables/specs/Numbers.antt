@@ -26,7 +26,7 @@ among x (y ∷ ys) = cond (eqb x y) true (among x ys)
 abbrev pub word : ℕ → List ℕ
 word x = x ∷ 0 ∷ 0 ∷ 0 ∷ 0 ∷ 0 ∷ 0 ∷ 0 ∷ []
 
--- ---- editions: the last sample bit, the last type, the last read-format bit, and is the build-id form known?
+-- ---- editions: the last sample bit, the last type, the last read-format bit, is the build-id form known, and the branch sample bits that are
 
 pub record Limits : Type 0 where
   pub edition : ℕ
@@ -34,12 +34,13 @@ pub record Limits : Type 0 where
   pub lastType : ℕ
   pub lastFormat : ℕ
   pub buildId : Bool
+  pub branches : List ℕ
 
-abbrev limits : ℕ → ℕ → ℕ → Bool → Limits
-limits e b t known = record { edition = e; lastBit = b; lastType = t; lastFormat = 3; buildId = known }
+abbrev limits : ℕ → ℕ → ℕ → Bool → List ℕ → Limits
+limits e b t known branches = record { edition = e; lastBit = b; lastType = t; lastFormat = 3; buildId = known; branches = branches }
 
 abbrev pub editionLimits : List Limits
-editionLimits = limits 1 15 9 false ∷ limits 2 18 15 false ∷ limits 3 24 20 true ∷ []
+editionLimits = limits 1 15 9 false (from 0 17 ++ (18 ∷ [])) ∷ limits 2 18 15 false (from 0 17 ++ (18 ∷ [])) ∷ limits 3 24 20 true (from 0 19) ∷ []
 
 -- ---- the ring: lengths are the powers of two with these exponents
 
@@ -59,7 +60,7 @@ field b k = record { bits = b ∷ []; bytes = k }
 abbrev sampleNumbers : List Field
 sampleNumbers = field 16 8 ∷ field 0 8 ∷ field 1 4 ∷ field 1 4 ∷ field 2 8 ∷ field 3 8 ∷ field 6 8 ∷ field 9 8 ∷ field 7 4 ∷ field 7 4 ∷ field 8 8 ∷ []
 
--- a word that is in no record yet
+-- a word that is not selected: by no bit of the sample type alone, or in no record yet
 abbrev unused : Field
 unused = record { bits = []; bytes = 8 }
 
@@ -67,10 +68,11 @@ unused = record { bits = []; bytes = 8 }
 abbrev sampleValue : List Field
 sampleValue = field 4 8 ∷ unused ∷ unused ∷ unused ∷ unused ∷ unused ∷ unused ∷ []
 
--- callchain: n, one address; raw: size, one byte; branches: n, one entry; user registers: abi, one register; user stack: size, one byte, filled length
-abbrev sampleLists : List Field
-sampleLists =
-    field 5 8 ∷ field 5 8 ∷ field 10 4 ∷ field 10 1 ∷ field 11 8 ∷ unused ∷ field 11 24 ∷ field 12 8 ∷ field 12 8 ∷ field 13 8 ∷ field 13 1 ∷ field 13 8 ∷ []
+-- callchain: n, one address; raw: size, one byte; branches: n, the hardware index, one entry; user registers: abi, one register; user stack: size,
+-- one byte, filled length
+abbrev sampleLists : Field → List Field
+sampleLists index =
+    field 5 8 ∷ field 5 8 ∷ field 10 4 ∷ field 10 1 ∷ field 11 8 ∷ index ∷ field 11 24 ∷ field 12 8 ∷ field 12 8 ∷ field 13 8 ∷ field 13 1 ∷ field 13 8 ∷ []
 
 -- weight; data source, transaction; interrupt registers: abi, one register; physical address, cgroup, data and code page size; aux: size, one byte
 abbrev sampleLast : List Field
@@ -79,7 +81,11 @@ sampleLast =
     ∷ field 15 8 ∷ field 17 8 ∷ field 18 8 ∷ field 18 8 ∷ field 19 8 ∷ field 21 8 ∷ field 22 8 ∷ field 23 8 ∷ field 20 8 ∷ field 20 1 ∷ []
 
 abbrev pub sampleOrder : List Field
-sampleOrder = sampleNumbers ++ (sampleValue ++ (sampleLists ++ sampleLast))
+sampleOrder = sampleNumbers ++ (sampleValue ++ (sampleLists unused ++ sampleLast))
+
+-- with branch sample bit 17: the hardware index is there wherever the branches are
+abbrev pub indexedOrder : List Field
+indexedOrder = sampleNumbers ++ (sampleValue ++ (sampleLists (field 11 8) ++ sampleLast))
 
 -- ---- the trailer in its order: pid, tid, time, id, stream id, cpu, res, identifier; its mask as a number
 

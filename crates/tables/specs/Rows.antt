@@ -20,6 +20,7 @@ pub record Row : Type 0 where
   pub trails : Bool
   pub user : ℕ
   pub interrupt : ℕ
+  pub branch : ℕ
   pub size : ℕ
   pub body : List ℕ
   pub told : List Told
@@ -36,6 +37,7 @@ row kind high sample format size body told ignored =
       trails = false;
       user = 5;
       interrupt = 8;
+      branch = 0;
       size = size;
       body = body;
       told = told;
@@ -128,7 +130,7 @@ abbrev sampleLists : List Told
 sampleLists =
     is 2 ∷ is 96  -- callchain: n, place
     ∷ is 4 ∷ is 116  -- raw: size, place
-    ∷ is 1 ∷ is 0 ∷ is 128  -- branches: n, a word that is in no record yet, place
+    ∷ is 1 ∷ is 0 ∷ is 128  -- branches: n, no hardware index, place
     ∷ is 1 ∷ is 160 ∷ is 2  -- user registers: abi, place, count
     ∷ is 8 ∷ is 184 ∷ is 7  -- stack: size, place, filled length
     ∷ at 200 8 ∷ at 208 8 ∷ at 216 8  -- weight, data source, transaction
@@ -142,6 +144,28 @@ samples =
     row 9 0 (2 ^ 25 - 1 - 2 ^ 14) 0 296 sampleBody (sampleNumbers ++ sampleLists) (from 68 4)
     ∷ []
 
+-- branches with their hardware index, by bit 17 of the branch sample type: n at 8, the index at 16, two entries from 24 on. Of the body's words n is the 22nd
+abbrev pub indexed : List Row
+indexed =
+    record {
+      kind = 9;
+      high = 0;
+      sample = 2 ^ 11;
+      format = 0;
+      trails = false;
+      user = 0;
+      interrupt = 0;
+      branch = 2 ^ 17;
+      size = 72;
+      body = word 2 ++ from 16 56;
+      told = is 0 ∷ is 0 ∷ is 0 ∷ is 0 ∷ is 0 ∷ is 0 ∷ is 0 ∷ is 0 ∷ is 0 ∷ is 0  -- identifier to period
+          ∷ is 0 ∷ is 0 ∷ is 0 ∷ is 0 ∷ is 0 ∷ is 0 ∷ is 0 ∷ is 0 ∷ is 0 ∷ is 0 ∷ is 0  -- read values, callchain, raw
+          ∷ is 2 ∷ at 16 8 ∷ is 24 ∷ [];
+      trail = [];
+      ignored = [];
+    }
+    ∷ []
+
 -- a trailer of all its bits behind LOST: pid, tid, time, id, stream id, cpu, identifier
 abbrev pub trailed : List Row
 trailed =
@@ -153,6 +177,7 @@ trailed =
       trails = true;
       user = 0;
       interrupt = 0;
+      branch = 0;
       size = 72;
       body = from 8 64;
       told = at 8 8 ∷ at 16 8 ∷ [];
@@ -234,6 +259,15 @@ bodies =
     -- weight by one of its bits, and never by both
     ∷ judged 9 0 (2 ^ 14) (a 8) 0 ∷ judged 9 0 (2 ^ 24) (a 8) 0 ∷ judged 9 0 (2 ^ 14 + 2 ^ 24) (a 8) 24 ∷ judged 9 0 (2 ^ 25) (a 8) 21
     ∷ judged 0 0 0 [] 20 ∷ judged 21 0 0 [] 20
+    ∷ []
+
+-- branches: the branch sample type, the body, the answer. The index stands behind n, also where n is 0
+abbrev pub branchStacks : List (ℕ × List ℕ × ℕ)
+branchStacks =
+    (0, word 0, 0) ∷ (0, word 1 ++ a 24, 0) ∷ (0, word 0 ++ word 5, 31) ∷ (2 ^ 18 + 65535, word 1 ++ a 24, 0)
+    ∷ (2 ^ 17, word 0 ++ word 5, 0) ∷ (2 ^ 17, word 0, 30) ∷ (2 ^ 17, word 0 ++ word 5 ++ a 8, 31)
+    ∷ (2 ^ 17, word 1 ++ word 5 ++ a 24, 0) ∷ (2 ^ 17, word 1 ++ a 24, 30) ∷ (2 ^ 17, word 5 ++ word 1 ++ a 24, 30)
+    ∷ (2 ^ 19, word 0, 25) ∷ (2 ^ 63, word 0, 25)
     ∷ []
 
 -- "build id size at most 20"

@@ -43,7 +43,7 @@ fn write_known(
     0
 }
 
-// "Writer, in this order: 2; 20 to 24; 41 ..; 42 ..; 40": from 20 on. A word past the lent ones counts as 0.
+// "Writer, in this order: 2; 20 to 24; 41 ..; 42 ..; 40", with 25 between 23 and 24 (M-102): from 20 on. A word past the lent ones counts as 0.
 fn write_value(ws: &[u64], source: &[u8], e: u64, a: Attributes, buffer: &mut [u8]) -> u16
     requires { ⌜ allowed editions e ≡ true ⌝ }
     ensures { λ r. ⌜ r ≡ writeAnswer editions e a (now (source .entry)) (now (ws .entry)) (length (now (buffer .entry))) ⌝ }

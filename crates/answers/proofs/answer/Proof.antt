@@ -1,4 +1,4 @@
--- `answers::answer` meets its contract: 20 to 24 by the rules; where there are none, 30 to 33. Assumes nothing.
+-- `answers::answer` meets its contract: 20 to 25 by the rules; where there are none, 30 to 33. Assumes nothing.
 use denote.Ref.{now}
 use Rattle.meaning.specs.Editions.{editions, known}
 use Rattle.answers.proofs.Laws.{answer-read, answer-unreadable}

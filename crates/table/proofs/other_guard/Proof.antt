@@ -47,12 +47,17 @@ returns-15 : tie.Need-returns-15
 returns-15 c = let a = c .before .before .before .before .before .args in key (guards (a .a) (a .misc)) false (c .before .match .keys15) (ap₂ (λ (g i : Bool). not g && i) (c .before .before .before .has-bit2 .ensures) (c .has-bit11 .ensures))
 
 returns-16 : tie.Need-returns-16
-returns-16 c = let a = c .before .before .before .before .args in past (guards (a .a) (a .misc)) false (a .g) (c .match .rest)
+returns-16 c = let a = c .before .before .before .before .before .before .args in key (guards (a .a) (a .misc)) false (c .before .before .match .keys16) (ap₂ _&&_ (c .before .has-bit12 .ensures) (c .has-bit13 .ensures))
+
+returns-17 : tie.Need-returns-17
+returns-17 c = let a = c .before .before .before .before .args in past (guards (a .a) (a .misc)) false (a .g) (c .match .rest)
 
 pub other-guard-spec : {M : Type 1} → statement M
 other-guard-spec =
     tie.close
     (tie.spec
+    (λ c κs. search needs)
+    (λ c κs. search needs)
     (λ c κs. search needs)
     (λ c κs. search needs)
     (λ c κs. search needs)
@@ -79,4 +84,5 @@ other-guard-spec =
     returns-13
     returns-14
     returns-15
-    returns-16)
+    returns-16
+    returns-17)

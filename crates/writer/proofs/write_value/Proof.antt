@@ -1,4 +1,4 @@
--- `writer::write_value` meets its contract: rows 20 to 24 by the words' type and misc, and past them the answers of a type that is known. Assumes nothing.
+-- `writer::write_value` meets its contract: rows 20 to 25 by the words' type and misc, and past them the answers of a type that is known. Assumes nothing.
 use denote.Ref.{now}
 use mathlib.Core.Path.{_≡_, ap, _∙_}
 use Rattle.meaning.specs.declared.Known.{Known}

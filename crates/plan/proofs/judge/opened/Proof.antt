@@ -1,4 +1,4 @@
--- 20 to 24 do not hold but for 23; the trailer is there; then the build id, the count or the name decides.
+-- 20 to 25 do not hold but for 23; the trailer is there; then the build id, the count or the name decides.
 use mathlib.Core.Path.{_≡_, sym, ap, _∙_}
 use mathlib.Core.Bool.{Bool, true, not, _&&_}
 use mathlib.Core.Logic.{inl}

@@ -7,12 +7,12 @@ use lib.ListN.{length}
 use borrow.Author.Needs.{needs}
 use Rattle.meaning.specs.Editions.{unreadable}
 use Rattle.plan.specs.Bases.{basesWith, bases-long, Filled, types-marked, types-refused}
-use Rattle.plan.specs.Marks.{unreadable-most}
+use Rattle.plan.specs.Marks.{lastType, unreadable-most}
 use Rattle.plan.proofs.marks.type_marks.Statement.{statement}
 use Rattle.plan.proofs.marks.type_marks.Tie as tie
 
-made : (c : tie.After-filled) → Filled (basesWith (c .before .before .args .trail)) (c .before .before .args .known .kinds + 1) 21 131092 (c .filled .result)
-made c = subst (λ (p : List ℕ). Filled p (c .before .before .args .known .kinds + 1) 21 131092 (c .filled .result)) (c .before .bases .ensures) (c .filled .ensures)
+made : (c : tie.After-filled) → Filled (basesWith (c .before .before .args .trail)) (c .before .before .args .known .kinds + 1) (lastType + 1) 131092 (c .filled .result)
+made c = subst (λ (p : List ℕ). Filled p (c .before .before .args .known .kinds + 1) (lastType + 1) 131092 (c .filled .result)) (c .before .bases .ensures) (c .filled .ensures)
 
 long : (c : tie.After-filled) → length (c .filled .result) ≡ 32
 long c = made c .long ∙ bases-long (c .before .before .args .trail)
