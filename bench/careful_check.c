@@ -1,6 +1,6 @@
 /*
  * Record check in careful C: the frame, then 20 to 25 and the sums of this
- * record's type alone. The pieces are careful.c's; they are compiled once more
+ * record's type alone; last, whether bytes are left after a name's zero (44). The pieces are careful.c's; they are compiled once more
  * here, so that the drain's own code stays as it is.
  */
 #define careful_drain careful_drain_not_used
@@ -40,6 +40,14 @@ static void read_sums(struct plan *p, uint64_t read_format)
         p->read_words += words(read_format & 4);
 }
 
+/* Of a name that was accepted: its zero is in the room's last word, the lowest that is found there. */
+static uint32_t dirty_name(const uint8_t *end)
+{
+    uint64_t last = load64(end - 8);
+    uint64_t zeros = (last - UINT64_C(0x0101010101010101)) & ~last & UINT64_C(0x8080808080808080);
+    return last >> (__builtin_ctzll(zeros) & 56) != 0 ? 44 : 0;
+}
+
 uint32_t careful_check(const uint8_t *record, size_t record_len, uint64_t sample_type, uint64_t read_format,
     uint32_t sample_id_all, uint64_t user_mask, uint64_t interrupt_mask, uint64_t branch_sample_type, uint32_t edition)
 {
@@ -75,7 +83,8 @@ uint32_t careful_check(const uint8_t *record, size_t record_len, uint64_t sample
         p.form[type] = type == 10 ? FORM_MMAP2 : FORM_NAME;
         p.from[type] = name_start[type];
         p.build_id_known = edition == 3;
-        return judge(&p, record, type, load16(record + 4), size);
+        why = judge(&p, record, type, load16(record + 4), size);
+        return why == 0 ? dirty_name(record + size - p.trailer) : why;
     }
     p.form[type] = type == 16 ? FORM_NAMESPACES : FORM_TEXT_POKE;
     if (type == 8) {

@@ -16,7 +16,7 @@
  * handler, as long as no slice that one call writes is lent to another. A ring
  * has one reader: two threads that drain it from one tail take the same records.
  *
- * Stack: no call needs more than 2,048 bytes, its return address and what it
+ * Stack: no call needs more than 2,560 bytes, its return address and what it
  * calls included (measured on a painted stack); besides its own code it calls
  * the C library's memcpy and memset alone. No function calls itself, so no input
  * makes it more.
@@ -133,6 +133,10 @@ extern "C" {
 #define OLLSKUVAN_REFUSED_ROOM 40u  /* write: the record doesn't fit the buffer; read, read_one: fewer than OLLSKUVAN_FIELDS words */
 #define OLLSKUVAN_REFUSED_PLACE 41u /* copy_name, write: place plus bytes, as plain numbers, passes the end */
 #define OLLSKUVAN_REFUSED_VALUE 42u /* write: no record decodes to this value; or fewer than OLLSKUVAN_FIELDS words */
+#define OLLSKUVAN_REFUSED_DIRTY_VALUE 43u /* write: the value has a name's flag set: its word is not 0 */
+/* Record check alone, in place of 0: the record is sound, and its name has stale
+ * bytes. Every other call takes it as accepted. */
+#define OLLSKUVAN_DIRTY_NAME 44u /* check: a byte after the name's zero, within its room, is not zero */
 
 /* ------------------------------------------------------------------------
  * Record types: what stands in word OLLSKUVAN_TYPE of a value.
@@ -242,6 +246,13 @@ extern "C" {
  * stack of size 0. The place of a list that is not selected reads 0; when
  * writing it is not looked at, and the list's count must be 0.
  *
+ * MMAP, COMM, MMAP2, KSYMBOL and CGROUP have a name, and a word for its flag. The
+ * name's room goes from its place to the trailer's start, or to the record's end
+ * without one; the name is the bytes before the room's first zero. The flag is 1 if
+ * any byte after that zero is not zero (a kernel left stale bytes there), otherwise
+ * 0. What else is ignored raises no flag: res, the padding of TEXT_POKE, the unused
+ * and reserved bytes of a build id. Only a value whose flag is 0 can be written.
+ *
  * Words marked "kept" are kept free for fields that may come later: they read
  * 0 and must be 0 to be written.
  *
@@ -259,9 +270,9 @@ extern "C" {
  *    anywhere in the source.
  *  - Width: a field has the width that its comment below names, u8, u16 or u32,
  *    and is a u64 where none is named. A word that does not fit is 42. A misc
- *    above 65,535 is 42 too, after 20 to 25 and 41, which look at its bit 14.
+ *    above 65,535 is 42 too, after 20 to 25, 43 and 41, which look at its bit 14.
  *    Places are no fields of the record, nor are the counts of a name, of
- *    registers and of a tag; the other counts and sizes are.
+ *    registers and of a tag, nor a name's flag; the other counts and sizes are.
  *  - Size, word 2, is 8 for the header, plus the widths of the fields and the
  *    bytes of the lists, rounded up to a multiple of 8, plus the trailer: 8 for
  *    each set bit of (sample_type & OLLSKUVAN_TRAILER_BITS), in every type but
@@ -277,9 +288,9 @@ extern "C" {
  *    lowest first.
  *  - Where a list is selected its place must lie in the source, or at its end,
  *    also if the list is empty (else 41). 0 will do for an empty one.
- *  - Ignored when reading and written as 0: res; what follows a name's zero; the
- *    padding after TEXT_POKE's texts; the 3 bytes after a build id's size, and
- *    those of its 20 bytes that it does not use.
+ *  - Ignored when reading and written as 0: res; what follows a name's zero, but
+ *    for the flag; the padding after TEXT_POKE's texts; the 3 bytes after a build
+ *    id's size, and those of its 20 bytes that it does not use.
  */
 #define OLLSKUVAN_FIELDS 56u
 
@@ -297,7 +308,7 @@ extern "C" {
 #define OLLSKUVAN_MMAP_PGOFF 7u
 #define OLLSKUVAN_MMAP_NAME 8u       /* place */
 #define OLLSKUVAN_MMAP_NAME_COUNT 9u /* bytes, without the zero */
-#define OLLSKUVAN_MMAP_NAME_FLAG 10u /* kept: reads 0, must be 0 */
+#define OLLSKUVAN_MMAP_NAME_FLAG 10u /* 1: stale bytes after the name; must be 0 to be written */
 
 /* 2 LOST */
 #define OLLSKUVAN_LOST_ID 3u
@@ -308,7 +319,7 @@ extern "C" {
 #define OLLSKUVAN_COMM_TID 4u /* u32 */
 #define OLLSKUVAN_COMM_NAME 5u       /* place */
 #define OLLSKUVAN_COMM_NAME_COUNT 6u /* bytes, without the zero */
-#define OLLSKUVAN_COMM_NAME_FLAG 7u  /* kept: reads 0, must be 0 */
+#define OLLSKUVAN_COMM_NAME_FLAG 7u  /* 1: stale bytes after the name; must be 0 to be written */
 
 /* 4 EXIT */
 #define OLLSKUVAN_EXIT_PID 3u /* u32 */
@@ -406,7 +417,7 @@ extern "C" {
 #define OLLSKUVAN_MMAP2_FLAGS 15u /* u32 */
 #define OLLSKUVAN_MMAP2_NAME 16u       /* place */
 #define OLLSKUVAN_MMAP2_NAME_COUNT 17u /* bytes, without the zero */
-#define OLLSKUVAN_MMAP2_NAME_FLAG 18u  /* kept: reads 0, must be 0 */
+#define OLLSKUVAN_MMAP2_NAME_FLAG 18u  /* 1: stale bytes after the name; must be 0 to be written */
 
 /* 11 AUX */
 #define OLLSKUVAN_AUX_OFFSET 3u
@@ -439,7 +450,7 @@ extern "C" {
 #define OLLSKUVAN_KSYMBOL_FLAGS 6u /* u16 */
 #define OLLSKUVAN_KSYMBOL_NAME 7u       /* place */
 #define OLLSKUVAN_KSYMBOL_NAME_COUNT 8u /* bytes, without the zero */
-#define OLLSKUVAN_KSYMBOL_NAME_FLAG 9u  /* kept: reads 0, must be 0 */
+#define OLLSKUVAN_KSYMBOL_NAME_FLAG 9u  /* 1: stale bytes after the name; must be 0 to be written */
 
 /* 18 BPF_EVENT */
 #define OLLSKUVAN_BPF_EVENT_BPF_TYPE 3u /* u16 */
@@ -452,7 +463,7 @@ extern "C" {
 #define OLLSKUVAN_CGROUP_ID 3u
 #define OLLSKUVAN_CGROUP_NAME 4u       /* place */
 #define OLLSKUVAN_CGROUP_NAME_COUNT 5u /* bytes, without the zero */
-#define OLLSKUVAN_CGROUP_NAME_FLAG 6u  /* kept: reads 0, must be 0 */
+#define OLLSKUVAN_CGROUP_NAME_FLAG 6u  /* 1: stale bytes after the name; must be 0 to be written */
 
 /* 20 TEXT_POKE */
 #define OLLSKUVAN_TEXT_POKE_ADDR 3u
@@ -490,9 +501,9 @@ struct ollskuvan_drained {
  *
  * A record taken is shown where it lies, or, if it crosses the ring's end, is
  * copied to the start of the scratch; it is then checked as ollskuvan_check
- * does from 20 on. Whatever the answer, an entry of 16 bytes goes to the
- * journal (16, kind, answer, the record's tail count) and the tail moves by the
- * record's size: a refused record is passed over.
+ * does from 20 on, but for 44, where it says 0. Whatever the answer, an entry of
+ * 16 bytes goes to the journal (16, kind, answer, the record's tail count) and the
+ * tail moves by the record's size: a refused record is passed over.
  *
  * Afterwards: the ring is unchanged. The journal's first 16 * taken bytes are
  * the entries, its other bytes are unchanged. The scratch begins with the
@@ -513,7 +524,9 @@ struct ollskuvan_drained ollskuvan_drain(const uint8_t *ring, size_t ring_len, u
 /*
  * ollskuvan_check answers for one record, which is the whole slice: 2; 7 if the
  * slice is shorter than 8 bytes; 6; 7 if the record's size is not the slice's
- * length; 20 to 25; 30 to 33; otherwise 0. It writes nothing.
+ * length; 20 to 25; 30 to 33; 44 if the record has a name whose flag is set;
+ * otherwise 0. It writes nothing. 44 is no refusal: the record is sound, and every
+ * other call takes it as one that is answered with 0.
  */
 uint32_t ollskuvan_check(const uint8_t *record, size_t record_len, uint64_t sample_type, uint64_t read_format,
     uint32_t sample_id_all, uint64_t user_mask, uint64_t interrupt_mask, uint64_t branch_sample_type,
@@ -540,9 +553,10 @@ uint32_t ollskuvan_copy_name(const uint8_t *record, size_t record_len, uint64_t 
 
 /*
  * ollskuvan_read reads one record, which is the whole slice, to its value.
- * It answers as ollskuvan_check does; where that is 0, it is 40 if fields_len
- * is below OLLSKUVAN_FIELDS. Refused: the words are unchanged. Accepted (0):
- * words 0 to OLLSKUVAN_FIELDS - 1 are the value, further words are unchanged.
+ * It answers as ollskuvan_check does, but for 44, where it says 0 (and the flag's
+ * word is 1); where that is 0, it is 40 if fields_len is below OLLSKUVAN_FIELDS.
+ * Refused: the words are unchanged. Accepted (0): words 0 to OLLSKUVAN_FIELDS - 1
+ * are the value, further words are unchanged.
  */
 uint32_t ollskuvan_read(const uint8_t *record, size_t record_len, uint64_t sample_type, uint64_t read_format,
     uint32_t sample_id_all, uint64_t user_mask, uint64_t interrupt_mask, uint64_t branch_sample_type,
@@ -596,6 +610,7 @@ struct ollskuvan_one ollskuvan_read_one(const uint8_t *ring, size_t ring_len, ui
  *   42 if fields_len is below OLLSKUVAN_FIELDS;
  *   20, 21, 22, 23, 25, 24, by the words of type and misc (a type is compared as
  *      the whole word: any above the edition's is 20);
+ *   43 if the type has a name and the word of its flag is not 0;
  *   41 if a selected list or name, by place plus bytes as plain numbers, passes
  *      the source's end, even where it is empty. A list is selected by the type,
  *      misc bit 14 (build id), the sample bits and read-format bit 3; an abi of
@@ -613,7 +628,9 @@ struct ollskuvan_one ollskuvan_read_one(const uint8_t *ring, size_t ring_len, ui
  * Refused: the buffer is unchanged. Accepted: the buffer begins with the record
  * (its length is word OLLSKUVAN_SIZE), its other bytes are unchanged. Bytes that
  * the reader ignores are written as zero. What is written reads back, under
- * the same edition and attributes, as the same record.
+ * the same edition and attributes, as the same record; a name's flag is never set in
+ * it. A record that was read with the flag can be written once that word is set to
+ * 0, and is then written without its stale bytes.
  */
 uint32_t ollskuvan_write(const uint64_t *fields, size_t fields_len, const uint8_t *source, size_t source_len,
     uint64_t sample_type, uint64_t read_format, uint32_t sample_id_all, uint64_t user_mask, uint64_t interrupt_mask,

@@ -71,10 +71,11 @@ static uint64_t get(const uint8_t *at, int bytes)
     return n;
 }
 
-/* A switch out (P6 of document 01), LOST with id 7 and lost 9, COMM "kiln". */
+/* A switch out (P6 of document 01), LOST with id 7 and lost 9, COMM "kiln"; the same with stale bytes after its zero. */
 static const uint8_t SWITCH[8] = {0x0e, 0, 0, 0, 0, 0x20, 8, 0};
 static const uint8_t LOST[24] = {2, 0, 0, 0, 0, 0, 24, 0, 7, 0, 0, 0, 0, 0, 0, 0, 9, 0, 0, 0, 0, 0, 0, 0};
-static const uint8_t COMM[24] = {3, 0, 0, 0, 0, 0x20, 24, 0, 1, 0, 0, 0, 2, 0, 0, 0, 'k', 'i', 'l', 'n', 0, 1, 2, 3};
+static const uint8_t COMM[24] = {3, 0, 0, 0, 0, 0x20, 24, 0, 1, 0, 0, 0, 2, 0, 0, 0, 'k', 'i', 'l', 'n', 0, 0, 0, 0};
+static const uint8_t DIRTY[24] = {3, 0, 0, 0, 0, 0x20, 24, 0, 1, 0, 0, 0, 2, 0, 0, 0, 'k', 'i', 'l', 'n', 0, 1, 2, 3};
 
 /* The attributes: sample type, read format, sample_id_all, user mask, interrupt mask, branch sample type. */
 #define NONE 0, 0, 0, 0, 0, 0
@@ -346,7 +347,7 @@ static void test_misc_meaning(void)
 
 static void test_copy_name(void)
 {
-    uint8_t *record = copied(COMM, 24), *buffer = block(8);
+    uint8_t *record = copied(DIRTY, 24), *buffer = block(8);
 
     IS(ollskuvan_copy_name(NULL, 0, 0, 0, NULL, 0), OLLSKUVAN_REFUSED_NAME_ROOM);
     IS(ollskuvan_copy_name(NULL, 0, 1, 0, NULL, 0), OLLSKUVAN_REFUSED_PLACE);
@@ -369,13 +370,165 @@ static void test_copy_name(void)
     /* zeros inside are copied as they are */
     IS(ollskuvan_copy_name(record, 24, 18, 6, buffer, 8), OLLSKUVAN_OK);
     OK(memcmp(buffer, "ln\0\1\2\3\0", 7) == 0 && buffer[7] == 0xc3);
-    OK(memcmp(record, COMM, 24) == 0);
+    OK(memcmp(record, DIRTY, 24) == 0);
 
     free(record);
     free(buffer);
 }
 
+/* The types that have a name: type, misc, where the name starts, the word of its flag. */
+static const struct named {
+    unsigned type, misc, start, flag;
+} NAMED[] = {
+    {OLLSKUVAN_TYPE_MMAP, 0, 40, OLLSKUVAN_MMAP_NAME_FLAG},
+    {OLLSKUVAN_TYPE_COMM, OLLSKUVAN_MISC_COMM_EXEC, 16, OLLSKUVAN_COMM_NAME_FLAG},
+    {OLLSKUVAN_TYPE_MMAP2, 0, 72, OLLSKUVAN_MMAP2_NAME_FLAG},
+    {OLLSKUVAN_TYPE_MMAP2, OLLSKUVAN_MISC_MMAP_BUILD_ID, 72, OLLSKUVAN_MMAP2_NAME_FLAG},
+    {OLLSKUVAN_TYPE_KSYMBOL, 0, 24, OLLSKUVAN_KSYMBOL_NAME_FLAG},
+    {OLLSKUVAN_TYPE_CGROUP, 0, 16, OLLSKUVAN_CGROUP_NAME_FLAG},
+};
+enum { NAMED_TYPES = sizeof NAMED / sizeof NAMED[0] };
+
+/* The record of such a type in a block of its own: zeros, "kiln", its zero and these three; then a trailer's eight bytes
+ * that are not zero, if it has one. */
+static uint8_t *named_record(const struct named *n, const uint8_t stale[3], int trailed, size_t *length)
+{
+    uint8_t *record;
+
+    *length = n->start + 8 + (trailed ? 8 : 0);
+    record = block(*length);
+    memset(record, 0, n->start);
+    put16(record, n->type);
+    put16(record + 4, n->misc);
+    put16(record + 6, (unsigned)*length);
+    memcpy(record + n->start, "kiln", 5);
+    memcpy(record + n->start + 5, stale, 3);
+    return record;
+}
+
+static const uint8_t STALE[][3] = {{0, 0, 0}, {1, 0, 0}, {0, 0x80, 0}, {0, 0, 1}, {255, 255, 255}};
+enum { STALES = sizeof STALE / sizeof STALE[0] };
+
+/* 44: record check alone, for each type that has a name, without and before a trailer. */
+static void test_dirty_names(void)
+{
+    uint8_t *ring = block(128), *journal = block(16), *other;
+    struct ollskuvan_drained d;
+    size_t i, j, length;
+
+    for (i = 0; i < NAMED_TYPES; i++)
+        for (j = 0; j < STALES; j++) {
+            const uint32_t due = j ? OLLSKUVAN_DIRTY_NAME : OLLSKUVAN_OK;
+            uint8_t *record = named_record(&NAMED[i], STALE[j], 0, &length);
+            uint8_t *trailed;
+
+            IS(check(record, length, 3), due);
+            memset(ring, 0xc3, 128);
+            memcpy(ring, record, length);
+            d = drain(ring, 128, length, 0, 3, 9, NULL, 0, journal, 16);
+            IS(d.taken, 1);
+            IS(d.stop, OLLSKUVAN_STOP_NOTHING);
+            IS(get(journal + OLLSKUVAN_JOURNAL_ANSWER, 2), OLLSKUVAN_OK);
+            free(record);
+            trailed = named_record(&NAMED[i], STALE[j], 1, &length);
+            IS(ollskuvan_check(trailed, length, TRAILED(OLLSKUVAN_BIT_TIME), 3), due);
+            free(trailed);
+        }
+
+    /* every refusal goes before it, and each edition says it */
+    IS(check(DIRTY, 24, 1), OLLSKUVAN_DIRTY_NAME);
+    IS(check(DIRTY, 24, 2), OLLSKUVAN_DIRTY_NAME);
+    IS(check(DIRTY, 24, 4), OLLSKUVAN_REFUSED_EDITION);
+    IS(ollskuvan_check(DIRTY, 24, TRAILED(UINT64_C(1) << 40), 3), OLLSKUVAN_REFUSED_SAMPLE_TYPE);
+    IS(ollskuvan_check(DIRTY, 24, TRAILED(OLLSKUVAN_BIT_TIME), 3), OLLSKUVAN_REFUSED_NAME);
+    /* text padding, a build id's ignored bytes and res raise no flag */
+    other = block(80);
+    put16(other, OLLSKUVAN_TYPE_TEXT_POKE);
+    memset(other + 2, 0, 4);
+    put16(other + 6, 24);
+    put16(other + 16, 1);
+    put16(other + 18, 1);
+    IS(check(other, 24, 3), OLLSKUVAN_OK);
+    put16(other, OLLSKUVAN_TYPE_MMAP2);
+    put16(other + 4, OLLSKUVAN_MISC_MMAP_BUILD_ID);
+    put16(other + 6, 80);
+    other[40] = 4;
+    memcpy(other + 72, "kiln\0\0\0", 8);
+    IS(check(other, 80, 3), OLLSKUVAN_OK);
+    other[79] = 1;
+    IS(check(other, 80, 3), OLLSKUVAN_DIRTY_NAME);
+    put16(other, OLLSKUVAN_TYPE_SAMPLE);
+    put16(other + 6, 16);
+    IS(ollskuvan_check(other, 16, SAMPLED(OLLSKUVAN_BIT_CPU), 3), OLLSKUVAN_OK);
+
+    free(ring);
+    free(journal);
+    free(other);
+}
+
 #ifndef WITHOUT_VALUES
+/* The flag's word, read and written: 43 where it is not 0. */
+static void test_dirty_values(void)
+{
+    uint8_t *ring = block(128), *buffer = block(80);
+    uint64_t *fields = malloc(OLLSKUVAN_FIELDS * sizeof *fields);
+    struct ollskuvan_one one;
+    size_t i, j, length;
+
+    if (!fields)
+        abort();
+    for (i = 0; i < NAMED_TYPES; i++)
+        for (j = 0; j < STALES; j++) {
+            const unsigned flag = NAMED[i].flag;
+            uint8_t *record = named_record(&NAMED[i], STALE[j], 0, &length);
+
+            IS(ollskuvan_read(record, length, NONE, 3, fields, OLLSKUVAN_FIELDS), OLLSKUVAN_OK);
+            IS(fields[flag], j ? 1 : 0);
+            IS(ollskuvan_read(record, length, NONE, 3, fields, 55), OLLSKUVAN_REFUSED_ROOM);
+            memset(ring, 0xc3, 128);
+            memcpy(ring, record, length);
+            fields[flag] = 99;
+            one = ollskuvan_read_one(ring, 128, length, 0, NONE, 3, NULL, 0, fields, OLLSKUVAN_FIELDS);
+            IS(one.answer, OLLSKUVAN_OK);
+            IS(one.size, length);
+            IS(fields[flag], j ? 1 : 0);
+
+            /* any number but 0: after 2, too few words and 20 to 25, before 41, 42 and 40 */
+            fields[flag] = j % 2 ? UINT64_C(1) << 32 : 1;
+            memset(buffer, 0xc3, 80);
+            IS(ollskuvan_write(fields, 56, record, length, NONE, 3, buffer, length), OLLSKUVAN_REFUSED_DIRTY_VALUE);
+            IS(ollskuvan_write(fields, 56, NULL, 0, NONE, 3, NULL, 0), OLLSKUVAN_REFUSED_DIRTY_VALUE);
+            IS(ollskuvan_write(fields, 56, record, length, NONE, 0, buffer, 80), OLLSKUVAN_REFUSED_EDITION);
+            IS(ollskuvan_write(fields, 55, record, length, NONE, 3, buffer, 80), OLLSKUVAN_REFUSED_VALUE);
+            IS(ollskuvan_write(fields, 56, record, length, TRAILED(UINT64_C(1) << 40), 3, buffer, 80),
+                OLLSKUVAN_REFUSED_SAMPLE_TYPE);
+            fields[OLLSKUVAN_SIZE] = 12;
+            IS(ollskuvan_write(fields, 56, record, length, NONE, 3, buffer, 80), OLLSKUVAN_REFUSED_DIRTY_VALUE);
+            OK(untouched(buffer, 80));
+
+            /* without the flag it is written, with zeros after the name */
+            fields[OLLSKUVAN_SIZE] = length;
+            fields[flag] = 0;
+            IS(ollskuvan_write(fields, 56, record, length, NONE, 3, buffer, length), OLLSKUVAN_OK);
+            OK(memcmp(buffer, record, length - 3) == 0 && get(buffer + length - 3, 3) == 0);
+            IS(check(buffer, length, 3), OLLSKUVAN_OK);
+            free(record);
+        }
+
+    /* a type without a name has no such word: 42 */
+    IS(ollskuvan_read(LOST, 24, NONE, 3, fields, OLLSKUVAN_FIELDS), OLLSKUVAN_OK);
+    for (i = 0; i < NAMED_TYPES; i++) {
+        IS(fields[NAMED[i].flag], 0);
+        fields[NAMED[i].flag] = 1;
+        IS(ollskuvan_write(fields, 56, NULL, 0, NONE, 3, buffer, 80), OLLSKUVAN_REFUSED_VALUE);
+        fields[NAMED[i].flag] = 0;
+    }
+
+    free(ring);
+    free(buffer);
+    free(fields);
+}
+
 static void test_read_write(void)
 {
     uint8_t *record = copied(COMM, 24), *buffer = block(32), *source = copied((const uint8_t *)"-kiln", 5);
@@ -436,12 +589,12 @@ static void test_read_write(void)
     fields[OLLSKUVAN_COMM_NAME] = UINT64_MAX;
     IS(ollskuvan_write(fields, 57, source, 5, NONE, 1, buffer, 32), OLLSKUVAN_REFUSED_PLACE);
 
-    /* 20 by the whole word; 42 for a kept word, a number too wide, a wrong size */
+    /* 20 by the whole word; 42 for a word that the type does not have, a number too wide, a wrong size */
     memcpy(fields, exact, OLLSKUVAN_FIELDS * sizeof *exact);
     fields[OLLSKUVAN_TYPE] |= UINT64_C(1) << 32;
     IS(ollskuvan_write(fields, 56, record, 24, NONE, 3, buffer, 32), OLLSKUVAN_REFUSED_TYPE);
     memcpy(fields, exact, OLLSKUVAN_FIELDS * sizeof *exact);
-    fields[OLLSKUVAN_COMM_NAME_FLAG] = 1;
+    fields[OLLSKUVAN_COMM_NAME_FLAG + 1] = 1;
     IS(ollskuvan_write(fields, 56, record, 24, NONE, 3, buffer, 32), OLLSKUVAN_REFUSED_VALUE);
     memcpy(fields, exact, OLLSKUVAN_FIELDS * sizeof *exact);
     fields[OLLSKUVAN_COMM_TID] = UINT64_C(1) << 32;
@@ -649,7 +802,9 @@ int main(void)
     test_branches();
     test_misc_meaning();
     test_copy_name();
+    test_dirty_names();
 #ifndef WITHOUT_VALUES
+    test_dirty_values();
     test_read_write();
     test_index_word();
     test_read_one();

@@ -46,14 +46,16 @@ enum kind {
     COUNTED,       /* the same, of a given value */
     LISTED,        /* lays so many elements of so many bytes; the word reads their place */
     NAMED,         /* lays a name and its zeros, up to a multiple of 8; the word reads its place */
+    STALE_NAMED,   /* the same with one zero, and behind it bytes that are not zero */
     LENGTH_WORD,   /* the word reads the elements of the last list, or the bytes of the last name */
     SKIPPED,       /* lays bytes that no word reads */
+    RAISED_WORD,   /* the word reads 1: a flag */
     KEPT_WORD,     /* the word reads 0 */
     AFTER_WORD,    /* the kept word before this row has this word's number plus one */
     SAME_NUMBER,
     LEAST_WORDS_READ, OLDEST_EDITION, RING_SHORTEST, RING_LONGEST, RECORD_LONGEST,
     ENTRY_BYTES, ENTRY_OFFSET, ENTRY_KIND_GIVEN,
-    MEANING_GIVEN, STOP_GIVEN, CHECK_GIVEN, COPY_GIVEN, WRITE_GIVEN
+    MEANING_GIVEN, STOP_GIVEN, CHECK_GIVEN, COPY_GIVEN, WRITE_GIVEN, DIRTY_CHECK_GIVEN, DIRTY_WRITE_GIVEN
 };
 
 struct row {
@@ -77,8 +79,11 @@ struct row {
 #define COUNT64(w, n) ROW(COUNTED, #w, w, NULL, 8, n)
 #define LIST(w, n, each) ROW(LISTED, #w, w, NULL, n, each)
 #define NAME(w, n) ROW(NAMED, #w, w, NULL, n)
+#define STALE_NAME(w, n) ROW(STALE_NAMED, #w, w, NULL, n)
 #define LENGTH(w) ROW(LENGTH_WORD, #w, w, NULL, 0)
 #define SKIP(n) ROW(SKIPPED, "", 0, NULL, n)
+#define RAISED(w) ROW(RAISED_WORD, #w, w, NULL, 0)
+#define NOT_RAISED(w) ROW(KEPT_WORD, #w, w, NULL, 0)
 #define KEPT(w) ROW(KEPT_WORD, #w, w, NULL, 0)
 #define AFTER(w) ROW(AFTER_WORD, #w, w, NULL, 0)
 #define SAME(w, n) ROW(SAME_NUMBER, #w, w, NULL, n)
@@ -95,6 +100,8 @@ struct row {
 #define ANSWER(w, ...) ROW(CHECK_GIVEN, #w, w, NULL, __VA_ARGS__)
 #define COPY(w, ...) ROW(COPY_GIVEN, #w, w, NULL, __VA_ARGS__)
 #define WRITTEN(w, ...) ROW(WRITE_GIVEN, #w, w, NULL, __VA_ARGS__)
+#define DIRTY(w, ...) ROW(DIRTY_CHECK_GIVEN, #w, w, NULL, __VA_ARGS__)
+#define DIRTY_WRITTEN(w, ...) ROW(DIRTY_WRITE_GIVEN, #w, w, NULL, __VA_ARGS__)
 
 /* The entry that ENTRY_PLACE looks at: a type that no edition knows, at this tail. */
 #define ENTRY_KIND 0x7766
@@ -218,6 +225,25 @@ static uint64_t written(uint64_t size, uint64_t length)
     return ollskuvan_write(words, WORDS, NULL, 0, NONE, 3, buffer, (size_t)length);
 }
 
+/* Record check of zeros behind a header, but for the last byte. */
+static uint64_t checked_dirty(uint64_t type, uint64_t size)
+{
+    uint8_t bytes[64] = {0};
+    spell(bytes, type, 4);
+    spell(bytes + 6, size, 2);
+    bytes[size - 1] = 1;
+    return ollskuvan_check(bytes, (size_t)size, NONE, 3);
+}
+
+/* Type and size, and in one word 1. */
+static uint64_t written_dirty(uint64_t type, uint64_t size, uint64_t word)
+{
+    uint64_t words[WORDS] = {type, 0, size};
+    uint8_t buffer[64];
+    words[word] = 1;
+    return ollskuvan_write(words, WORDS, NULL, 0, NONE, 3, buffer, sizeof buffer);
+}
+
 static uint64_t shown(const struct row *row)
 {
     const uint64_t *n = row->n;
@@ -236,6 +262,8 @@ static uint64_t shown(const struct row *row)
     case CHECK_GIVEN: return checked((uint32_t)n[0], n[1], n[2], n[3], n[4], n[5], n[6], n[7]);
     case COPY_GIVEN: return ollskuvan_copy_name(zeros, 8, n[0], n[1], buffer, (size_t)n[2]);
     case WRITE_GIVEN: return written(n[0], n[1]);
+    case DIRTY_CHECK_GIVEN: return checked_dirty(n[0], n[1]);
+    case DIRTY_WRITE_GIVEN: return written_dirty(n[0], n[1], n[2]);
     default: return n[0]; /* SAME_NUMBER */
     }
 }
@@ -266,15 +294,20 @@ static uint64_t fresh(int bytes)
     return n;
 }
 
-/* Bytes that are not zero; then, for a name, zeros up to a multiple of 8, one at least. */
-static void lay_bytes(uint64_t count, int name)
+/* Bytes that are not zero. */
+static void lay_bytes(uint64_t count)
 {
     while (count--)
         lay(0xe0 | (laid & 15), 1);
-    if (name)
-        do
-            lay(0, 1);
-        while (laid % 8);
+}
+
+/* A name, its zero, and zeros or stale bytes up to a multiple of 8. */
+static void lay_name(uint64_t count, int stale)
+{
+    lay_bytes(count);
+    lay(0, 1);
+    while (laid % 8)
+        lay(stale ? 0xd0 | (laid & 15) : 0, 1);
 }
 
 static uint64_t lay_row(const struct row *row, uint64_t *length)
@@ -289,12 +322,17 @@ static uint64_t lay_row(const struct row *row, uint64_t *length)
         lay(row->n[1], (int)n);
         return row->n[1];
     case LISTED:
+        lay_bytes(n * row->n[1]);
+        *length = n;
+        return place;
     case NAMED:
-        lay_bytes(row->kind == NAMED ? n : n * row->n[1], row->kind == NAMED);
+    case STALE_NAMED:
+        lay_name(n, row->kind == STALE_NAMED);
         *length = n;
         return place;
     case LENGTH_WORD: return *length;
-    case SKIPPED: lay_bytes(n, 0); return 0;
+    case RAISED_WORD: return 1;
+    case SKIPPED: lay_bytes(n); return 0;
     default: return 0; /* kept words; type, misc and size are known at the end */
     }
 }

@@ -16,7 +16,8 @@ static const struct takes takes = {
     "usage: ollskuvan dump [--all] IMAGE\n"
     "Prints every record with its place, type, misc and size, and each of its fields by name. A record\n"
     "that is refused is printed with the refusal and its bytes. Lists show their count, their bytes, their\n"
-    "place in the record, and what comes first.\n"
+    "place in the record, and what comes first. A name's flag is 1 where stale bytes follow its zero, which\n"
+    "are shown.\n"
     "  --all   lists and bytes whole\n",
     flags, 1, 1,
 };

@@ -15,7 +15,8 @@ static bool all;
 static const struct flag flags[] = { { "--all", &all }, { NULL, NULL } };
 static const struct takes takes = {
     "usage: ollskuvan explain NUMBER.. | --all\n"
-    "Says in words why a drain stopped or why a record, a name or a value was refused.\n"
+    "Says in words why a drain stopped, what a record was answered, or why a record, a name or a value was\n"
+    "refused.\n"
     "  --all   every number that is used\n",
     flags, 0, 99,
 };
@@ -58,6 +59,12 @@ static const struct {
     { OLLSKUVAN_REFUSED_ROOM, "The buffer is too short, or there are fewer words than OLLSKUVAN_FIELDS." },
     { OLLSKUVAN_REFUSED_PLACE, "Of a name in its record, or of a list or name in the source of a writing." },
     { OLLSKUVAN_REFUSED_VALUE, "ollskuvan.h says how a value is built from nothing." },
+    { OLLSKUVAN_REFUSED_DIRTY_VALUE,
+        "It was read from a record with stale bytes after its name. With that word set to 0 it can be written,\n"
+        "    without these bytes." },
+    { OLLSKUVAN_DIRTY_NAME,
+        "Of record check alone, in place of 0: the record is sound, and a byte after its name's zero, before the\n"
+        "    trailer or the record's end, is not zero. A drain and the readers answer 0." },
 };
 
 static void print_note(uint32_t number)
@@ -67,12 +74,18 @@ static void print_note(uint32_t number)
             printf("    %s\n", notes[i].text);
 }
 
+/* What is no refusal: the record is accepted. */
+static bool is_accepted(uint32_t number)
+{
+    return number == OLLSKUVAN_OK || number == OLLSKUVAN_DIRTY_NAME;
+}
+
 static void print_answer(const struct ollskuvan_answer *answer)
 {
     if (answer->stop != NULL)
         printf("stop %" PRIu32 ": %s\n", answer->number, answer->stop);
     if (answer->refusal != NULL)
-        printf("%s %" PRIu32 ": %s\n", answer->number == 0 ? "answer" : "refusal", answer->number, answer->refusal);
+        printf("%s %" PRIu32 ": %s\n", is_accepted(answer->number) ? "answer" : "refusal", answer->number, answer->refusal);
     print_note(answer->number);
 }
 

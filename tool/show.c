@@ -278,6 +278,30 @@ static void show_abi(uint64_t abi)
     printf("%" PRIu64 "%s\n", abi, abi < 3 ? names[abi] : "");
 }
 
+/* The bytes of the trailer; SAMPLE, which has none, has no name either. */
+static uint64_t trailer_bytes(const struct image *image)
+{
+    uint64_t bytes = 0;
+    for (uint64_t bits = image->sample_type & OLLSKUVAN_TRAILER_BITS; bits != 0; bits &= bits - 1)
+        bytes += 8;
+    return image->sample_id_all != 0 ? bytes : 0;
+}
+
+/* A name's flag, and where it is set what stands between the name's zero and its room's end: seven bytes at most. */
+static void show_flag(const struct value *value, uint32_t word)
+{
+    uint64_t zero = value->fields[word - 2] + value->fields[word - 1];
+    uint64_t end = value->fields[OLLSKUVAN_SIZE] - trailer_bytes(value->image);
+    printf("%" PRIu64, value->fields[word]);
+    if (value->fields[word] != 0) {
+        fputs(" (stale bytes after the name's zero:", stdout);
+        for (uint64_t at = zero + 1; at < end; at++)
+            printf(" %02x", value->record[at]);
+        putchar(')');
+    }
+    putchar('\n');
+}
+
 static void show_field(const struct value *value, const struct ollskuvan_word *row)
 {
     uint64_t number = value->fields[row->word];
@@ -293,6 +317,9 @@ static void show_field(const struct value *value, const struct ollskuvan_word *r
         break;
     case OLLSKUVAN_FORM_ABI:
         show_abi(number);
+        break;
+    case OLLSKUVAN_FORM_FLAG:
+        show_flag(value, row->word);
         break;
     default:
         show_list(value, row);

@@ -66,6 +66,7 @@ $out/names || wrong "the names of words, types and answers"
 # ---- the header's sentences on values and stack
 mkdir -p $out/made && $out/values made $out/made || wrong "the images of every type"
 mkdir -p $out/indexed && $out/values indexed $out/indexed || wrong "the images with a branch sample type"
+$out/values dirty $out/made || wrong "the image of dirty names"
 $out/values check >$out/values.txt || { wrong "the header's sentences on values"; head $out/values.txt; }
 tail -n 1 $out/values.txt
 $out/stack rings/*.img examples/rings/*.img $out/made/*.img $out/indexed/*.img || wrong "a call uses more stack than the header says"
@@ -117,7 +118,7 @@ $tool journal $out/not-indexed.img | cmp -s - <(target/bin/ringdump <$out/not-in
 $tool dump $out/indexed-0.img | cmp -s - <($tool dump $out/not-indexed.img) || wrong "a branch sample type of 0 behind the ring"
 
 # ---- the dumps that are kept
-for name in tasks kernel every-type every-type-plain every-type-edition-2 indexed indexed-edition-2; do
+for name in tasks kernel every-type every-type-plain every-type-edition-2 indexed indexed-edition-2 dirty-names; do
   if [ "${1:-}" = --write ]; then
     cp "$out/$name.txt" "tool/expected/$name.txt"
   else
@@ -128,6 +129,14 @@ done
 for type in $(sed -nE 's/^#define OLLSKUVAN_TYPE_([A-Z0-9_]+) .*/\1/p' $header); do
   grep -q "^record .*: $type, type" $out/every-type.txt || wrong "the dump of every type has no $type"
 done
+
+# ---- names with stale bytes: the flag, and no refusal; nowhere else
+for type in MMAP COMM MMAP2 KSYMBOL CGROUP; do
+  grep -q "^record .*: $type, type" $out/dirty-names.txt || wrong "the dump of dirty names has no $type"
+done
+[ "$(grep -c '^    name flag           1 (stale bytes .*: 73 72 71)$' $out/dirty-names.txt)" -eq 5 ] &&
+  grep -q '^5 records, .* 0 refused$' $out/dirty-names.txt || wrong "the dump of dirty names"
+! grep -l 'name flag           [^0]' $out/every-type*.txt $out/tasks.txt $out/kernel.txt || wrong "a name that is not dirty"
 
 # ---- names: no byte reaches the terminal that is no plain sign
 patch() { # NAME OFFSET OCTAL-BYTES: tasks.img with other bytes
@@ -221,10 +230,12 @@ done
 for number in $(sed -nE 's/^#define OLLSKUVAN_(STOP|REFUSED)_[A-Z_]+ ([0-9]+)u.*/\2/p' $header | sort -un); do
   $tool explain "$number" | grep -qE "^(stop|refusal) $number: ." || wrong "explain $number"
 done
-used=$(sed -nE 's/^#define OLLSKUVAN_(OK|(STOP|REFUSED)_[A-Z_]+) ([0-9]+)u.*/\3/p' $header | sort -un | wc -l)
+used=$(sed -nE 's/^#define OLLSKUVAN_(OK|DIRTY_NAME|(STOP|REFUSED)_[A-Z_]+) ([0-9]+)u.*/\3/p' $header | sort -un | wc -l)
 told=$($tool explain --all | sed -n 's/^[a-z]* \([0-9]*\):.*/\1/p' | sort -un | wc -l)
 [ "$told" = "$used" ] || wrong "explain --all tells other numbers than the header"
 [ "$($tool explain 0 7 23 | grep -c '^[a-z]')" -eq 5 ] || wrong "explain 0 7 23: five answers are due"
+$tool explain 43 | grep -q "^refusal 43: the value has a name's flag set" || wrong "explain 43"
+$tool explain 44 | grep -q '^answer 44: accepted, with stale bytes after the name' || wrong "explain 44 as no refusal"
 
 # ---- report and record are the examples' own
 [ ! -x target/examples/late ] || {

@@ -39,6 +39,8 @@ const struct ollskuvan_answer ollskuvan_answers[] = {
     { OLLSKUVAN_REFUSED_ROOM, NULL, "no room for the record, or for its words" },
     { OLLSKUVAN_REFUSED_PLACE, NULL, "place plus bytes passes the end" },
     { OLLSKUVAN_REFUSED_VALUE, NULL, "no record has this value" },
+    { OLLSKUVAN_REFUSED_DIRTY_VALUE, NULL, "the value has a name's flag set" },
+    { OLLSKUVAN_DIRTY_NAME, NULL, "accepted, with stale bytes after the name" },
 };
 const size_t ollskuvan_answers_count = LENGTH(ollskuvan_answers);
 
@@ -125,7 +127,7 @@ const struct ollskuvan_word ollskuvan_words[] = {
     FIELD(MMAP, PGOFF, "pgoff", 8, HEX, ALWAYS),
     LIST(MMAP, NAME, "name", NAME_COUNT, NAME, ALWAYS),
     FIELD(MMAP, NAME_COUNT, "name count", 0, COUNT, ALWAYS),
-    FIELD(MMAP, NAME_FLAG, "name flag", 0, KEPT, ALWAYS),
+    FIELD(MMAP, NAME_FLAG, "name flag", 0, FLAG, ALWAYS),
 
     FIELD(LOST, ID, "id", 8, DECIMAL, ALWAYS),
     FIELD(LOST, LOST, "lost", 8, DECIMAL, ALWAYS),
@@ -134,7 +136,7 @@ const struct ollskuvan_word ollskuvan_words[] = {
     FIELD(COMM, TID, "tid", 4, THREAD, ALWAYS),
     LIST(COMM, NAME, "name", NAME_COUNT, NAME, ALWAYS),
     FIELD(COMM, NAME_COUNT, "name count", 0, COUNT, ALWAYS),
-    FIELD(COMM, NAME_FLAG, "name flag", 0, KEPT, ALWAYS),
+    FIELD(COMM, NAME_FLAG, "name flag", 0, FLAG, ALWAYS),
 
     FIELD(EXIT, PID, "pid", 4, THREAD, ALWAYS),
     FIELD(EXIT, PPID, "ppid", 4, THREAD, ALWAYS),
@@ -225,7 +227,7 @@ const struct ollskuvan_word ollskuvan_words[] = {
     FIELD(MMAP2, FLAGS, "flags", 4, HEX, ALWAYS),
     LIST(MMAP2, NAME, "name", NAME_COUNT, NAME, ALWAYS),
     FIELD(MMAP2, NAME_COUNT, "name count", 0, COUNT, ALWAYS),
-    FIELD(MMAP2, NAME_FLAG, "name flag", 0, KEPT, ALWAYS),
+    FIELD(MMAP2, NAME_FLAG, "name flag", 0, FLAG, ALWAYS),
 
     FIELD(AUX, OFFSET, "offset", 8, HEX, ALWAYS),
     FIELD(AUX, SIZE, "aux size", 8, HEX, ALWAYS),
@@ -250,7 +252,7 @@ const struct ollskuvan_word ollskuvan_words[] = {
     FIELD(KSYMBOL, FLAGS, "flags", 2, HEX, ALWAYS),
     LIST(KSYMBOL, NAME, "name", NAME_COUNT, NAME, ALWAYS),
     FIELD(KSYMBOL, NAME_COUNT, "name count", 0, COUNT, ALWAYS),
-    FIELD(KSYMBOL, NAME_FLAG, "name flag", 0, KEPT, ALWAYS),
+    FIELD(KSYMBOL, NAME_FLAG, "name flag", 0, FLAG, ALWAYS),
 
     FIELD(BPF_EVENT, BPF_TYPE, "bpf type", 2, DECIMAL, ALWAYS),
     FIELD(BPF_EVENT, FLAGS, "flags", 2, HEX, ALWAYS),
@@ -261,7 +263,7 @@ const struct ollskuvan_word ollskuvan_words[] = {
     FIELD(CGROUP, ID, "id", 8, DECIMAL, ALWAYS),
     LIST(CGROUP, NAME, "name", NAME_COUNT, NAME, ALWAYS),
     FIELD(CGROUP, NAME_COUNT, "name count", 0, COUNT, ALWAYS),
-    FIELD(CGROUP, NAME_FLAG, "name flag", 0, KEPT, ALWAYS),
+    FIELD(CGROUP, NAME_FLAG, "name flag", 0, FLAG, ALWAYS),
 
     FIELD(TEXT_POKE, ADDR, "addr", 8, HEX, ALWAYS),
     FIELD(TEXT_POKE, OLD_COUNT, "old length", 2, COUNT, ALWAYS),

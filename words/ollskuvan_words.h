@@ -17,6 +17,7 @@ enum ollskuvan_form {
     OLLSKUVAN_FORM_HEX,
     OLLSKUVAN_FORM_THREAD, /* a pid or tid: 2^32 - 1 is -1 */
     OLLSKUVAN_FORM_ABI,
+    OLLSKUVAN_FORM_FLAG, /* of a name, whose place and count are the two words before: 1 where stale bytes follow it */
     /* told beside something else, or not at all */
     OLLSKUVAN_FORM_HEADER, /* in the record's first line */
     OLLSKUVAN_FORM_COUNT,  /* with its list */

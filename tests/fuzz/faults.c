@@ -23,6 +23,19 @@ uint32_t reader_write(const uint64_t *, size_t, const uint8_t *, size_t, uint64_
 
 static int fault(int number) { return FAULT == number; }
 
+/* The word of a name's flag; 0 for a type that has no name. */
+static unsigned flag_of(uint64_t type)
+{
+    switch (type) {
+    case OLLSKUVAN_TYPE_MMAP: return OLLSKUVAN_MMAP_NAME_FLAG;
+    case OLLSKUVAN_TYPE_COMM: return OLLSKUVAN_COMM_NAME_FLAG;
+    case OLLSKUVAN_TYPE_MMAP2: return OLLSKUVAN_MMAP2_NAME_FLAG;
+    case OLLSKUVAN_TYPE_KSYMBOL: return OLLSKUVAN_KSYMBOL_NAME_FLAG;
+    case OLLSKUVAN_TYPE_CGROUP: return OLLSKUVAN_CGROUP_NAME_FLAG;
+    default: return 0;
+    }
+}
+
 /* What a fault reads is not used. */
 static volatile uint8_t seen;
 
@@ -61,6 +74,13 @@ struct ollskuvan_drained ollskuvan_drain(const uint8_t *ring, size_t ring_len, u
         for (i = 0; i < d.taken; i++)
             if (journal[16 * i + 4] == 255 && journal[16 * i + 5] == 255)
                 journal[16 * i + 4] = 0;
+    for (i = 0; fault(38) && i < d.taken; i++) { /* the drain says 44 of a record that lies whole in the ring */
+        size_t at = (size_t)(tail % ring_len), size = ring[at + 6] | (size_t)ring[at + 7] << 8;
+        if (at + size <= ring_len && reader_check(ring + at, size, sample_type, read_format, sample_id_all, user_mask,
+                interrupt_mask, branch_sample_type, edition) == OLLSKUVAN_DIRTY_NAME)
+            journal[16 * i + OLLSKUVAN_JOURNAL_ANSWER] = OLLSKUVAN_DIRTY_NAME;
+        tail += size;
+    }
     return d;
 }
 
@@ -87,6 +107,10 @@ uint32_t ollskuvan_check(const uint8_t *record, size_t record_len, uint64_t samp
             branch_sample_type & ~OLLSKUVAN_BRANCH_HW_INDEX, edition);
     if (fault(35) && answer == OLLSKUVAN_REFUSED_BRANCH_TYPE && branch_sample_type >> 19 == 0) /* read in edition 2 */
         answer = OLLSKUVAN_OK;
+    if (fault(37) && answer == OLLSKUVAN_DIRTY_NAME && record[record_len - 1] == 0) /* the last byte alone is looked at */
+        answer = OLLSKUVAN_OK;
+    if (fault(39) && answer == OLLSKUVAN_OK && flag_of(record[0]) && record[record_len - 1] != 0) /* room to the record's end */
+        answer = OLLSKUVAN_DIRTY_NAME;
     return answer;
 }
 
@@ -132,6 +156,8 @@ uint32_t ollskuvan_read(const uint8_t *record, size_t record_len, uint64_t sampl
         answer = OLLSKUVAN_OK;
     if (fault(36) && answer == OLLSKUVAN_OK && fields[OLLSKUVAN_TYPE] == OLLSKUVAN_TYPE_SAMPLE)
         fields[OLLSKUVAN_SAMPLE_HW_INDEX] = 0; /* the index is read and not told */
+    if (fault(40) && answer == OLLSKUVAN_OK && fields[OLLSKUVAN_TYPE] == OLLSKUVAN_TYPE_COMM)
+        fields[OLLSKUVAN_COMM_NAME_FLAG] = 0; /* the flag is dropped on reading */
     return answer;
 }
 
@@ -174,5 +200,15 @@ uint32_t ollskuvan_write(const uint64_t *fields, size_t fields_len, const uint8_
         answer = OLLSKUVAN_REFUSED_ROOM;
     if (fault(24) && answer == OLLSKUVAN_REFUSED_PLACE) /* a place past the source is no refusal of its own */
         answer = OLLSKUVAN_REFUSED_VALUE;
+    if ((fault(41) || fault(42)) && answer == OLLSKUVAN_REFUSED_DIRTY_VALUE) {
+        uint64_t plain[OLLSKUVAN_FIELDS];
+        uint32_t without;
+        memcpy(plain, fields, sizeof plain);
+        plain[flag_of(plain[OLLSKUVAN_TYPE])] = 0;
+        without = reader_write(plain, OLLSKUVAN_FIELDS, source, source_len, sample_type, read_format, sample_id_all,
+            user_mask, interrupt_mask, branch_sample_type, edition, buffer, fault(42) ? buffer_len : 0);
+        if (fault(42) || without == OLLSKUVAN_REFUSED_PLACE) /* the flag is not looked at; 43 after 41 */
+            answer = without;
+    }
     return answer;
 }

@@ -43,7 +43,8 @@ enum {
     FALSE_EDITION = 8, /* the edition plus 256 */
     HIGH_ID_ALL = 16,  /* sample_id_all in the highest byte of its 32 bits */
     AT_START = 32,     /* slices lie against the page before them */
-    TRUE_SIZE = 64     /* record, write: the record's size is made to be its length */
+    TRUE_SIZE = 64,    /* record, write: the record's size is made to be its length */
+    FLAG_KEPT = 128    /* write: a name's flag stays as it was read; else it is taken off before the changes */
 };
 
 /* The independent reader, and ringdump with its main, read and write renamed. */
@@ -229,7 +230,7 @@ static uint32_t check(const uint8_t *record, size_t count)
     }
     is_kept(RECORD, lent, record, count);
     reach(CHECK, type, library);
-    if (library == 0 && in.edition < 4 && type < TYPES)
+    if ((library == 0 || library == OLLSKUVAN_DIRTY_NAME) && in.edition < 4 && type < TYPES)
         accepted[in.edition][type]++;
     return library;
 }
@@ -329,17 +330,47 @@ static uint32_t write_value(const uint64_t *value, size_t words, const uint8_t *
     return library;
 }
 
-/* What was accepted by write, read back: the same numbers. The places of lists may differ. */
+/* The word of a name's flag; 0, which is no such word, for a type that has no name. */
+static unsigned flag_word(uint64_t type)
+{
+    switch (type) {
+    case OLLSKUVAN_TYPE_MMAP: return OLLSKUVAN_MMAP_NAME_FLAG;
+    case OLLSKUVAN_TYPE_COMM: return OLLSKUVAN_COMM_NAME_FLAG;
+    case OLLSKUVAN_TYPE_MMAP2: return OLLSKUVAN_MMAP2_NAME_FLAG;
+    case OLLSKUVAN_TYPE_KSYMBOL: return OLLSKUVAN_KSYMBOL_NAME_FLAG;
+    case OLLSKUVAN_TYPE_CGROUP: return OLLSKUVAN_CGROUP_NAME_FLAG;
+    default: return 0;
+    }
+}
+
+/* What was accepted by write, read back: the same numbers. The places of lists may differ; no flag is set. */
 static void reads_back(size_t size)
 {
     static uint8_t record[LONGEST];
     uint64_t value[FIELDS];
 
     memcpy(record, written, size);
-    if (read_value(record, size, value, FIELDS) != 0 || value[OLLSKUVAN_SIZE] != size) {
+    if (read_value(record, size, value, FIELDS) != 0 || value[OLLSKUVAN_SIZE] != size || check(record, size) != 0) {
         print_hex("record", record, size);
         differs("what was written does not read back");
     }
+}
+
+/* What was read, written again and read back. A value with the flag is 43, and is written once the flag is taken off. */
+static void writes_again(uint64_t *value, size_t count, size_t room)
+{
+    unsigned flag = flag_word(value[OLLSKUVAN_TYPE]);
+
+    if (flag && value[flag]) {
+        if (write_value(value, FIELDS, in.bytes, count, room) != OLLSKUVAN_REFUSED_DIRTY_VALUE)
+            differs("a value with the flag is not refused with 43");
+        value[flag] = 0;
+    }
+    if (write_value(value, FIELDS, in.bytes, count, room) != 0) {
+        print_hex("record", in.bytes, count);
+        differs("a record that was read cannot be written again");
+    }
+    reads_back(count);
 }
 #endif
 
@@ -457,12 +488,13 @@ static size_t some_words(uint8_t choice)
     return lengths[choice % 8];
 }
 
-/* The records of a journal one by one: check and the reader of one record answer the same, accepted ones are read. */
+/* The records of a journal one by one: check, but for 44, and the reader of one record answer the same; accepted ones are
+ * read. */
 static void take_apart(const struct ring *ring, const uint8_t *journal, uint64_t taken)
 {
     static uint8_t record[LONGEST];
     uint64_t i, tail;
-    uint32_t answer;
+    uint32_t answer, whole;
     size_t at, size, k;
 
     for (i = 0; i < taken; i++, journal += 16) {
@@ -476,7 +508,8 @@ static void take_apart(const struct ring *ring, const uint8_t *journal, uint64_t
             continue;
         for (k = 0; k < size; k++)
             record[k] = ring->bytes[(at + k) % ring->length];
-        if (check(record, size) != answer) {
+        whole = check(record, size);
+        if ((whole == OLLSKUVAN_DIRTY_NAME ? OLLSKUVAN_OK : whole) != answer) {
             print_hex("record", record, size);
             differs("check does not answer as the journal does: %" PRIu32, answer);
         }
@@ -651,13 +684,8 @@ static void try_record(void)
 
         if (in.control[11])
             read_value(in.bytes, count, value, some_words(in.control[11]));
-        if (read_value(in.bytes, count, value, FIELDS) == 0) {
-            if (write_value(value, FIELDS, in.bytes, count, room) != 0) {
-                print_hex("record", in.bytes, count);
-                differs("a record that was read cannot be written again");
-            }
-            reads_back(count);
-        }
+        if (read_value(in.bytes, count, value, FIELDS) == 0)
+            writes_again(value, count, room);
     }
 #endif
 }
@@ -686,6 +714,8 @@ static void try_write(void)
         value[OLLSKUVAN_MISC] = in.bytes[4] | (uint64_t)in.bytes[5] << 8;
         value[OLLSKUVAN_SIZE] = in.bytes[6] | (uint64_t)in.bytes[7] << 8;
     }
+    if (!(in.control[1] & FLAG_KEPT) && flag_word(value[OLLSKUVAN_TYPE]))
+        value[flag_word(value[OLLSKUVAN_TYPE])] = 0;
     for (i = 0; i < in.control[12] % 4; i++) {
         const uint8_t *change = in.control + 16 + 10 * i;
         uint64_t number = 0, *word = &value[change[0] % FIELDS];

@@ -146,7 +146,7 @@ fn run_record(lines: &Lines, tally: &mut Tally) -> Result<(), String> {
     expect("the independent reader's answer", record::check(&record, edition, &a), due)?;
     expect("the library's answer", abi::check(&record, &a, edition), due)?;
     drains::compare_check(&record, &a, edition, &mut r, tally)?;
-    if due == 0 {
+    if due == 0 || due == 44 {
         let value = words(lines, u64::from(record::le32(&record, 0)))?;
         let ours = record::read(&record, edition, &a).map_err(|refusal| format!("read answers {refusal}"))?;
         for word in 0..FIELDS {
@@ -154,7 +154,12 @@ fn run_record(lines: &Lines, tally: &mut Tally) -> Result<(), String> {
         }
     }
     if !cfg!(without_values) {
-        let _value = values::compare_read(&record, &a, edition, FIELDS, &mut r, tally)?;
+        let value = values::compare_read(&record, &a, edition, FIELDS, &mut r, tally)?;
+        if due == 44 {
+            let value = value.map_err(|refusal| format!("read answers {refusal} where check answers 44"))?;
+            let (answer, _) = values::compare_write(&value, &record, &a, edition, record.len(), &mut r, tally)?;
+            expect("the writer's answer to a flag", answer, 43)?;
+        }
     }
     Ok(())
 }

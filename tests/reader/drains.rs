@@ -257,7 +257,7 @@ fn record_of_size(r: &mut Random, kind: u32, a: &Attributes, size: usize) -> Vec
 
 pub const MUST: &[(&str, &[u32])] = &[
     ("drain", &[0, 1, 2, 3, 4, 5, 6, 7, 8, 9]),
-    ("check", &[0, 2, 6, 7, 20, 21, 22, 23, 24, 25, 30, 31, 32, 33]),
+    ("check", &[0, 2, 6, 7, 20, 21, 22, 23, 24, 25, 30, 31, 32, 33, 44]),
     ("name copy", &[0, 12, 41]),
 ];
 

@@ -63,6 +63,7 @@ pub fn run() -> bool {
     records(&mut t);
     readings(&mut t);
     hardware_index(&mut t);
+    dirty_names(&mut t);
     program(&mut t);
     values(&mut t);
     println!("examples of documents 01 and 02: {} right, {} wrong", t.passed, t.failed);
@@ -253,6 +254,69 @@ fn hardware_index(t: &mut Tried) {
     t.is("41 by the writer", write(&with_word(value, sample::BRANCHES, 1), 3, index, &mut buffer), 41);
 }
 
+/// M-107: the flag of a name, 44 and 43.
+fn dirty_names(t: &mut Tried) {
+    let e = &Attributes::EMPTY;
+    let id = &Attributes { sample_type: 2, sample_id_all: 1, ..Attributes::EMPTY };
+    // what stands before the name, by type and misc: zeros, so many; then "kiln", its zero and three bytes
+    let named = |kind: u32, misc: u16, before: usize, rest: &[u8], after: &[u8]| {
+        made(kind, misc, &[&vec![0; before][..], b"kiln\0", rest, after].concat())
+    };
+    for (kind, misc, before) in [(1, 0, 32), (3, 0, 8), (10, 0, 64), (10, 0x4000, 64), (17, 0, 16), (19, 0, 8)] {
+        let word = flag_word(u64::from(kind)).unwrap();
+        for (rest, flag) in [(&[0, 0, 0], 0), (&[1, 0, 0], 1), (&[0, 128, 0], 1), (&[0, 0, 1], 1), (&[255, 255, 255], 1)] {
+            let due = if flag == 1 { 44 } else { 0 };
+            let record = named(kind, misc, before, rest, &[]);
+            t.is("44", check(&record, 3, e), due);
+            t.is("flag", read(&record, 3, e).map(|v| v[word]), Ok(flag));
+            // the room ends at the trailer's start: a trailer that is not zero is no stale byte
+            let trailed = named(kind, misc, before, rest, &[9; 8]);
+            t.is("44 before a trailer", check(&trailed, 3, id), due);
+            let (done, _, journal) = drained(256, 0, record.len() as u64, &record, 3, 0);
+            t.is("the drain says 0", (done.taken, done.stop, le16(&journal, 6)), (1, 0, 0));
+            let value = read(&record, 3, e).unwrap();
+            let mut buffer = vec![9; record.len()];
+            t.is("43", writer::write(&value, &record, 3, e, &mut buffer), if flag == 1 { 43 } else { 0 });
+            if flag == 1 {
+                t.is("43: the buffer is unchanged", buffer.clone(), vec![9; record.len()]);
+                t.is("43 before 41", writer::write(&value, &[], 3, e, &mut buffer), 43);
+                t.is("43 before 42", writer::write(&with_word(value, SIZE, 0), &record, 3, e, &mut buffer), 43);
+                t.is("43 before 40", writer::write(&value, &record, 3, e, &mut []), 43);
+                t.is("20 before 43", writer::write(&with_word(value, TYPE, 21), &record, 3, e, &mut buffer), 20);
+                t.is("2 before 43", writer::write(&value, &record, 4, e, &mut buffer), 2);
+                t.is("any word but 0", writer::write(&with_word(value, word, 2), &record, 3, e, &mut buffer), 43);
+                t.is("without the flag", writer::write(&with_word(value, word, 0), &record, 3, e, &mut buffer), 0);
+                t.is("written without stale bytes", buffer, named(kind, misc, before, &[0, 0, 0], &[]));
+            }
+        }
+    }
+    let unknown = &Attributes { sample_type: 1 << 30, sample_id_all: 1, ..Attributes::EMPTY };
+    let dirty = named(3, 0, 8, &[1, 1, 1], &[]);
+    let value = read(&dirty, 1, e).unwrap();
+    t.is("21 before 43", writer::write(&value, &dirty, 3, unknown, &mut [0; 24]), 21);
+    let long = read(&named(10, 0x4000, 64, &[1, 0, 0], &[]), 3, e).unwrap();
+    t.is("23 before 43", writer::write(&long, &dirty, 2, e, &mut [0; 80]), 23);
+    t.is("20 and 33 are no 44", (check(&named(19, 0, 8, &[1, 1, 1], &[]), 2, e), check(&made(3, 0, &[7; 16]), 3, e)), (20, 33));
+    // an empty name, and one whose zero is the room's last byte: nothing comes after it
+    t.is("an empty name", check(&made(3, 0, &[&[7; 8][..], &[0, 0, 0, 0, 0, 0, 0, 1]].concat()), 3, e), 44);
+    t.is("a name to the end", check(&made(3, 0, &[&[7; 8][..], b"kilnmas\0"].concat()), 3, e), 0);
+    // what else is ignored raises no flag: a build id's reserved three and unused bytes, text padding, res
+    let mut build = vec![7; 72];
+    build[32] = 4;
+    build[64..].copy_from_slice(b"kiln\0\0\0\0");
+    t.is("a build id's ignored bytes", check(&made(10, 0x4000, &build), 3, e), 0);
+    let poke = [&words(&[1])[..], &[1, 0, 1, 0], &[7; 4]].concat();
+    t.is("text padding", check(&made(20, 0, &poke), 3, e), 0);
+    t.is("res in a trailer", check(&made(14, 0, &[7; 8]), 3, &Attributes { sample_type: 1 << 7, sample_id_all: 1, ..Attributes::EMPTY }), 0);
+    t.is("res in a SAMPLE", check(&made(9, 0, &[7; 8]), 3, &with(1 << 7)), 0);
+    // a type without a name has no flag: its words are spare
+    let mut lost = [0; FIELDS];
+    (lost[TYPE], lost[SIZE]) = (2, 24);
+    for word in [6, 7, 9, 10, 18] {
+        t.is("42 where there is no name", writer::write(&with_word(lost, word, 1), &[], 3, e, &mut [0; 24]), 42);
+    }
+}
+
 fn program(t: &mut Tried) {
     let mut input = words(&[8, 0, 0, 0, 0, 0]);
     input.extend([1, 0]);
@@ -286,7 +350,7 @@ fn values(t: &mut Tried) {
     t.is("42 size", write(&with_word(value, SIZE, 32), b"-kiln", &mut buffer), 42);
     t.is("42 pid too wide", write(&with_word(value, comm::PID, 1 << 32), b"-kiln", &mut buffer), 42);
     t.is("pid widest", write(&with_word(value, comm::PID, u64::from(u32::MAX)), b"-kiln", &mut buffer), 0);
-    t.is("42 kept word", write(&with_word(value, comm::NAME_FLAG, 1), b"-kiln", &mut buffer), 42);
+    t.is("42 a word that no COMM has", write(&with_word(value, comm::NAME_FLAG + 1, 1), b"-kiln", &mut buffer), 42);
     t.is("20 type as a whole word", write(&with_word(value, TYPE, 3 << 32 | 3), b"-kiln", &mut buffer), 20);
     t.is("42 few words", writer::write(&value[..55], b"-kiln", 3, a, &mut buffer), 42);
     t.is("2 before few words", writer::write(&value[..55], b"-kiln", 9, a, &mut buffer), 2);

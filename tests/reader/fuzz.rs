@@ -34,6 +34,7 @@ const WRITE: u8 = 3;
 const LAID: u8 = 1;
 const PLACE_NEAR: u8 = 4;
 const FALSE_EDITION: u8 = 8;
+const FLAG_KEPT: u8 = 128;
 
 struct Input {
     control: [u8; CONTROL],
@@ -259,7 +260,8 @@ pub fn seeds(rings: &[(String, Vec<u8>)], seed: u64, count: u64) -> Vec<(String,
                 fitting_record(&mut r, edition, &attributes, room)
             })
             .collect();
-        seeds.push((format!("made-{number}"), input(call, LAID, Image { ring, ..image })));
+        let flags = if call == WRITE && r.one_in(4) { LAID | FLAG_KEPT } else { LAID };
+        seeds.push((format!("made-{number}"), input(call, flags, Image { ring, ..image })));
     }
     seeds
 }

@@ -195,7 +195,7 @@ pub fn sound_record(
                     record.push(1 + r.below(255) as u8);
                 }
                 record.push(0);
-                push_ignored(r, &mut record, 7 - length % 8, dirty);
+                push_stale(r, &mut record, 7 - length % 8, dirty);
             }
             Item::Padding => {
                 let bytes = (8 - record.len() % 8) % 8;
@@ -277,6 +277,18 @@ fn push_ignored(r: &mut Random, record: &mut Vec<u8>, bytes: usize, dirty: bool)
     } else {
         record.resize(record.len() + bytes, 0);
     }
+}
+
+/// The bytes after a name's zero: random ones, or one alone that is not zero, with its lowest or its highest bit.
+fn push_stale(r: &mut Random, record: &mut Vec<u8>, bytes: usize, dirty: bool) {
+    if bytes == 0 || !dirty || r.one_in(2) {
+        push_ignored(r, record, bytes, dirty);
+        return;
+    }
+    let from = record.len();
+    record.resize(from + bytes, 0);
+    let any = r.below(bytes as u64) as usize;
+    record[from + r.pick(&[0, any, bytes - 1])] = r.pick(&[1, 0x80]);
 }
 
 pub fn some_misc(r: &mut Random) -> u64 {
@@ -434,12 +446,14 @@ pub fn damage_body(r: &mut Random, record: &mut Vec<u8>, a: &Attributes) {
             let kind = r.pick(&[0, other, 21, 22, 9, 10, 0x1_0001, 65_535, 65_536, u32::MAX]);
             record[0..4].copy_from_slice(&kind.to_le_bytes());
         }
-        // the name, or whatever lies at the end: no zero, or an early one
+        // the name, or whatever lies at the end: no zero, or an early one, or the last byte alone not zero
         5 => {
             let kind = u64::from(record[0]);
             let room = trailer_length(kind, a);
             let end = record.len().saturating_sub(room).max(8);
-            if r.one_in(2) {
+            if r.one_in(3) && end > 8 {
+                record[end - 1] = r.pick(&[1, 0x80]);
+            } else if r.one_in(2) {
                 let from = end.saturating_sub(8 * r.pick(&[1, 1, 2, 8])).max(8);
                 for byte in &mut record[from..end] {
                     *byte |= 1;

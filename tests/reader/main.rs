@@ -218,7 +218,7 @@ fn records_of(image: &ring::Image) -> Result<soak::Records, String> {
 fn rings(folder: &Path) -> Result<(), String> {
     let start = Instant::now();
     let mut total = Tally::default();
-    let mut records = 0;
+    let (mut records, mut dirty) = (0, 0);
     for (name, bytes) in images::images_of(folder)? {
         let image = ring::Image::parse(&bytes).ok_or(format!("{name}: fewer than 50 bytes"))?;
         if image.edition != 3 || image.ring.len() > 16_384 {
@@ -228,7 +228,8 @@ fn rings(folder: &Path) -> Result<(), String> {
         for (tail, record) in records_of(&image).map_err(|e| format!("{name}: {e}"))? {
             let kind = u64::from(record::le32(&record, 0));
             let answer = record::check(&record, 3, &image.attributes);
-            if answer != 0 {
+            dirty += u64::from(answer == 44);
+            if answer != 0 && answer != 44 {
                 return Err(format!("{name}: the record at tail {tail} is refused with {answer}: {}", guard::hex(&record)));
             }
             *kinds.entry(kind).or_default() += 1;
@@ -245,7 +246,7 @@ fn rings(folder: &Path) -> Result<(), String> {
     }
     let done = if cfg!(without_values) { "drained" } else { "drained, read, written again" };
     println!(
-        "rings: {records} records of real rings accepted in edition 3, {done} and compared, {:.1} s",
+        "rings: {records} records of real rings accepted in edition 3, {dirty} with a dirty name, {done} and compared, {:.1} s",
         start.elapsed().as_secs_f64()
     );
     Ok(())
@@ -365,9 +366,11 @@ fn run_values(o: &Options) -> Result<(), String> {
     }
     all_reached(tally.missing(values::MUST, drains::BODY, true), count, 20_000)?;
     println!(
-        "values: seed {}, {count} records, {} written again and read back, {edges} cases at the edges of 40, 41 and 42, no difference, {:.1} s",
+        "values: seed {}, {count} records, {} written again and read back, {} of them with a dirty name, \
+         {edges} cases at the edges of 40 to 43, no difference, {:.1} s",
         o.seed,
         tally.notes.get("records written again and read back").unwrap_or(&0),
+        tally.notes.get("records with a dirty name").unwrap_or(&0),
         start.elapsed().as_secs_f64()
     );
     Ok(())

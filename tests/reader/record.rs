@@ -18,15 +18,31 @@ pub fn number(bytes: &[u8]) -> u64 {
     bytes.iter().rev().fold(0, |sum, b| sum << 8 | u64::from(*b))
 }
 
-/// Record check: one lent slice, edition and attributes.
+/// The flag of a value: M-107's, for the types that have a name.
+pub fn flag(value: &Value) -> u64 {
+    flag_word(value[TYPE]).map_or(0, |word| value[word])
+}
+
+/// The value with its flag not set.
+pub fn unflagged(value: &Value) -> Value {
+    let mut plain = *value;
+    if let Some(word) = flag_word(value[TYPE]) {
+        plain[word] = 0;
+    }
+    plain
+}
+
+/// Record check: one lent slice, edition and attributes. Where the flag is set "record check, and nothing else, answers 44
+/// instead of 0".
 pub fn check(record: &[u8], edition: u32, a: &Attributes) -> u32 {
     match read(record, edition, a) {
+        Ok(value) if flag(&value) != 0 => 44,
         Ok(_) => 0,
         Err(refusal) => refusal,
     }
 }
 
-/// As record check, and the value where that answers 0.
+/// As record check but for 44, and the value where that answers 0 or 44.
 pub fn read(record: &[u8], edition_number: u32, a: &Attributes) -> Result<Value, u32> {
     let e = edition(edition_number).ok_or(2u32)?;
     if record.len() < 8 {
@@ -137,7 +153,7 @@ impl Cursor<'_> {
                 value[count] = bytes as u64;
                 self.bytes(bytes as u128)?;
             }
-            Item::Name { place, count } => {
+            Item::Name { place, count, flag } => {
                 let room = &self.record[self.place..self.end];
                 let zero = room.iter().position(|b| *b == 0).ok_or(33u32)?;
                 if zero + 8 < room.len() {
@@ -145,6 +161,7 @@ impl Cursor<'_> {
                 }
                 value[place] = self.place as u64;
                 value[count] = zero as u64;
+                value[flag] = u64::from(room[zero..].iter().any(|b| *b != 0));
                 self.place = self.end;
             }
             Item::Padding => {

@@ -1,5 +1,5 @@
 //! Document 01 as tables: editions, refusals 20 to 25, and what lies in the body of each type. The hardware index and 25
-//! are document 02's, M-102.
+//! are document 02's, M-102; the flag of a name is its M-107.
 //!
 //! Written from the documents alone. The reader (record.rs), the writer (writer.rs) and the
 //! generator (made.rs) walk the lists of items that are given here.
@@ -152,8 +152,9 @@ pub enum Item {
     BuildId { place: usize, count: usize },
     /// exactly this many bytes
     Fixed { place: usize, count: usize, bytes: usize },
-    /// a name with its zero, up to the fields' end
-    Name { place: usize, count: usize },
+    /// a name with its zero, up to the fields' end; its flag: "whether any byte after the name's zero within its room is
+    /// not zero"
+    Name { place: usize, count: usize, flag: usize },
     /// 0 to 7 bytes up to the fields' end
     Padding,
 }
@@ -174,8 +175,8 @@ fn list(place: usize, count: usize, entry: usize) -> Item {
     Item::List { place, count, entry }
 }
 
-fn name(place: usize, count: usize) -> Item {
-    Item::Name { place, count }
+fn name(place: usize, count: usize, flag: usize) -> Item {
+    Item::Name { place, count, flag }
 }
 
 /// Where the read values go in the words of a READ or a SAMPLE.
@@ -333,10 +334,10 @@ pub fn body(kind: u64, misc: u64, a: &Attributes) -> Vec<Item> {
             n64(mmap::ADDR),
             n64(mmap::LEN),
             n64(mmap::PGOFF),
-            name(mmap::NAME, mmap::NAME_COUNT),
+            name(mmap::NAME, mmap::NAME_COUNT, mmap::NAME_FLAG),
         ],
         2 => vec![n64(lost::ID), n64(lost::LOST)],
-        3 => vec![n32(comm::PID), n32(comm::TID), name(comm::NAME, comm::NAME_COUNT)],
+        3 => vec![n32(comm::PID), n32(comm::TID), name(comm::NAME, comm::NAME_COUNT, comm::NAME_FLAG)],
         4 | 7 => vec![
             n32(exit_fork::PID),
             n32(exit_fork::PPID),
@@ -366,7 +367,8 @@ pub fn body(kind: u64, misc: u64, a: &Attributes) -> Vec<Item> {
             } else {
                 items.extend([n32(mmap2::MAJ), n32(mmap2::MIN), n64(mmap2::INO), n64(mmap2::GENERATION)]);
             }
-            items.extend([n32(mmap2::PROT), n32(mmap2::FLAGS), name(mmap2::NAME, mmap2::NAME_COUNT)]);
+            items.extend([n32(mmap2::PROT), n32(mmap2::FLAGS)]);
+            items.push(name(mmap2::NAME, mmap2::NAME_COUNT, mmap2::NAME_FLAG));
             items
         }
         11 => vec![n64(aux::OFFSET), n64(aux::SIZE), n64(aux::FLAGS)],
@@ -385,7 +387,7 @@ pub fn body(kind: u64, misc: u64, a: &Attributes) -> Vec<Item> {
             n32(ksymbol::LEN),
             n16(ksymbol::KSYM_TYPE),
             n16(ksymbol::FLAGS),
-            name(ksymbol::NAME, ksymbol::NAME_COUNT),
+            name(ksymbol::NAME, ksymbol::NAME_COUNT, ksymbol::NAME_FLAG),
         ],
         18 => vec![
             n16(bpf_event::BPF_TYPE),
@@ -393,7 +395,7 @@ pub fn body(kind: u64, misc: u64, a: &Attributes) -> Vec<Item> {
             n32(bpf_event::ID),
             Item::Fixed { place: bpf_event::TAG, count: bpf_event::TAG_COUNT, bytes: 8 },
         ],
-        19 => vec![n64(cgroup::ID), name(cgroup::NAME, cgroup::NAME_COUNT)],
+        19 => vec![n64(cgroup::ID), name(cgroup::NAME, cgroup::NAME_COUNT, cgroup::NAME_FLAG)],
         20 => vec![
             n64(text_poke::ADDR),
             n16(text_poke::OLD_COUNT),

@@ -114,6 +114,12 @@ impl Tally {
             if self.answers.contains_key(&(call, 10)) {
                 missing.push(format!("{call} answered 10, a number that is never used again"));
             }
+            if call != "check" && self.answers.contains_key(&(call, 44)) {
+                missing.push(format!("{call} answered 44, which record check alone does"));
+            }
+        }
+        if self.records.keys().any(|(_, answer)| *answer == 44) {
+            missing.push("a record was read or drained with 44, which record check alone answers".to_string());
         }
         missing
     }

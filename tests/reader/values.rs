@@ -111,10 +111,36 @@ pub fn compare_write(
     Ok((ours, buffer))
 }
 
-/// A decoded record written again, and read back: demand 2, seen from outside.
+/// A value with the flag set, and with any other number but 0 in the flag's word: 43, whatever room there is and
+/// whether the name lies in the source or not.
+fn refused_with_flag(
+    source: &[u8], value: &Value, a: &Attributes, edition: u32, r: &mut Random, tally: &mut Tally,
+) -> Result<(), Difference> {
+    let word = match flag_word(value[TYPE]) {
+        Some(word) => word,
+        None => return Ok(()),
+    };
+    let mut flagged = *value;
+    flagged[word] = if value[word] != 0 { value[word] } else { r.pick(&[1, 1, 2, 1 << 32, 1 << 63, u64::MAX]) };
+    let room = r.pick(&[0, value[SIZE] as usize, value[SIZE] as usize + 16]);
+    let cut = r.pick(&[0, source.len(), source.len()]);
+    let (answer, _) = compare_write(&flagged, &source[..cut], a, edition, room, r, tally)?;
+    if answer != 43 {
+        return Err(format!("a value with the flag {:#x} is written with {answer}\n  source: {}", flagged[word], hex(source)));
+    }
+    Ok(())
+}
+
+/// A decoded record written again, and read back: demand 2, seen from outside. It speaks of values without the flag; one
+/// with it is refused, and with the flag taken off it is the record without its stale bytes.
 fn written_again(
     record: &[u8], value: &Value, a: &Attributes, edition: u32, r: &mut Random, tally: &mut Tally,
 ) -> Result<(), Difference> {
+    if record::flag(value) != 0 {
+        refused_with_flag(record, value, a, edition, r, tally)?;
+        tally.note("records with a dirty name", 1);
+    }
+    let value = &record::unflagged(value);
     let room = record.len() + r.below(24) as usize;
     let (answer, buffer) = compare_write(value, record, a, edition, room, r, tally)?;
     let again = &buffer[..record.len()];
@@ -182,7 +208,10 @@ pub fn one_case(seed: u64, number: u64, tally: &mut Tally) -> Result<(), Differe
     };
     written_again(&record, &value, &a, edition, &mut r, tally)?;
 
-    let (mut value, mut source) = moved(&mut r, &value, &record, &a);
+    let (mut value, mut source) = moved(&mut r, &record::unflagged(&value), &record, &a);
+    if r.one_in(8) {
+        refused_with_flag(&source, &value, &a, edition, &mut r, tally)?;
+    }
     let (answer, buffer) = compare_write(&value, &source, &a, edition, record.len(), &mut r, tally)?;
     if answer != 0 || buffer != writer::clean(&record, &record::read(&record, edition, &a).unwrap(), &a) {
         return Err(format!("a value with its lists moved: answer {answer}\n  record {}", hex(&record)));
@@ -247,8 +276,9 @@ pub fn one_case(seed: u64, number: u64, tally: &mut Tally) -> Result<(), Differe
     Ok(())
 }
 
-/// The edges of 40, 41 and 42: for every type and edition, each word with its neighbours, the
-/// source cut at each list's end and one before, the buffer one byte short, 55 and 57 words.
+/// The edges of 40, 41, 42 and 43: for every type and edition, each word with its neighbours, the
+/// source cut at each list's end and one before, the buffer one byte short, 55 and 57 words, the
+/// flag's word before and after each of the other refusals.
 pub fn edges(tally: &mut Tally) -> Result<u64, Difference> {
     let mut cases = 0;
     let mut r = Random::new(0xed6e, 1);
@@ -299,7 +329,7 @@ fn edges_of(record: &[u8], a: &Attributes, edition: u32, r: &mut Random, tally: 
         let decoded = compare_read(record, a, edition, length, r, tally)?;
         expect("sound record", decoded.err().unwrap_or(0), 0)?;
     }
-    let value = record::read(record, edition, a).unwrap();
+    let value = record::unflagged(&record::read(record, edition, a).unwrap());
     // Write: 40 for a buffer that is one byte short.
     for (room, due) in [(0, 40), (size - 1, 40), (size, 0), (size + 1, 0)] {
         let (answer, _) = compare_write(&value, record, a, edition, room, r, tally)?;
@@ -334,7 +364,28 @@ fn edges_of(record: &[u8], a: &Attributes, edition: u32, r: &mut Random, tally: 
         at[*place] = size as u64 - bytes;
         compare_write(&at, record, a, edition, size, r, tally)?;
     }
-    // Each word with its neighbours: mostly 42, at times 20 to 25, 40, 41 or 0.
+    // 43 where the flag's word is not 0: after 2, too few words and 20, before 41, 42 and 40. No other type has that word.
+    if let Some(word) = flag_word(value[TYPE]) {
+        for n in [1, 2, 256, 1 << 32, 1 << 63, u64::MAX] {
+            let mut flagged = value;
+            flagged[word] = n;
+            let (answer, _) = compare_write(&flagged, record, a, edition, size, r, tally)?;
+            expect("flag", answer, 43)?;
+            let (answer, _) = compare_write(&flagged, &[], a, edition, 0, r, tally)?;
+            expect("flag before 41 and 40", answer, 43)?;
+            for (other, m, due) in [(SIZE, 12, 43), (55, 1, 43), (MISC, 1 << 16, 43), (TYPE, 21, 20), (TYPE, 1 << 32, 20)] {
+                let mut more = flagged;
+                more[other] = m;
+                let (answer, _) = compare_write(&more, record, a, edition, size, r, tally)?;
+                expect("flag and another fault", answer, due)?;
+            }
+            let (answer, _) = compare_write(&flagged[..55], record, a, edition, size, r, tally)?;
+            expect("flag in too few words", answer, 42)?;
+            let (answer, _) = compare_write(&flagged, record, a, 4, size, r, tally)?;
+            expect("flag and no edition", answer, 2)?;
+        }
+    }
+    // Each word with its neighbours: mostly 42, at times 20 to 25, 40, 41, 43 or 0.
     for word in 0..FIELDS {
         for n in neighbours(value[word]) {
             let mut near = value;
@@ -570,5 +621,5 @@ pub fn real_ring(name: &str, image: &Image, tally: &mut Tally) -> Result<(), Dif
 
 pub const MUST: &[(&str, &[u32])] = &[
     ("read", &[0, 2, 20, 21, 22, 23, 24, 25, 30, 31, 32, 33, 40]),
-    ("write", &[0, 2, 20, 21, 22, 23, 24, 25, 40, 41, 42]),
+    ("write", &[0, 2, 20, 21, 22, 23, 24, 25, 40, 41, 42, 43]),
 ];

@@ -95,6 +95,18 @@ pub fn word_name(kind: u64, word: usize) -> String {
     }
 }
 
+/// The word of a name's flag, for the types that have a name: "MMAP, MMAP2, COMM, KSYMBOL and CGROUP records gain a flag".
+pub fn flag_word(kind: u64) -> Option<usize> {
+    match kind {
+        1 => Some(mmap::NAME_FLAG),
+        3 => Some(comm::NAME_FLAG),
+        10 => Some(mmap2::NAME_FLAG),
+        17 => Some(ksymbol::NAME_FLAG),
+        19 => Some(cgroup::NAME_FLAG),
+        _ => None,
+    }
+}
+
 /// The place words of every list and name a type can have, selected or not.
 pub fn place_words(kind: u64) -> &'static [usize] {
     match kind {

@@ -18,12 +18,12 @@ pub fn listed(item: &Item) -> Option<(usize, usize, usize)> {
         Item::Registers { place, count, .. } => Some((place, count, 8)),
         Item::BuildId { place, count } => Some((place, count, 1)),
         Item::Fixed { place, count, .. } => Some((place, count, 1)),
-        Item::Name { place, count } => Some((place, count, 1)),
+        Item::Name { place, count, .. } => Some((place, count, 1)),
         _ => None,
     }
 }
 
-/// The writer: 2; 42 for too few words; 20 to 25; 41; 42; 40; otherwise the record goes to the start of the buffer.
+/// The writer: 2; 42 for too few words; 20 to 25; 43; 41; 42; 40; otherwise the record goes to the start of the buffer.
 pub fn write(value: &[u64], source: &[u8], edition_number: u32, a: &Attributes, buffer: &mut [u8]) -> u32 {
     let e = match edition(edition_number) {
         Some(e) => e,
@@ -36,6 +36,10 @@ pub fn write(value: &[u64], source: &[u8], edition_number: u32, a: &Attributes, 
     let value: &Value = value[..FIELDS].try_into().unwrap();
     if let Some(refusal) = unknown(value[TYPE], value[MISC], e, a) {
         return refusal;
+    }
+    // "The writer refuses a value with the flag set with 43, after 24 and before 41": any word but 0 is set.
+    if flag(value) != 0 {
+        return 43;
     }
     let items = all_items(value[TYPE], value[MISC], a);
     let passes = |&(place, count, entry): &(usize, usize, usize)| {
@@ -133,7 +137,7 @@ fn push_item(record: &mut Vec<u8>, item: &Item, value: &Value, source: &[u8]) ->
             (value[count] == bytes as u64).then_some(())?;
             record.extend(slice(place, bytes as u64));
         }
-        Item::Name { place, count } => {
+        Item::Name { place, count, .. } => {
             let name = slice(place, value[count]);
             (!name.contains(&0)).then_some(())?;
             record.extend(name);
@@ -146,7 +150,8 @@ fn push_item(record: &mut Vec<u8>, item: &Item, value: &Value, source: &[u8]) ->
 }
 
 /// "Two records are the same if their numbers, counts and the bytes at the places are, wherever
-/// the places lie." Both values must be decoded, or accepted by the writer, under these attributes.
+/// the places lie." A name's flag is one of the numbers. Both values must be decoded, or accepted by
+/// the writer, under these attributes.
 pub fn same(left: &Value, left_bytes: &[u8], right: &Value, right_bytes: &[u8], a: &Attributes) -> bool {
     if left[TYPE] != right[TYPE] || left[MISC] != right[MISC] {
         return false;

@@ -6,6 +6,7 @@
  *   values check            tries the header's sentences; prints what is wrong
  *   values made FOLDER      writes images that hold every record type, for dump
  *   values indexed FOLDER   writes images with a branch sample type
+ *   values dirty FOLDER     writes an image of records with stale bytes after their names
  */
 #include <inttypes.h>
 #include <stdio.h>
@@ -210,30 +211,44 @@ static void check_round_trip(const struct made *made)
             is("read back", type, &ollskuvan_words[i], same_word(made, &ollskuvan_words[i], back), 1);
 }
 
-static bool reads_the_same(const struct made *made)
+/* But for a name's flag, which is told apart. */
+static bool reads_the_same(const struct made *made, bool *flagged)
 {
     uint64_t back[OLLSKUVAN_FIELDS];
+    *flagged = false;
     if (read_made(made, back) != OLLSKUVAN_OK || back[OLLSKUVAN_TYPE] != made->fields[OLLSKUVAN_TYPE])
         return false;
     for (size_t i = 0; i < ollskuvan_words_count; i++) {
         const struct ollskuvan_word *row = &ollskuvan_words[i];
-        if (ollskuvan_word_is_of(row, back[OLLSKUVAN_TYPE]) && !same_word(made, row, back))
+        if (!ollskuvan_word_is_of(row, back[OLLSKUVAN_TYPE]))
+            continue;
+        if (row->form == OLLSKUVAN_FORM_FLAG)
+            *flagged = back[row->word] != 0;
+        else if (!same_word(made, row, back))
             return false;
     }
     return true;
+}
+
+/* How many bytes follow the zero of a name. */
+static uint64_t stale_room(const struct made *made)
+{
+    uint64_t count = 0;
+    for (size_t i = 0; i < ollskuvan_words_count; i++)
+        if (here(made, &ollskuvan_words[i]) && ollskuvan_words[i].form == OLLSKUVAN_FORM_NAME)
+            count += 7 - made->fields[ollskuvan_words[i].count] % 8;
+    return count;
 }
 
 /* How many bytes the header says are ignored. */
 static uint64_t ignored_bytes(const struct made *made)
 {
     const uint64_t *f = made->fields, type = f[OLLSKUVAN_TYPE];
-    uint64_t count = 0;
+    uint64_t count = stale_room(made);
     for (size_t i = 0; i < ollskuvan_words_count; i++) {
         const struct ollskuvan_word *row = &ollskuvan_words[i];
         if (!here(made, row))
             continue;
-        if (row->form == OLLSKUVAN_FORM_NAME)
-            count += 7 - f[row->count] % 8;
         if (row->word == OLLSKUVAN_TRAILER_CPU || (type == OLLSKUVAN_TYPE_SAMPLE && row->word == OLLSKUVAN_SAMPLE_CPU))
             count += 4;
         if (type == OLLSKUVAN_TYPE_MMAP2 && row->word == OLLSKUVAN_MMAP2_BUILD_ID)
@@ -244,21 +259,33 @@ static uint64_t ignored_bytes(const struct made *made)
     return count;
 }
 
-/* A byte is ignored if another one in its place reads as the same value: it was written as 0. */
+static uint32_t check_made(const struct made *made)
+{
+    const struct image *a = &made->image;
+    return ollskuvan_check(record, (size_t)made->fields[OLLSKUVAN_SIZE], a->sample_type, a->read_format,
+        a->sample_id_all, a->user_mask, a->interrupt_mask, a->branch_sample_type, a->edition);
+}
+
+/* A byte is ignored if another one in its place reads as the same value, but for a name's flag: it was written as 0.
+ * Those after a name's zero raise the flag, and no other does; record check says 44 then, and only then. */
 static void check_ignored(const struct made *made)
 {
-    uint64_t type = made->fields[OLLSKUVAN_TYPE], ignored = 0;
+    uint64_t type = made->fields[OLLSKUVAN_TYPE], ignored = 0, raising = 0;
+    bool flagged;
     write_made(made);
     for (size_t i = 0; i < made->fields[OLLSKUVAN_SIZE]; i++) {
         uint8_t before = record[i];
         record[i] ^= 0xff;
-        if (i != 6 && i != 7 && reads_the_same(made)) { /* not the size */
+        if (i != 6 && i != 7 && reads_the_same(made, &flagged)) { /* not the size */
             ignored++;
+            raising += flagged;
             is("an ignored byte as written", type, NULL, before, 0);
+            is("record check of stale bytes", type, NULL, check_made(made), flagged ? OLLSKUVAN_DIRTY_NAME : OLLSKUVAN_OK);
         }
         record[i] = before;
     }
     is("the number of ignored bytes", type, NULL, ignored, ignored_bytes(made));
+    is("the number of bytes that raise the flag", type, NULL, raising, stale_room(made));
 }
 
 /* A selected list has the place where its bytes stand or would stand, which is never before the body. */
@@ -314,6 +341,19 @@ static void check_list(const struct made *made, const struct ollskuvan_word *row
         is("place 0 for an empty list", type, row, write_made(&other), OLLSKUVAN_OK);
 }
 
+/* Any number but 0 is 43, before a place past the source and a buffer too short. */
+static void check_flag(const struct made *made, const struct ollskuvan_word *row)
+{
+    struct made other = *made;
+    uint64_t type = made->fields[OLLSKUVAN_TYPE];
+    other.fields[row->word] = 1;
+    is("a flag", type, row, write_made(&other), OLLSKUVAN_REFUSED_DIRTY_VALUE);
+    is("a flag, and no room", type, row, write_to(&other, record, 0), OLLSKUVAN_REFUSED_DIRTY_VALUE);
+    other.fields[row->word] = some(0) | 1;
+    other.fields[row->word - 2] = SOURCE + 1;
+    is("a flag, and a place past the source", type, row, write_made(&other), OLLSKUVAN_REFUSED_DIRTY_VALUE);
+}
+
 /* Not selected, or kept: 0 alone; but an unselected place is not looked at. */
 static void check_unselected(const struct made *made, const struct ollskuvan_word *row)
 {
@@ -334,6 +374,8 @@ static void check_words(const struct made *made)
             check_unselected(made, row);
         else if (is_list(row))
             check_list(made, row);
+        else if (row->form == OLLSKUVAN_FORM_FLAG)
+            check_flag(made, row);
         else
             check_width(made, row);
     }
@@ -390,9 +432,18 @@ static uint64_t misc_of(uint64_t type, bool second)
     return (second ? OLLSKUVAN_MISC_MMAP_BUILD_ID : OLLSKUVAN_MISC_MMAP_DATA) | (type & 7);
 }
 
-/* Types first to last one after the other, in a ring that starts near its end so that one record crosses it. */
+/* Bytes after the zero of a name, before a trailer: the names of plain values leave three. */
+static void put_stale(const struct made *made)
+{
+    uint64_t end = made->fields[OLLSKUVAN_SIZE] - 8 * ones(made->image.sample_type & OLLSKUVAN_TRAILER_BITS);
+    for (uint64_t i = stale_room(made); i > 0; i--)
+        record[end - i] = (uint8_t)(0x70 + i);
+}
+
+/* Types first to last one after the other, in a ring that starts near its end so that one record crosses it. Of stale
+ * ones those alone that have a name. */
 static void write_image(const char *folder, const char *name, const struct image *a, bool second, uint64_t first,
-    uint64_t last)
+    uint64_t last, bool stale)
 {
     enum { RING = 8192, START = RING - 200 };
     static uint8_t bytes[IMAGE_HEADER_BYTES + RING + IMAGE_BRANCH_BYTES];
@@ -404,8 +455,12 @@ static void write_image(const char *folder, const char *name, const struct image
     memset(bytes, 0, sizeof bytes);
     for (uint64_t type = first; type <= last; type++) {
         fill(&made, type, misc_of(type, second));
+        if (stale && stale_room(&made) == 0)
+            continue;
         made.fields[OLLSKUVAN_SIZE] = size_of(&made);
         is("writing", type, NULL, write_made(&made), OLLSKUVAN_OK);
+        if (stale)
+            put_stale(&made);
         for (size_t i = 0; i < made.fields[OLLSKUVAN_SIZE]; i++, at++)
             bytes[IMAGE_HEADER_BYTES + at % RING] = record[i];
     }
@@ -430,16 +485,16 @@ static void write_images(const char *folder)
 {
     struct image a = { .sample_type = 0x1ffbfff, .read_format = 0xf, .sample_id_all = 1, .user_mask = 0xff0fff,
         .interrupt_mask = 0x1c0, .edition = 3 };
-    write_image(folder, "every-type", &a, true, 1, TYPES);
+    write_image(folder, "every-type", &a, true, 1, TYPES, false);
     a.edition = 1;
-    write_image(folder, "every-type-edition-1", &a, true, 1, TYPES);
+    write_image(folder, "every-type-edition-1", &a, true, 1, TYPES, false);
     a.edition = 2;
     a.sample_id_all = 0;
-    write_image(folder, "every-type-edition-2", &a, true, 1, TYPES);
+    write_image(folder, "every-type-edition-2", &a, true, 1, TYPES, false);
     a.edition = 3;
     a.sample_type = 0x7fff;
     a.read_format = 7;
-    write_image(folder, "every-type-plain", &a, false, 1, TYPES);
+    write_image(folder, "every-type-plain", &a, false, 1, TYPES, false);
 }
 
 /* READ, a SAMPLE with the hardware index, MMAP2: in editions 3 and 2. */
@@ -447,9 +502,16 @@ static void write_indexed(const char *folder)
 {
     struct image a = { .sample_type = OLLSKUVAN_BIT_TIME | OLLSKUVAN_BIT_BRANCHES | OLLSKUVAN_BIT_WEIGHT, .sample_id_all = 1,
         .branch_sample_type = OLLSKUVAN_BRANCH_HW_INDEX | 9, .edition = 3 };
-    write_image(folder, "indexed", &a, false, OLLSKUVAN_TYPE_READ, OLLSKUVAN_TYPE_MMAP2);
+    write_image(folder, "indexed", &a, false, OLLSKUVAN_TYPE_READ, OLLSKUVAN_TYPE_MMAP2, false);
     a.edition = 2;
-    write_image(folder, "indexed-edition-2", &a, false, OLLSKUVAN_TYPE_READ, OLLSKUVAN_TYPE_MMAP2);
+    write_image(folder, "indexed-edition-2", &a, false, OLLSKUVAN_TYPE_READ, OLLSKUVAN_TYPE_MMAP2, false);
+}
+
+/* The five types that have a name, before a trailer. */
+static void write_dirty(const char *folder)
+{
+    struct image a = { .sample_type = OLLSKUVAN_BIT_TIME | OLLSKUVAN_BIT_CPU, .sample_id_all = 1, .edition = 3 };
+    write_image(folder, "dirty-names", &a, true, 1, TYPES, true);
 }
 
 int main(int argc, char **argv)
@@ -460,13 +522,15 @@ int main(int argc, char **argv)
         write_images(argv[2]);
     } else if (argc == 3 && strcmp(argv[1], "indexed") == 0) {
         write_indexed(argv[2]);
+    } else if (argc == 3 && strcmp(argv[1], "dirty") == 0) {
+        write_dirty(argv[2]);
     } else if (argc == 2 && strcmp(argv[1], "check") == 0) {
         for (unsigned round = 0; round < ROUNDS; round++)
             for (uint64_t type = 1; type <= TYPES; type++)
                 check_type(type);
         printf("values: %" PRIu64 " sentences of the header tried, %u wrong\n", tried, wrongs);
     } else {
-        fputs("usage: values check | made FOLDER | indexed FOLDER\n", stderr);
+        fputs("usage: values check | made FOLDER | indexed FOLDER | dirty FOLDER\n", stderr);
         return 2;
     }
     return wrongs == 0 ? 0 : 1;

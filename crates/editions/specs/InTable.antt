@@ -16,14 +16,14 @@ use Rattle.meaning.specs.Bytes.{num, zeroIn, numberAt}
 use Rattle.meaning.specs.Refusals.{refusal, first, orElse}
 use Rattle.meaning.specs.Items.{bytes, span, rule, holds, past, part, settle, refuse, shapeStep, step, walk}
 use Rattle.meaning.specs.Editions.{allowed, known, unknowns, clashes, unreadable, isIn, isUnknown}
-use Rattle.meaning.specs.Records.{Layout, layout, kindOf, miscOf, sizeOf, room, origin, fieldsOf, closed, fieldsAnswer, judge, checkBy, check, writeRecord}
+use Rattle.meaning.specs.Records.{Layout, layout, kindOf, miscOf, sizeOf, room, origin, fieldsOf, closed, fieldsAnswer, judge, checkBy, check, flagOf, recordCheck, writeRecord}
 use Rattle.meaning.specs.Schema.{schema}
-use Rattle.meaning.specs.Values.{bodyWords, slotsTold, anyBeyond, meant, writable, writeBy, writeAnswer}
+use Rattle.meaning.specs.Values.{bodyWords, slotsTold, anyBeyond, meant, flagged, writable, writeBy, writeAnswer}
 use Rattle.meaning.specs.Names.{nameAnswer}
 use Rattle.meaning.specs.Ring.{Asked, goAt, frame}
 use Rattle.laws.specs.Rows.{in-each, in-more, in-cond, first-in, stopped-in}
 use Rattle.laws.specs.Rings.{stopRows, frame-rows}
-use Rattle.editions.specs.Numbers.{fieldNumbers, recordNumbers, checkNumbers, stopNumbers, writeNumbers, nameNumbers}
+use Rattle.editions.specs.Numbers.{fieldNumbers, recordNumbers, checkNumbers, recordCheckNumbers, stopNumbers, writeNumbers, nameNumbers}
 
 -- ---- the fields: by induction over items
 
@@ -117,6 +117,14 @@ check-in rows e a xs =
     refl)
     refl
 
+pub record-check-in : (rows : List Known) (e : ℕ) (a : Attributes) (xs : List ℕ) → isIn (recordCheck rows e a xs) recordCheckNumbers ≡ true
+unfolding recordCheck
+record-check-in rows e a xs =
+    let n : ℕ = cond (eqb (flagOf (layout (known rows e) a) xs) 0) 0 44 in
+    in-cond recordCheckNumbers (eqb (check rows e a xs) 0) n (check rows e a xs)
+    (in-cond recordCheckNumbers (eqb (flagOf (layout (known rows e) a) xs) 0) 0 44 refl refl)
+    (in-more checkNumbers recordCheckNumbers (check rows e a xs) refl (check-in rows e a xs))
+
 pub frame-in : (asked : Asked) (ring : List ℕ) (head tail left journal scratch : ℕ) → isIn (frame asked ring head tail left journal scratch .stop) stopNumbers ≡ true
 frame-in asked ring head tail left journal scratch =
     rw (frame-rows asked ring head tail left journal scratch)
@@ -134,10 +142,13 @@ write-in rows e a src ws space =
     let n1 : ℕ = cond (leb (length (writeRecord lay (meant lay src ws))) space) 0 40 in
     let n2 : ℕ = cond (writable lay src ws) n1 42 in
     let far : Bool = anyBeyond src (schema t misc a) (slotsTold (schema t misc a) (drop bodyWords ws) 0 0) in
-    in-cond writeNumbers (allowed rows e) (orElse (unreadable k a t misc) (cond far 41 n2)) 2
-    (in-cond writeNumbers (eqb (unreadable k a t misc) 0) (cond far 41 n2) (unreadable k a t misc)
+    let n3 : ℕ = cond far 41 n2 in
+    let n4 : ℕ = cond (flagged lay ws) 43 n3 in
+    in-cond writeNumbers (allowed rows e) (orElse (unreadable k a t misc) n4) 2
+    (in-cond writeNumbers (eqb (unreadable k a t misc) 0) n4 (unreadable k a t misc)
+    (in-cond writeNumbers (flagged lay ws) 43 n3 refl
     (in-cond writeNumbers far 41 n2 refl
-    (in-cond writeNumbers (writable lay src ws) n1 42 (in-cond writeNumbers (leb (length (writeRecord lay (meant lay src ws))) space) 0 40 refl refl) refl))
+    (in-cond writeNumbers (writable lay src ws) n1 42 (in-cond writeNumbers (leb (length (writeRecord lay (meant lay src ws))) space) 0 40 refl refl) refl)))
     (first-in writeNumbers (unknowns k t misc a) (first (clashes t a) 0) refl (first-in writeNumbers (clashes t a) 0 refl refl)))
     refl
 

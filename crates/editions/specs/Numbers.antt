@@ -14,13 +14,17 @@ recordNumbers = 0 ∷ 20 ∷ 21 ∷ 22 ∷ 23 ∷ 25 ∷ 24 ∷ 30 ∷ 31 ∷ 32
 abbrev pub checkNumbers : List ℕ
 checkNumbers = 0 ∷ 2 ∷ 6 ∷ 7 ∷ 20 ∷ 21 ∷ 22 ∷ 23 ∷ 25 ∷ 24 ∷ 30 ∷ 31 ∷ 32 ∷ 33 ∷ []
 
+-- record check alone answers 44
+abbrev pub recordCheckNumbers : List ℕ
+recordCheckNumbers = 44 ∷ checkNumbers
+
 -- the rows that stop a reader, in the order checked. 10 was one, and is never used again: M-104
 abbrev pub stopNumbers : List ℕ
 stopNumbers = 1 ∷ 2 ∷ 4 ∷ 5 ∷ 0 ∷ 8 ∷ 9 ∷ 6 ∷ 7 ∷ 3 ∷ []
 
 -- "Writer, in this order: 2; 20 to 24; 41 ..; 42 ..; 40 ..", with M-102's 25 between 23 and 24
 abbrev pub writeNumbers : List ℕ
-writeNumbers = 0 ∷ 2 ∷ 20 ∷ 21 ∷ 22 ∷ 23 ∷ 25 ∷ 24 ∷ 41 ∷ 42 ∷ 40 ∷ []
+writeNumbers = 0 ∷ 2 ∷ 20 ∷ 21 ∷ 22 ∷ 23 ∷ 25 ∷ 24 ∷ 43 ∷ 41 ∷ 42 ∷ 40 ∷ []
 
 -- "Name copy, in this order: 41 ..; 12 .."
 abbrev pub nameNumbers : List ℕ

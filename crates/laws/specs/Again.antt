@@ -44,7 +44,7 @@ pub stepped : (on : Bool) (sh : Shape) (xs : List ℕ) (c : Cursor) → c .why �
 unfolding step
 stepped on sh xs c z = rw (eq-eqb (c .why) 0 z)
 
-span-ends : (sh : Shape) (c : Cursor) (r : ℕ) → ends sh ≡ true → span sh c r ≡ r
+pub span-ends : (sh : Shape) (c : Cursor) (r : ℕ) → ends sh ≡ true → span sh c r ≡ r
 unfolding ends span
 span-ends (Number w) c r e = absurd (apart e)
 span-ends (Ignored k) c r e = absurd (apart e)

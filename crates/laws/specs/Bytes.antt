@@ -1,5 +1,5 @@
 -- Laws of bytes. Assumes nothing.
-use mathlib.Core.Path.{_≡_, refl, ap}
+use mathlib.Core.Path.{_≡_, refl, ap, _∙_}
 use Prim.Native.Nat.{ℕ, zero, suc, _+_, _-_, _*_, _/_, _%_, _^_, _<_, _≤_}
 use native.Mathlib.Nat.{pow-suc, sub-self}
 use native.Mathlib.Omega.{arith}
@@ -7,10 +7,10 @@ use mathlib.Core.Bool.{Bool, true, false, not, _&&_, cond}
 use mathlib.Core.Logic.{_⊎_, inl, inr}
 use mathlib.Core.List.{List, [], _∷_, _++_, append-nil}
 use lib.ListN.{length, take, drop, length-append, length-replicate}
-use lib.Seq.{take-length, take-at, take-all}
+use lib.Seq.{take-length, take-at, drop-at, take-all}
 use lib.Dec.{leb, eqb, ltb}
 use borrow.Author.Tests.{leb-true, leb-false, lt-ltb, ltb-true, not-true}
-use Rattle.meaning.specs.Bytes.{num, spell, zeros, zeroIn, small, nonzero, keep}
+use Rattle.meaning.specs.Bytes.{num, spell, zeros, zeroIn, small, nonzero, allZero, stale, keep}
 use Rattle.meaning.specs.Items.{Con, con}
 
 pub apart : false ≡ true → ⊥
@@ -140,6 +140,19 @@ zero-after [] p f = refl
 zero-after (x ∷ l) p f =
     let s = and-true (not (eqb x 0)) (nonzero l) f in
     rw (not-true (eqb x 0) (s .0)) (ap suc (zero-after l p (s .1)))
+
+pub all-zeros : (a : ℕ) → allZero (zeros a) ≡ true
+unfolding allZero
+all-zeros zero = refl
+all-zeros (suc a) = all-zeros a
+
+-- what is written after a name is not stale
+pub not-stale : (l : List ℕ) (p : ℕ) → nonzero l ≡ true → stale (l ++ zeros (suc p)) ≡ false
+unfolding stale
+not-stale l p f =
+    ap (λ (k : ℕ). not (allZero (drop k (l ++ zeros (suc p))))) (zero-after l p f)
+    ∙ ap (λ (m : List ℕ). not (allZero m)) (drop-at l (zeros (suc p)) (length l) refl)
+    ∙ ap not (all-zeros (suc p))
 
 pub nonzero-before : (ys : List ℕ) → nonzero (take (zeroIn ys) ys) ≡ true
 unfolding zeroIn nonzero

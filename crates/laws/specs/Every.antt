@@ -11,7 +11,7 @@ use Rattle.meaning.specs.declared.Attributes.{Attributes}
 use Rattle.meaning.specs.declared.Item.{Item}
 use Rattle.meaning.specs.Bytes.{small}
 use Rattle.meaning.specs.Writing.{ends, endsLast}
-use Rattle.meaning.specs.Records.{layout, Value, fixedShape, fixed, roomShape, room, checkBy, value, writeRecord, fits, cleanedRecord}
+use Rattle.meaning.specs.Records.{layout, Value, fixedShape, fixed, roomShape, room, checkBy, value, unflagged, writeRecord, fits, cleanedRecord}
 use Rattle.meaning.specs.declared.Known.{Known}
 use Rattle.meaning.specs.Schema.{schemas, trailer}
 use Rattle.laws.specs.Bytes.{and-true}
@@ -57,7 +57,7 @@ none = refl
 six : (b₁ b₂ b₃ b₄ b₅ b₆ : Bool) → Eights (cond b₁ 4 0 + (cond b₁ 4 0 + (cond b₂ 8 0 + (cond b₃ 8 0 + (cond b₄ 8 0 + (cond b₅ 4 0 + (cond b₅ 4 0 + (cond b₆ 8 0 + 0))))))))
 six b₁ b₂ b₃ b₄ b₅ b₆ = two b₁ _ (word b₂ _ (word b₃ _ (word b₄ _ (two b₅ _ (word b₆ _ none)))))
 
-trailer-eights : (kind : ℕ) (a : Attributes) → room (trailer kind a) % 8 ≡ 0
+pub trailer-eights : (kind : ℕ) (a : Attributes) → room (trailer kind a) % 8 ≡ 0
 unfolding room roomShape Eights
 trailer-eights kind a = six (on 1) (on 2) (on 6) (on 9) (on 7) (on 16)
   where
@@ -74,10 +74,10 @@ reads-back k a v f = record-there (layout k a) v (sound k a) f
 
 -- a decoded record written again has the same bytes, the ignored ones as zero
 pub writes-again : (k : Known) (a : Attributes) (xs : List ℕ) → small xs ≡ true → checkBy (layout k a) xs ≡ 0
-    → (fits (layout k a) (value (layout k a) xs) ≡ true) × (writeRecord (layout k a) (value (layout k a) xs) ≡ cleanedRecord (layout k a) xs)
+    → (fits (layout k a) (unflagged (value (layout k a) xs)) ≡ true) × (writeRecord (layout k a) (value (layout k a) xs) ≡ cleanedRecord (layout k a) xs)
 writes-again k a xs s h = record-again (layout k a) xs (sound k a) s h
 
 -- 42
-pub unfit : (k : Known) (a : Attributes) (v : Value)
+pub unfit : (k : Known) (a : Attributes) (v : Value) → v .flag ≡ 0
     → (fits (layout k a) v ≡ false → (xs : List ℕ) → Decodes (layout k a) xs v → ⊥) × (((xs : List ℕ) → Decodes (layout k a) xs v → ⊥) → fits (layout k a) v ≡ false)
-unfit k a v = unfit-iff-none (layout k a) v (sound k a)
+unfit k a v n = unfit-iff-none (layout k a) v (sound k a) n

@@ -2,7 +2,7 @@
 use mathlib.Core.Path.{_≡_, refl, sym, ap, _∙_}
 use Prim.Native.Nat.{ℕ, suc, _+_, _-_, _%_, _^_, _<_}
 use native.Mathlib.Omega.{arith}
-use mathlib.Core.Bool.{true, _&&_, cond}
+use mathlib.Core.Bool.{true, false, _&&_, cond}
 use mathlib.Core.List.{List, [], _++_}
 use lib.ListN.{length, take, length-append, length-replicate}
 use lib.Seq.{length-take-le, take-at}
@@ -11,18 +11,19 @@ use borrow.Author.Tests.{lt-ltb, ltb-true, le-leb, leb-true, eq-eqb, eqb-true}
 use Rattle.meaning.specs.declared.Cursor.{Cursor}
 use Rattle.meaning.specs.declared.Shape.{Shape}
 use Rattle.meaning.specs.declared.Shape.the-variants.{Number, Ignored, Count, Size, Times, Earlier, Registers, Filled, Abi, Limit, Listed, Bytes, Pad, Name}
-use Rattle.meaning.specs.Bytes.{num, spell, zeros, zeroIn, small, nonzero, keep}
+use Rattle.meaning.specs.Bytes.{num, spell, zeros, zeroIn, small, nonzero, stale, keep}
 use Rattle.meaning.specs.Items.{Con, con, bytes, span, rule, holds}
 use Rattle.meaning.specs.Writing.{emit, number, blank, listed, fitShape, kept, ends}
-use Rattle.laws.specs.Bytes.{and-true, true-and, con-of, nil-of, length-spell, num-spell, small-spell, spell-num, num-lt, small-append, small-zeros, small-take, take-length-by, listed-back, keep-all, zero-after, nonzero-before, unbroken}
+use Rattle.laws.specs.Bytes.{and-true, true-and, con-of, nil-of, length-spell, num-spell, small-spell, spell-num, num-lt, small-append, small-zeros, small-take, take-length-by, listed-back, keep-all, zero-after, not-stale, nonzero-before, unbroken}
 
--- an item's bytes, as written, are as many as it takes; they break no rule, and hold what was to be written
+-- an item's bytes, as written, are as many as it takes; they break no rule, hold what was to be written, and nothing stale
 unfoldable pub Wrote : Shape → Cursor → Con → Type 0
 Wrote sh c v =
     (small (emit sh c v) ≡ true)
     × ((r : ℕ) → (ends sh ≡ true → r ≡ length (emit sh c v)) → span sh c r ≡ length (emit sh c v))
     × (rule sh c (emit sh c v) ≡ 0)
     × (holds sh c (emit sh c v) ≡ v)
+    × (ends sh && stale (emit sh c v) ≡ false)
 
 number-nil : (k : ℕ) (v : Con) → number k v ≡ true → (v .num < 256 ^ k) × ([] ≡ v .list)
 unfolding number
@@ -51,23 +52,23 @@ number-is k v h = con-of v _ _ (number-num k v h) (number-nil k v h .1)
 
 pub wrote : (sh : Shape) (c : Cursor) (v : Con) → fitShape sh c v ≡ true → Wrote sh c v
 unfolding Wrote emit span rule holds fitShape ends
-wrote (Number w) c v h = (small-spell _ _, λ r e. sym (length-spell _ _), refl, number-is (bytes w) v h)
-wrote (Ignored k) c v h = (small-zeros k, λ r e. sym (length-replicate k 0), refl, blank-is v h)
-wrote (Count w) c v h = (small-spell _ _, λ r e. sym (length-spell _ _), refl, number-is (bytes w) v h)
+wrote (Number w) c v h = (small-spell _ _, λ r e. sym (length-spell _ _), refl, number-is (bytes w) v h, refl)
+wrote (Ignored k) c v h = (small-zeros k, λ r e. sym (length-replicate k 0), refl, blank-is v h, refl)
+wrote (Count w) c v h = (small-spell _ _, λ r e. sym (length-spell _ _), refl, number-is (bytes w) v h, refl)
 wrote (Size w) c v h =
     let s = and-true (number (bytes w) v) (eqb ((v .num + bytes w) % 8) 0) h in
-    (small-spell _ _, λ r e. sym (length-spell _ _), rw (number-num (bytes w) v (s .0), s .1), number-is (bytes w) v (s .0))
-wrote (Times k) c v h = let s = listed-is _ v h in (s .2, λ r e. sym (s .1), refl, con-of v _ _ (s .0) refl)
-wrote (Earlier k) c v h = let s = listed-is _ v h in (s .2, λ r e. sym (s .1), refl, con-of v _ _ (s .0) refl)
-wrote Registers c v h = let s = listed-is _ v h in (s .2, λ r e. sym (s .1), refl, con-of v _ _ (s .0) refl)
+    (small-spell _ _, λ r e. sym (length-spell _ _), rw (number-num (bytes w) v (s .0), s .1), number-is (bytes w) v (s .0), refl)
+wrote (Times k) c v h = let s = listed-is _ v h in (s .2, λ r e. sym (s .1), refl, con-of v _ _ (s .0) refl, refl)
+wrote (Earlier k) c v h = let s = listed-is _ v h in (s .2, λ r e. sym (s .1), refl, con-of v _ _ (s .0) refl, refl)
+wrote Registers c v h = let s = listed-is _ v h in (s .2, λ r e. sym (s .1), refl, con-of v _ _ (s .0) refl, refl)
 wrote Filled c v h =
     let k : ℕ = cond (eqb (c .n) 0) 0 8 in
     let s = and-true (number k v) (leb (v .num) (c .n)) h in
-    (small-spell _ _, λ r e. sym (length-spell k _), rw (number-num k v (s .0), s .1), number-is k v (s .0))
-wrote (Abi m) c v h = (small-spell _ _, λ r e. sym (length-spell _ _), refl, number-is 8 v h)
+    (small-spell _ _, λ r e. sym (length-spell k _), rw (number-num k v (s .0), s .1), number-is k v (s .0), refl)
+wrote (Abi m) c v h = (small-spell _ _, λ r e. sym (length-spell _ _), refl, number-is 8 v h, refl)
 wrote (Limit k) c v h =
     let s = and-true (number 1 v) (leb (v .num) k) h in
-    (small-spell _ _, λ r e. sym (length-spell _ _), rw (number-num 1 v (s .0), s .1), number-is 1 v (s .0))
+    (small-spell _ _, λ r e. sym (length-spell _ _), rw (number-num 1 v (s .0), s .1), number-is 1 v (s .0), refl)
 wrote (Listed k) c v h =
     let s = listed-is _ v h in
     let a = length-append (v .list) (zeros (k - length (v .list))) in
@@ -76,9 +77,10 @@ wrote (Listed k) c v h =
       λ r e. let q = s .1 in omega (arith, a, z, q),
       refl,
       con-of v _ _ (s .0) (listed-back (c .n) k (v .list) (s .1)),
+      refl,
     )
-wrote (Bytes k) c v h = let s = listed-is _ v h in (s .2, λ r e. sym (s .1), refl, con-of v _ _ (s .0) refl)
-wrote Pad c v h = (small-zeros ((8 - c .at % 8) % 8), λ r e. sym (length-replicate _ 0), refl, blank-is v h)
+wrote (Bytes k) c v h = let s = listed-is _ v h in (s .2, λ r e. sym (s .1), refl, con-of v _ _ (s .0) refl, refl)
+wrote Pad c v h = (small-zeros ((8 - c .at % 8) % 8), λ r e. sym (length-replicate _ 0), refl, blank-is v h, refl)
 wrote Name c v h =
     let s = and-true (eqb (v .num) 0) (small (v .list) && nonzero (v .list)) h in
     let t = and-true (small (v .list)) (nonzero (v .list)) (s .1) in
@@ -93,6 +95,7 @@ wrote Name c v h =
       λ r g. g refl,
       rw (z, lt-ltb (length (v .list)) (length ys) (omega (arith, a, q)), le-leb (length ys) (length (v .list) + 8) (omega (arith, a, q))),
       con-of v _ _ (sym (eqb-true _ _ (s .0))) (ap (λ (m : ℕ). take m ys) z ∙ take-at (v .list) _ _ refl),
+      not-stale (v .list) p (t .1),
     )
 
 -- an item's bytes, as read, can be written, and are written as they were but for the ignored ones

@@ -13,6 +13,7 @@ pub mod Every
 pub mod More
 pub mod Words
 pub mod Told
+pub mod Stale
 pub mod Answer42
 pub mod Exactly
 pub mod Shapes

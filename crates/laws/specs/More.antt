@@ -14,11 +14,11 @@ use Rattle.meaning.specs.declared.Item.{Item}
 use Rattle.meaning.specs.Bytes.{small}
 use Rattle.meaning.specs.Items.{Con}
 use Rattle.meaning.specs.Writing.{emit, next, nexts, fit, write}
-use Rattle.meaning.specs.Records.{Layout, Value, origin, checkBy, value, header, fieldBytes, written, writeRecord, fitsBy, fits, cleanedRecord}
+use Rattle.meaning.specs.Records.{Layout, Value, origin, checkBy, value, unflagged, header, fieldBytes, written, writeRecord, fitsBy, fits, cleanedRecord}
 use Rattle.laws.specs.Bytes.{and-true}
 use Rattle.laws.specs.There.{next-at}
 use Rattle.laws.specs.Answers.{check-zero}
-use Rattle.laws.specs.Whole.{Sound, Decodes, header-length, record-there, record-again}
+use Rattle.laws.specs.Whole.{Sound, Decodes, flag-unwritten, header-length, record-there, record-again}
 
 -- the size that is held is the length, a multiple of 8 and at most 65,528
 pub size-bound : (lay : Layout) (v : Value) → fits lay v ≡ true → (v .size ≡ length (writeRecord lay v)) × (v .size % 8 ≡ 0) × (v .size ≤ 65528)
@@ -26,7 +26,8 @@ unfolding fits fitsBy writeRecord
 size-bound lay v f =
     let is : List Item = lay .body (v .kind) (v .misc) in
     let ts : List Item = lay .trail (v .kind) in
-    let p = and-true (eqb (lay .unknown (v .kind) (v .misc)) 0) _ f in
+    let p₀ = and-true (eqb (lay .unknown (v .kind) (v .misc)) 0) _ f in
+    let p = and-true (eqb (v .flag) 0) _ (p₀ .1) in
     let q = and-true (ltb (v .kind) (256 ^ 4) && (ltb (v .misc) (256 ^ 2) && ltb (v .size) (256 ^ 2))) _ (p .1) in
     let r = and-true (ltb (v .kind) (256 ^ 4)) _ (q .0) in
     let s = and-true (ltb (v .misc) (256 ^ 2)) (ltb (v .size) (256 ^ 2)) (r .1) in
@@ -44,11 +45,11 @@ written-clean lay v sound f =
     sym (record-again lay (writeRecord lay v) sound (d .0) (d .1) .1) ∙ ap (λ (w : Value). writeRecord lay w) (d .2)
 
 pub cleaned-length : (lay : Layout) (xs : List ℕ) → Sound lay → small xs ≡ true → checkBy lay xs ≡ 0 → length (cleanedRecord lay xs) ≡ length xs
-unfolding value
+unfolding value unflagged
 cleaned-length lay xs sound s h =
     let r = record-again lay xs sound s h in
-    let b = size-bound lay (value lay xs) (r .0) in
-    ap length (sym (r .1)) ∙ sym (b .0) ∙ check-zero lay xs h .1
+    let b = size-bound lay (unflagged (value lay xs)) (r .0) in
+    ap length (sym (r .1) ∙ sym (flag-unwritten lay (value lay xs))) ∙ sym (b .0) ∙ check-zero lay xs h .1
 
 -- a writer's cursor counts what it writes: the lengths in `fits` are places of the cursor
 pub nexts-at : (is : List Item) (vs : List Con) (c : Cursor) → nexts is vs c .at ≡ c .at + length (write is vs c)

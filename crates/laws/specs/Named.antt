@@ -5,12 +5,13 @@ use Prim.Native.Nat.{ℕ}
 use lib.ListN.{length}
 use Rattle.meaning.specs.declared.Attributes.{Attributes}
 use Rattle.meaning.specs.Schema.{schemas, trailer}
-use Rattle.meaning.specs.Values.{tell, width}
-use Rattle.meaning.specs.WordNames.{Word, pid, ppid, tid, prot, flags, identifier, wordNames, trailerNames, nameOf}
+use Rattle.meaning.specs.Writing.{ends, named}
+use Rattle.meaning.specs.Values.{tell, width, flagWords, bodyWidth}
+use Rattle.meaning.specs.WordNames.{Word, pid, ppid, tid, prot, flags, nameFlag, identifier, wordNames, trailerNames, nameOf}
 
 -- kept: a row of names that is longer or shorter than the words of its type is refused here
-pub names-wide : (misc : ℕ) (a : Attributes) → map length wordNames ≡ map width (schemas misc a)
-unfolding width tell
+pub names-wide : (misc : ℕ) (a : Attributes) → map length wordNames ≡ map bodyWidth (schemas misc a)
+unfolding width tell flagWords named ends
 names-wide misc a = refl
 
 -- kept: and so is the trailer's
@@ -25,3 +26,8 @@ some-names = refl
 -- an MMAP2's words 14 and 15. kept: the same of these
 pub more-names : map (nameOf 10) (14 ∷ 15 ∷ []) ≡ prot ∷ flags ∷ []
 more-names = refl
+
+-- the flag's word of MMAP, COMM, MMAP2, KSYMBOL and CGROUP, as the header has it. kept: a name's row without it, or with it elsewhere
+pub flag-names : map (λ (w : ℕ × ℕ). nameOf (w .0) (w .1)) ((1, 10) ∷ (3, 7) ∷ (10, 18) ∷ (17, 9) ∷ (19, 6) ∷ [])
+    ≡ nameFlag ∷ nameFlag ∷ nameFlag ∷ nameFlag ∷ nameFlag ∷ []
+flag-names = refl

@@ -3,7 +3,7 @@ use mathlib.Core.Path.{_≡_, refl, sym, ap, ap₂, _∙_}
 use Prim.Native.Nat.{ℕ, _+_}
 use native.Mathlib.Nat.{add-zero}
 use native.Mathlib.Omega.{arith}
-use mathlib.Core.Bool.{Bool, true, false, cond}
+use mathlib.Core.Bool.{Bool, true, false, cond, _&&_, _||_}
 use mathlib.Core.List.{List, [], _∷_, _++_}
 use lib.ListN.{length, take, drop, length-append}
 use lib.Seq.{take-at, drop-at, drop-drop}
@@ -11,9 +11,9 @@ use borrow.Author.Tests.{le-leb, eq-eqb}
 use Rattle.meaning.specs.declared.Cursor.{Cursor}
 use Rattle.meaning.specs.declared.Item.{Item}
 use Rattle.meaning.specs.declared.Shape.{Shape}
-use Rattle.meaning.specs.Bytes.{small}
+use Rattle.meaning.specs.Bytes.{small, stale}
 use Rattle.meaning.specs.Items.{Con, span, holds, past, part, settle, shapeStep, step, walk, content, contents}
-use Rattle.meaning.specs.Writing.{emit, blank, fitShape, next, fit, write, ends, endsLast}
+use Rattle.meaning.specs.Writing.{emit, blank, fitShape, next, fit, write, ends, endsLast, dirty}
 use Rattle.laws.specs.Bytes.{apart, and-true, small-append}
 use Rattle.laws.specs.Items.{Wrote, wrote, blank-is}
 
@@ -22,7 +22,7 @@ item on sh = record { on = on; shape = sh }
 
 -- an item's own bytes stand first in what is left
 shape-one : (sh : Shape) (c : Cursor) (v : Con) (rest R : List ℕ) → fitShape sh c v ≡ true → (ends sh ≡ true → rest ≡ []) → R ≡ emit sh c v ++ rest
-    → (shapeStep sh c R ≡ past sh v (length (emit sh c v)) c) × (holds sh c (part sh c R) ≡ v)
+    → (shapeStep sh c R ≡ past sh v (length (emit sh c v)) c) × (holds sh c (part sh c R) ≡ v) × (ends sh && stale (part sh c R) ≡ false)
 unfolding shapeStep settle part Wrote
 shape-one sh c v rest R f g e =
     let w = wrote sh c v f in
@@ -30,14 +30,15 @@ shape-one sh c v rest R f g e =
     let l : length R ≡ length ys + length rest = ap length e ∙ length-append ys rest in
     let s : span sh c (length R) ≡ length ys = w .1 (length R) (λ t. l ∙ ap (λ (m : List ℕ). length ys + length m) (g t) ∙ add-zero (length ys)) in
     let p : take (span sh c (length R)) R ≡ ys = ap₂ (λ (n : ℕ) (m : List ℕ). take n m) s e ∙ take-at ys rest (length ys) refl in
-    (rw (le-leb (span sh c (length R)) (length R) (omega (arith, s, l)), p, w .2, w .3), rw p (w .3))
+    (rw (le-leb (span sh c (length R)) (length R) (omega (arith, s, l)), p, w .2, w .3), rw p (w .3), rw p (w .4))
 
 one : (on : Bool) (sh : Shape) (c : Cursor) (v : Con) (xs rest : List ℕ) → c .why ≡ 0 → cond on (fitShape sh c v) (blank v) ≡ true
     → (ends sh ≡ true → rest ≡ []) → drop (c .at) xs ≡ cond on (emit sh c v) [] ++ rest
     → (step xs (item on sh) c ≡ next (item on sh) v c) × (content xs (item on sh) c ≡ v)
+    × ((on && ends sh) && stale (part sh c (drop (c .at) xs)) ≡ false)
 unfolding step next content
-one true sh c v xs rest z f g e = let o = shape-one sh c v rest (drop (c .at) xs) f g e in (rw (eq-eqb (c .why) 0 z) (o .0), o .1)
-one false sh c v xs rest z f g e = (rw (eq-eqb (c .why) 0 z), blank-is v f)
+one true sh c v xs rest z f g e = let o = shape-one sh c v rest (drop (c .at) xs) f g e in (rw (eq-eqb (c .why) 0 z) (o .0), o .1, o .2)
+one false sh c v xs rest z f g e = (rw (eq-eqb (c .why) 0 z), blank-is v f, refl)
 
 pub next-why : (on : Bool) (sh : Shape) (v : Con) (c : Cursor) → next (item on sh) v c .why ≡ c .why
 unfolding next past
@@ -59,14 +60,14 @@ last-item i (j ∷ is) vs c h = go (ends (i .shape)) h
     go true g = absurd (apart g)
     go false g = (λ e. absurd (apart e), g)
 
--- nothing is refused, all of it is read, and the contents are those written
+-- nothing is refused, all of it is read, the contents are those written, and no name is dirty
 unfoldable pub There : List Item → List Con → Cursor → List ℕ → Type 0
-There is vs c xs = (walk xs is c .why ≡ 0) × (walk xs is c .at ≡ c .at + length (write is vs c)) × (contents xs is c ≡ vs)
+There is vs c xs = (walk xs is c .why ≡ 0) × (walk xs is c .at ≡ c .at + length (write is vs c)) × (contents xs is c ≡ vs) × (dirty xs is c ≡ false)
 
 pub there : (is : List Item) (vs : List Con) (c : Cursor) (xs : List ℕ) → endsLast is ≡ true → fit is vs c ≡ true → c .why ≡ 0
     → drop (c .at) xs ≡ write is vs c → There is vs c xs
-unfolding There walk contents write fit
-there [] [] c xs l f z d = (z, sym (add-zero (c .at)), refl)
+unfolding There walk contents write fit dirty
+there [] [] c xs l f z d = (z, sym (add-zero (c .at)), refl, refl)
 there [] (v ∷ vs) c xs l f z d = absurd (apart f)
 there (i ∷ is) [] c xs l f z d = absurd (apart f)
 there (i ∷ is) (v ∷ vs) c xs l f z d =
@@ -84,6 +85,7 @@ there (i ∷ is) (v ∷ vs) c xs l f z d =
       ap (λ (b : Cursor). walk xs is b .why) st ∙ r .0,
       ap (λ (b : Cursor). walk xs is b .at) st ∙ r .1 ∙ (let q = length-append ys rest in omega (arith, q, a)),
       ap₂ (λ (x : Con) (y : List Con). x ∷ y) (o .1) (ap (λ (b : Cursor). contents xs is b) st ∙ r .2),
+      ap₂ (λ (x y : Bool). x || y) (o .2) (ap (λ (b : Cursor). dirty xs is b) st ∙ r .3),
     )
 
 -- what is written are bytes

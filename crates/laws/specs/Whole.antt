@@ -2,17 +2,18 @@
 use mathlib.Core.Path.{_≡_, refl, sym, ap, ap₂, _∙_, subst}
 use Prim.Native.Nat.{ℕ, _+_, _-_, _%_, _^_, _<_, _≤_}
 use native.Mathlib.Omega.{arith}
-use mathlib.Core.Bool.{Bool, true, false, _&&_}
-use mathlib.Core.List.{List, _++_, append-assoc}
+use mathlib.Core.Bool.{Bool, true, false, _&&_, _||_, cond}
+use mathlib.Core.List.{List, [], _∷_, _++_, append-assoc}
 use lib.ListN.{length, take, drop, length-append, length-drop}
 use lib.Seq.{length-take-le, take-at, drop-at, take-add, drop-drop}
 use lib.Dec.{eqb, ltb}
 use borrow.Author.Tests.{lt-ltb, ltb-true, eq-eqb, eqb-true}
+use Rattle.meaning.specs.declared.Cursor.{Cursor}
 use Rattle.meaning.specs.declared.Item.{Item}
 use Rattle.meaning.specs.Bytes.{num, spell, small}
-use Rattle.meaning.specs.Items.{Con, walk, contents}
-use Rattle.meaning.specs.Writing.{fit, write, cleaned, endsLast}
-use Rattle.meaning.specs.Records.{Layout, Value, fixed, room, kindOf, miscOf, sizeOf, origin, fieldsOf, fieldsAnswer, checkBy, bodyOf, tailOf, value, header, fieldBytes, written, writeRecord, fitsBy, fits, cleanedBy, cleanedRecord}
+use Rattle.meaning.specs.Items.{Con, step, walk, contents}
+use Rattle.meaning.specs.Writing.{fit, write, cleaned, ends, endsLast, named, dirty}
+use Rattle.meaning.specs.Records.{Layout, Value, fixed, room, kindOf, miscOf, sizeOf, origin, fieldsOf, fieldsAnswer, checkBy, bodyOf, tailOf, flagBy, flagOf, value, unflagged, header, fieldBytes, written, writeRecord, fitsBy, fits, cleanedBy, cleanedRecord}
 use Rattle.laws.specs.Bytes.{apart, and-true, true-and, num-spell, small-spell, spell-num, num-lt, small-append, small-take, small-drop}
 use Rattle.laws.specs.There.{There, there, write-small}
 use Rattle.laws.specs.Again.{Again, again}
@@ -25,13 +26,45 @@ pub record Sound (lay : Layout) : Type 0 where
   pub plain : (kind : ℕ) → fixed (lay .trail kind) ≡ true
   pub whole : (kind : ℕ) → room (lay .trail kind) % 8 ≡ 0
 
+-- a record whose type has no name never has the flag
+or-false : (a b : Bool) → a || b ≡ false → (a ≡ false) × (b ≡ false)
+or-false true b h = absurd (apart (sym h))
+or-false false b h = (refl, h)
+
+no-and : (b : Bool) → b && false ≡ false
+no-and true = refl
+no-and false = refl
+
+pub nameless : (is : List Item) (xs : List ℕ) (c : Cursor) → named is ≡ false → dirty xs is c ≡ false
+unfolding named dirty
+nameless [] xs c h = refl
+nameless (i ∷ is) xs c h =
+    let p = or-false (ends (i .shape)) (named is) h in
+    rw (p .0, no-and (i .on)) (nameless is xs (step xs i c) (p .1))
+
+pub nameless-clean : (lay : Layout) (xs : List ℕ) → named (lay .body (kindOf xs) (miscOf xs)) ≡ false → flagOf lay xs ≡ 0
+unfolding flagOf flagBy
+nameless-clean lay xs h =
+    let t : ℕ = room (lay .trail (kindOf xs)) in
+    ap (λ (b : Bool). cond b 1 0) (nameless (lay .body (kindOf xs) (miscOf xs)) (fieldsOf t xs) (origin 8) h)
+
 -- xs are the bytes of a record that is accepted, and decodes to v
 unfoldable pub Decodes : Layout → List ℕ → Value → Type 0
 Decodes lay xs v = (small xs ≡ true) × (checkBy lay xs ≡ 0) × (value lay xs ≡ v)
 
-value-of : (v : Value) (k m s : ℕ) (b t : List Con) → k ≡ v .kind → m ≡ v .misc → s ≡ v .size → b ≡ v .body → t ≡ v .tail
-    → _≡_ {A = Value} (record { kind = k; misc = m; size = s; body = b; tail = t }) v
-value-of v k m s b t p q r e f = λ j. record { kind = p j; misc = q j; size = r j; body = e j; tail = f j }
+value-of : (v : Value) (k m s : ℕ) (b t : List Con) (g : ℕ) → k ≡ v .kind → m ≡ v .misc → s ≡ v .size → b ≡ v .body → t ≡ v .tail → g ≡ v .flag
+    → _≡_ {A = Value} (record { kind = k; misc = m; size = s; body = b; tail = t; flag = g }) v
+value-of v k m s b t g p q r e f h = λ j. record { kind = p j; misc = q j; size = r j; body = e j; tail = f j; flag = h j }
+
+-- a value that has no flag
+pub no-flag : (v : Value) → v .flag ≡ 0 → unflagged v ≡ v
+unfolding unflagged
+no-flag v h = value-of v _ _ _ _ _ 0 refl refl refl refl refl (sym h)
+
+-- the flag is not written
+pub flag-unwritten : (lay : Layout) (v : Value) → writeRecord lay (unflagged v) ≡ writeRecord lay v
+unfolding unflagged writeRecord written fieldBytes header
+flag-unwritten lay v = refl
 
 -- the header's numbers, in front of anything
 header-kind : (v : Value) (r : List ℕ) → v .kind < 256 ^ 4 → kindOf (header v ++ r) ≡ v .kind
@@ -102,9 +135,10 @@ record Good (is ts : List Item) (v : Value) (xs : List ℕ) : Type 0 where
   answer : fieldsAnswer is (room ts) xs ≡ 0
   body : bodyOf is (room ts) xs ≡ v .body
   tail : tailOf ts xs ≡ v .tail
+  clean : flagBy is (room ts) xs ≡ 0
 
 good : (is ts : List Item) (v : Value) → endsLast is ≡ true → fixed ts ≡ true → fitsBy is ts v ≡ true → Good is ts v (written is ts v)
-unfolding fitsBy written fieldBytes There bodyOf tailOf
+unfolding fitsBy written fieldBytes There bodyOf tailOf flagBy
 good is ts v last plain f =
     let B : List ℕ = write is (v .body) (origin 8) in
     let F : List ℕ = header v ++ B in
@@ -139,11 +173,12 @@ good is ts v last plain f =
           (ap (λ (m : List ℕ). walk m is (origin 8) .at) eF ∙ a);
       body = ap (λ (m : List ℕ). contents m is (origin 8)) eF ∙ tb .2;
       tail = ap (λ (k : ℕ). contents xs ts (origin k)) n ∙ tt .2;
+      clean = ap (λ (m : List ℕ). cond (dirty m is (origin 8)) 1 0) eF ∙ ap (λ (b : Bool). cond b 1 0) (tb .3);
     }
 
 -- a record's bytes, read and written again
 abbrev valueBy : List Item → List Item → List ℕ → Value
-valueBy is ts xs = record { kind = kindOf xs; misc = miscOf xs; size = sizeOf xs; body = bodyOf is (room ts) xs; tail = tailOf ts xs }
+valueBy is ts xs = record { kind = kindOf xs; misc = miscOf xs; size = sizeOf xs; body = bodyOf is (room ts) xs; tail = tailOf ts xs; flag = 0 }
 
 renewed : (is ts : List Item) (xs : List ℕ) → fixed ts ≡ true → room ts % 8 ≡ 0 → small xs ≡ true → sizeOf xs ≡ length xs → sizeOf xs % 8 ≡ 0
     → fieldsAnswer is (room ts) xs ≡ 0 → (fitsBy is ts (valueBy is ts xs) ≡ true) × (written is ts (valueBy is ts xs) ≡ cleanedBy is ts xs)
@@ -180,41 +215,44 @@ renewed is ts xs plain whole s e m fa =
 
 -- the writer's bytes read back as the same record
 pub record-there : (lay : Layout) (v : Value) → Sound lay → fits lay v ≡ true → Decodes lay (writeRecord lay v) v
-unfolding Decodes fits writeRecord value
+unfolding Decodes fits writeRecord value flagOf
 record-there lay v sound f =
     let is : List Item = lay .body (v .kind) (v .misc) in
     let ts : List Item = lay .trail (v .kind) in
     let xs : List ℕ = written is ts v in
-    let p = and-true (eqb (lay .unknown (v .kind) (v .misc)) 0) (fitsBy is ts v) f in
-    let g = good is ts v (sound .last (v .kind) (v .misc)) (sound .plain (v .kind)) (p .1) in
+    let p = and-true (eqb (lay .unknown (v .kind) (v .misc)) 0) (eqb (v .flag) 0 && fitsBy is ts v) f in
+    let p₁ = and-true (eqb (v .flag) 0) (fitsBy is ts v) (p .1) in
+    let g = good is ts v (sound .last (v .kind) (v .misc)) (sound .plain (v .kind)) (p₁ .1) in
     let u : lay .unknown (kindOf xs) (miscOf xs) ≡ 0 = ap₂ (λ (k m : ℕ). lay .unknown k m) (g .kind) (g .misc) ∙ eqb-true _ _ (p .0) in
     let ei : lay .body (kindOf xs) (miscOf xs) ≡ is = ap₂ (λ (k m : ℕ). lay .body k m) (g .kind) (g .misc) in
     let et : lay .trail (kindOf xs) ≡ ts = ap (λ (k : ℕ). lay .trail k) (g .kind) in (
       g .bytes,
       check-pass lay xs (g .least) (g .size ∙ g .true-size) (ap (λ (n : ℕ). n % 8) (g .size) ∙ g .eights) u
           (ap₂ (λ (a b : List Item). fieldsAnswer a (room b) xs) ei et ∙ g .answer),
-      value-of v _ _ _ _ _ (g .kind) (g .misc) (g .size) (ap₂ (λ (a b : List Item). bodyOf a (room b) xs) ei et ∙ g .body) (ap (λ (b : List Item). tailOf b xs) et ∙ g .tail),
+      value-of v _ _ _ _ _ _ (g .kind) (g .misc) (g .size) (ap₂ (λ (a b : List Item). bodyOf a (room b) xs) ei et ∙ g .body) (ap (λ (b : List Item). tailOf b xs) et ∙ g .tail)
+          (ap₂ (λ (a b : List Item). flagBy a (room b) xs) ei et ∙ g .clean ∙ sym (eqb-true _ _ (p₁ .0))),
     )
 
--- a record that was accepted has a value that can be written, and written again it has the same bytes, the ignored ones as zero
+-- a record that was accepted has a value that, without the flag, can be written; and written again it has the same bytes, the ignored ones as zero
 pub record-again : (lay : Layout) (xs : List ℕ) → Sound lay → small xs ≡ true → checkBy lay xs ≡ 0
-    → (fits lay (value lay xs) ≡ true) × (writeRecord lay (value lay xs) ≡ cleanedRecord lay xs)
-unfolding fits writeRecord value cleanedRecord
+    → (fits lay (unflagged (value lay xs)) ≡ true) × (writeRecord lay (value lay xs) ≡ cleanedRecord lay xs)
+unfolding fits unflagged writeRecord written fieldBytes header value cleanedRecord
 record-again lay xs sound s h =
     let z = check-zero lay xs h in
     let r = renewed (lay .body (kindOf xs) (miscOf xs)) (lay .trail (kindOf xs)) xs (sound .plain (kindOf xs)) (sound .whole (kindOf xs)) s (z .1) (z .2) (z .4) in
     (true-and _ _ (eq-eqb _ _ (z .3)) (r .0), r .1)
 
--- a value that a record decodes to fits
-pub decoded-fits : (lay : Layout) (v : Value) (xs : List ℕ) → Sound lay → Decodes lay xs v → fits lay v ≡ true
+-- a value without the flag that a record decodes to fits
+pub decoded-fits : (lay : Layout) (v : Value) (xs : List ℕ) → Sound lay → v .flag ≡ 0 → Decodes lay xs v → fits lay v ≡ true
 unfolding Decodes
-decoded-fits lay v xs sound d = ap (λ (w : Value). fits lay w) (sym (d .2)) ∙ record-again lay xs sound (d .0) (d .1) .0
+decoded-fits lay v xs sound n d =
+    ap (λ (w : Value). fits lay w) (sym (no-flag v n) ∙ ap unflagged (sym (d .2))) ∙ record-again lay xs sound (d .0) (d .1) .0
 
--- 42: a value does not fit exactly when no record decodes to it
-pub unfit-iff-none : (lay : Layout) (v : Value) → Sound lay
+-- 42: a value without the flag does not fit exactly when no record decodes to it
+pub unfit-iff-none : (lay : Layout) (v : Value) → Sound lay → v .flag ≡ 0
     → (fits lay v ≡ false → (xs : List ℕ) → Decodes lay xs v → ⊥) × (((xs : List ℕ) → Decodes lay xs v → ⊥) → fits lay v ≡ false)
-unfit-iff-none lay v sound = (
-  λ f xs d. apart (sym f ∙ decoded-fits lay v xs sound d),
+unfit-iff-none lay v sound n = (
+  λ f xs d. apart (sym f ∙ decoded-fits lay v xs sound n d),
   λ none. go (fits lay v) refl none,
 )
   where

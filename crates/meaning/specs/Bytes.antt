@@ -50,6 +50,10 @@ unfoldable pub allZero : List ℕ → Bool
 allZero [] = true
 allZero (x ∷ xs) = eqb x 0 && allZero xs
 
+-- a name's room: is a byte after its zero not zero?
+unfoldable pub stale : List ℕ → Bool
+stale ys = not (allZero (drop (zeroIn ys) ys))
+
 -- the first j bytes as they are, the others as zero
 unfoldable pub keep : ℕ → List ℕ → List ℕ
 keep j ys = take j ys ++ zeros (length ys - j)

@@ -14,7 +14,7 @@ use Rattle.meaning.specs.declared.Shape.the-variants.{Number, Ignored, C
 use Rattle.meaning.specs.Bytes.{num, spell}
 use Rattle.meaning.specs.Refusals.{orElse}
 use Rattle.meaning.specs.Items.{Con, cursor, bytes, walk, contents}
-use Rattle.meaning.specs.Writing.{fit, write, cleaned}
+use Rattle.meaning.specs.Writing.{fit, write, cleaned, dirty}
 use Rattle.meaning.specs.Schema.{schema, trailer}
 use Rattle.meaning.specs.Editions.{unreadable, known, allowed}
 
@@ -119,26 +119,35 @@ checkBy lay xs =
 unfoldable pub check : List Known → ℕ → Attributes → List ℕ → ℕ
 check rows e a xs = cond (allowed rows e) (checkBy (layout (known rows e) a) xs) 2
 
--- "Record check takes one lent slice, edition and attributes": what is exported under that name. An answer that is record check's alone (M-107's
--- 44) is a row of this definition, and of no reader
-abbrev pub recordCheck : List Known → ℕ → Attributes → List ℕ → ℕ
-recordCheck rows e a xs = check rows e a xs
-
 -- ---- what it decodes to
 
--- the meaning of a record: its header, and the contents of its items
+-- the meaning of a record: its header, the contents of its items, and the flag: 1 where stale bytes stand after a name's zero, else 0
 pub record Value : Type 0 where
   pub kind : ℕ
   pub misc : ℕ
   pub size : ℕ
   pub body : List Con
   pub tail : List Con
+  pub flag : ℕ
 
 unfoldable pub bodyOf : List Item → ℕ → List ℕ → List Con
 bodyOf is t xs = contents (fieldsOf t xs) is (origin 8)
 
 unfoldable pub tailOf : List Item → List ℕ → List Con
 tailOf ts xs = contents xs ts (origin (length xs - room ts))
+
+-- "MMAP, MMAP2, COMM, KSYMBOL and CGROUP records gain a flag" (M-107): 1 or 0; t are the trailer's bytes, before which a name's room ends. Like
+-- the fields it takes no edition
+unfoldable pub flagBy : List Item → ℕ → List ℕ → ℕ
+flagBy is t xs = cond (dirty (fieldsOf t xs) is (origin 8)) 1 0
+
+unfoldable pub flagOf : Layout → List ℕ → ℕ
+flagOf lay xs = flagBy (lay .body (kindOf xs) (miscOf xs)) (room (lay .trail (kindOf xs))) xs
+
+-- "Record check takes one lent slice, edition and attributes": what is exported under that name. "Where [the flag] is set, record check, and
+-- nothing else, answers 44 instead of 0" (M-107): a row of this definition, and of no reader
+unfoldable pub recordCheck : List Known → ℕ → Attributes → List ℕ → ℕ
+recordCheck rows e a xs = orElse (check rows e a xs) (cond (eqb (flagOf (layout (known rows e) a) xs) 0) 0 44)
 
 unfoldable pub value : Layout → List ℕ → Value
 value lay xs = record {
@@ -147,7 +156,12 @@ value lay xs = record {
   size = sizeOf xs;
   body = bodyOf (lay .body (kindOf xs) (miscOf xs)) (room (lay .trail (kindOf xs))) xs;
   tail = tailOf (lay .trail (kindOf xs)) xs;
+  flag = flagOf lay xs;
 }
+
+-- the same without the flag: what a writer can be asked for
+unfoldable pub unflagged : Value → Value
+unflagged v = record { kind = v .kind; misc = v .misc; size = v .size; body = v .body; tail = v .tail; flag = 0 }
 
 -- ---- what writes it
 
@@ -170,8 +184,9 @@ fitsBy is ts v =
     && ((fit is (v .body) (origin 8) && fit ts (v .tail) (origin (length (fieldBytes is v))))
     && (eqb (v .size) (length (written is ts v)) && eqb (v .size % 8) 0))
 
+-- what is written never has the flag, so a value with it cannot be written
 unfoldable pub fits : Layout → Value → Bool
-fits lay v = eqb (lay .unknown (v .kind) (v .misc)) 0 && fitsBy (lay .body (v .kind) (v .misc)) (lay .trail (v .kind)) v
+fits lay v = eqb (lay .unknown (v .kind) (v .misc)) 0 && (eqb (v .flag) 0 && fitsBy (lay .body (v .kind) (v .misc)) (lay .trail (v .kind)) v)
 
 -- a record's bytes, the ignored ones as zero
 unfoldable pub cleanedBy : List Item → List Item → List ℕ → List ℕ

@@ -2,7 +2,7 @@
 -- records are the same if their numbers, counts and the bytes at the places are, wherever the places lie."
 -- Assumes nothing: these are definitions.
 use Prim.Native.Nat.{ℕ, _+_, _-_, _*_}
-use mathlib.Core.Bool.{Bool, true, false, cond, _&&_, _||_}
+use mathlib.Core.Bool.{Bool, true, false, not, cond, _&&_, _||_}
 use mathlib.Core.List.{List, [], _∷_, _++_}
 use lib.ListN.{length, take, drop, getD}
 use lib.Dec.{leb, eqb, ltb}
@@ -16,8 +16,9 @@ use Rattle.meaning.specs.declared.Shape.the-variants.{Number, Ignored, C
 use Rattle.meaning.specs.Bytes.{num, zeros, zeroIn, allZero, put}
 use Rattle.meaning.specs.Refusals.{orElse}
 use Rattle.meaning.specs.Items.{Con, con, part, step}
+use Rattle.meaning.specs.Writing.{named}
 use Rattle.meaning.specs.Editions.{known, allowed}
-use Rattle.meaning.specs.Records.{Layout, layout, Value, kindOf, miscOf, sizeOf, room, origin, fieldsOf, check, fits, writeRecord}
+use Rattle.meaning.specs.Records.{Layout, layout, Value, kindOf, miscOf, sizeOf, room, origin, fieldsOf, flagBy, check, fits, writeRecord}
 
 -- what is held of an item: its number; of a list or a name the place and the count, in elements
 pub record Slot : Type 0 where
@@ -147,18 +148,28 @@ trailWords = 48
 abbrev pub valueWords : ℕ
 valueWords = 56
 
--- the words of a record that decodes: type, misc, size; the body's from 3 on; the trailer's from 48 on; every other word is 0
+-- the flag's word is the next after those of the fields
+unfoldable pub flagWords : List Item → ℕ → List ℕ
+flagWords is f = cond (named is) (f ∷ []) []
+
+unfoldable pub flagTold : List Item → List ℕ → ℕ
+flagTold is ws = cond (named is) (getD ws (bodyWords + width is) 0) 0
+
+abbrev pub bodyWidth : List Item → ℕ
+bodyWidth is = width is + length (flagWords is 0)
+
+-- the words of a record that decodes: type, misc, size; the body's from 3 on; then, where the type has a name, the flag; the trailer's from 48 on; every other word is 0
 unfoldable pub wordsBy : List Item → List Item → List ℕ → List ℕ
 wordsBy is ts xs =
     put
-    (put (kindOf xs ∷ miscOf xs ∷ sizeOf xs ∷ zeros 53) bodyWords (words (fieldsOf (room ts) xs) is (origin 8)))
+    (put (kindOf xs ∷ miscOf xs ∷ sizeOf xs ∷ zeros 53) bodyWords (words (fieldsOf (room ts) xs) is (origin 8) ++ flagWords is (flagBy is (room ts) xs)))
     trailWords
     (words xs ts (origin (length xs - room ts)))
 
 unfoldable pub recordWords : Layout → List ℕ → List ℕ
 recordWords lay xs = wordsBy (lay .body (kindOf xs) (miscOf xs)) (lay .trail (kindOf xs)) xs
 
--- the reader of a record's bytes: record check, and where it is 0 the words; refused: no value, zero throughout
+-- the reader of a record's bytes: its answer, and where it is 0 the words; refused: no value, zero throughout
 unfoldable pub readAnswered : ℕ → List ℕ → Reading
 readAnswered answer ws = record { answer = answer; words = cond (eqb answer 0) ws (zeros valueWords) }
 
@@ -233,16 +244,21 @@ meant lay src ws = record {
   size = getD ws 2 0;
   body = means src (lay .body (getD ws 0 0) (getD ws 1 0)) (slotsTold (lay .body (getD ws 0 0) (getD ws 1 0)) (drop bodyWords ws) 0 0);
   tail = means src (lay .trail (getD ws 0 0)) (slotsTold (lay .trail (getD ws 0 0)) (drop trailWords ws) 0 0);
+  flag = flagTold (lay .body (getD ws 0 0) (getD ws 1 0)) ws;
 }
 
--- the words that no item of the type has: they are zero in every value that is read
+-- the words that the type does not have: they are zero in every value that is read
 unfoldable pub spareBy : List Item → List Item → List ℕ → List ℕ
-spareBy is ts ws = drop (bodyWords + width is) (take trailWords ws) ++ drop (trailWords + width ts) (take valueWords ws)
+spareBy is ts ws = drop (bodyWords + bodyWidth is) (take trailWords ws) ++ drop (trailWords + width ts) (take valueWords ws)
 
 unfoldable pub spare : Layout → List ℕ → List ℕ
 spare lay ws = spareBy (lay .body (getD ws 0 0) (getD ws 1 0)) (lay .trail (getD ws 0 0)) ws
 
--- ---- the writer: "2; 20 to 24; 41; 42; 40", with M-102's 25 after 23 and before 24
+-- ---- the writer: "2; 20 to 24; 43; 41; 42; 40", with M-102's 25 after 23 and before 24
+
+-- "The writer refuses a value with the flag set with 43": the flag's word, where the type has a name
+unfoldable pub flagged : Layout → List ℕ → Bool
+flagged lay ws = not (eqb (flagTold (lay .body (getD ws 0 0) (getD ws 1 0)) ws) 0)
 
 -- 42 is decided by a test over the items; that it says exactly "no record decodes to the same numbers and listed bytes" is a theorem
 unfoldable pub writable : Layout → List ℕ → List ℕ → Bool
@@ -251,13 +267,14 @@ writable lay src ws = allZero (spare lay ws) && fits lay (meant lay src ws)
 unfoldable pub writeBy : Layout → List ℕ → List ℕ → ℕ → ℕ
 writeBy lay src ws space =
     orElse (lay .unknown (getD ws 0 0) (getD ws 1 0))
+    (cond (flagged lay ws) 43
     (cond
     (anyBeyond
     src
     (lay .body (getD ws 0 0) (getD ws 1 0))
     (slotsTold (lay .body (getD ws 0 0) (getD ws 1 0)) (drop bodyWords ws) 0 0))
     41
-    (cond (writable lay src ws) (cond (leb (length (writeRecord lay (meant lay src ws))) space) 0 40) 42))
+    (cond (writable lay src ws) (cond (leb (length (writeRecord lay (meant lay src ws))) space) 0 40) 42)))
 
 -- the answer, of words, a source and a room in bytes
 unfoldable pub writeAnswer : List Known → ℕ → Attributes → List ℕ → List ℕ → ℕ → ℕ

@@ -11,7 +11,7 @@ use Rattle.meaning.specs.Values.{bodyWords, trailWords}
 
 pub data Word : Type 0 where
   type misc size : Word
-  pid tid ppid ptid time addr len pgoff name nameCount : Word
+  pid tid ppid ptid time addr len pgoff name nameCount nameFlag : Word
   id lost streamId identifier cpu ip period : Word
   value valuesCount enabled running keptLost values : Word
   callchainCount callchain rawSize raw branchesCount hardwareIndex branches : Word
@@ -43,29 +43,29 @@ sampleNames =
     ++ ((weight ∷ dataSource ∷ transaction ∷ interruptAbi ∷ interruptRegisters ∷ interruptRegistersCount ∷ [])
     ++ (physicalAddress ∷ cgroup ∷ dataPageSize ∷ codePageSize ∷ auxSize ∷ aux ∷ [])))))
 
--- by type, from 0 on, which has none
+-- by type, from 0 on, which has none. "MMAP, MMAP2, COMM, KSYMBOL and CGROUP records gain a flag" (M-107): the word after the name's count
 abbrev pub wordNames : List (List Word)
 wordNames =
     []
-    ∷ (pid ∷ tid ∷ addr ∷ len ∷ pgoff ∷ name ∷ nameCount ∷ [])  -- 1 MMAP: "pid, tid u32; addr, len, pgoff u64; name"
+    ∷ (pid ∷ tid ∷ addr ∷ len ∷ pgoff ∷ name ∷ nameCount ∷ nameFlag ∷ [])  -- 1 MMAP: "pid, tid u32; addr, len, pgoff u64; name"
     ∷ (id ∷ lost ∷ [])  -- 2 LOST: "id, lost u64"
-    ∷ (pid ∷ tid ∷ name ∷ nameCount ∷ [])  -- 3 COMM: "pid, tid u32; name"
+    ∷ (pid ∷ tid ∷ name ∷ nameCount ∷ nameFlag ∷ [])  -- 3 COMM: "pid, tid u32; name"
     ∷ (pid ∷ ppid ∷ tid ∷ ptid ∷ time ∷ [])  -- 4 EXIT: "pid, ppid, tid, ptid u32; time u64"
     ∷ (time ∷ id ∷ streamId ∷ [])  -- 5 THROTTLE: "time, id, stream id u64"
     ∷ (time ∷ id ∷ streamId ∷ [])  -- 6 UNTHROTTLE
     ∷ (pid ∷ ppid ∷ tid ∷ ptid ∷ time ∷ [])  -- 7 FORK
     ∷ (pid ∷ tid ∷ readNames)  -- 8 READ: "pid, tid u32; read values"
     ∷ sampleNames  -- 9 SAMPLE
-    ∷ (pid ∷ tid ∷ addr ∷ len ∷ pgoff ∷ maj ∷ min ∷ ino ∷ generation ∷ buildIdSize ∷ buildId ∷ prot ∷ flags ∷ name ∷ nameCount ∷ [])  -- 10 MMAP2
+    ∷ (pid ∷ tid ∷ addr ∷ len ∷ pgoff ∷ maj ∷ min ∷ ino ∷ generation ∷ buildIdSize ∷ buildId ∷ prot ∷ flags ∷ name ∷ nameCount ∷ nameFlag ∷ [])  -- 10 MMAP2
     ∷ (offset ∷ size ∷ flags ∷ [])  -- 11 AUX: "offset, size, flags u64"
     ∷ (pid ∷ tid ∷ [])  -- 12 ITRACE_START: "pid, tid u32"
     ∷ (lost ∷ [])  -- 13 LOST_SAMPLES: "lost u64"
     ∷ []  -- 14 SWITCH: "nothing"
     ∷ (pid ∷ tid ∷ [])  -- 15 SWITCH_CPU_WIDE: "pid, tid u32"
     ∷ (pid ∷ tid ∷ namespacesCount ∷ namespaces ∷ [])  -- 16 NAMESPACES: "pid, tid u32; n u64; n times dev, inode u64"
-    ∷ (addr ∷ len ∷ kind ∷ flags ∷ name ∷ nameCount ∷ [])  -- 17 KSYMBOL: "addr u64; len u32; type, flags u16; name"
+    ∷ (addr ∷ len ∷ kind ∷ flags ∷ name ∷ nameCount ∷ nameFlag ∷ [])  -- 17 KSYMBOL: "addr u64; len u32; type, flags u16; name"
     ∷ (kind ∷ flags ∷ id ∷ tag ∷ tagCount ∷ [])  -- 18 BPF_EVENT: "type, flags u16; id u32; 8 bytes"
-    ∷ (id ∷ name ∷ nameCount ∷ [])  -- 19 CGROUP: "id u64; name"
+    ∷ (id ∷ name ∷ nameCount ∷ nameFlag ∷ [])  -- 19 CGROUP: "id u64; name"
     ∷ (addr ∷ oldLength ∷ newLength ∷ oldText ∷ newText ∷ [])  -- 20 TEXT_POKE: "addr u64; old, new length u16; both texts; .. padding"
     ∷ []
 

@@ -2,7 +2,7 @@
 -- reserved three and the unused build id bytes", written as zero.
 -- Assumes nothing: these are definitions.
 use Prim.Native.Nat.{ℕ, _+_, _-_, _*_, _%_, _^_}
-use mathlib.Core.Bool.{Bool, true, false, cond, _&&_}
+use mathlib.Core.Bool.{Bool, true, false, cond, _&&_, _||_}
 use mathlib.Core.List.{List, [], _∷_, _++_}
 use lib.ListN.{length, drop}
 use lib.Dec.{leb, eqb, ltb}
@@ -10,7 +10,7 @@ use Rattle.meaning.specs.declared.Cursor.{Cursor}
 use Rattle.meaning.specs.declared.Item.{Item}
 use Rattle.meaning.specs.declared.Shape.{Shape}
 use Rattle.meaning.specs.declared.Shape.the-variants.{Number, Ignored, Count, Size, Times, Earlier, Registers, Filled, Abi, Limit, Listed, Bytes, Pad, Name}
-use Rattle.meaning.specs.Bytes.{num, spell, zeros, zeroIn, small, nonzero, keep}
+use Rattle.meaning.specs.Bytes.{num, spell, zeros, zeroIn, small, nonzero, stale, keep}
 use Rattle.meaning.specs.Items.{Con, bytes, past, step, part}
 
 -- the bytes of an item that holds v
@@ -123,3 +123,13 @@ unfoldable pub endsLast : List Item → Bool
 endsLast [] = true
 endsLast (i ∷ []) = true
 endsLast (i ∷ j ∷ is) = cond (ends (i .shape)) false (endsLast (j ∷ is))
+
+-- MMAP, MMAP2, COMM, KSYMBOL and CGROUP have a name, which is always selected; the others have none
+unfoldable pub named : List Item → Bool
+named [] = false
+named (i ∷ is) = ends (i .shape) || named is
+
+-- "whether any byte after the name's zero within its room is not zero"
+unfoldable pub dirty : List ℕ → List Item → Cursor → Bool
+dirty xs [] c = false
+dirty xs (i ∷ is) c = ((i .on && ends (i .shape)) && stale (part (i .shape) c (drop (c .at) xs))) || dirty xs is (step xs i c)

@@ -102,7 +102,8 @@ pub extern "C" fn ollskuvan_check(
 {
     let a = attributes(sample, format, all, user, interrupt, branch);
     let e = edition as u64;
-    record::check(bytes, e, a) as u32
+    let answer = record::check(bytes, e, a);
+    record::or_dirty(answer, bytes, a) as u32
 }
 
 // What a record's misc means, by its type: the CPU mode, and bits 13 and 14. The type is the whole word of the header.
@@ -126,7 +127,7 @@ pub extern "C" fn ollskuvan_copy_name(
     names::copy_name(bytes, place, count, buffer) as u32
 }
 
-// `words` are the caller's 56 or more: as record check answers; then 40 if there are fewer.
+// `words` are the caller's 56 or more: as record check answers, but for 44, where it is 0; then 40 if there are fewer.
 #[no_mangle]
 pub extern "C" fn ollskuvan_read(
     bytes: &[u8],

@@ -1,6 +1,7 @@
 -- Record check's numbers are given for their own reasons: all of document 01's rows in one list, in the order checked, each with its own condition. The
 -- answer is the number of the first row that holds, and 0 where none does; so a number is given exactly when its row holds and none before it.
--- Of the body "the first in field order is given": an item's rows stand in the order of the fields. Assumes nothing.
+-- Of the body "the first in field order is given": an item's rows stand in the order of the fields. Record check's 44, in place of 0, is apart from
+-- these: Demand2, `check-44`. Assumes nothing.
 use mathlib.Core.Path.{_≡_, refl, sym, ap, _∙_}
 use mathlib.Core.List.{List, [], _∷_, _++_}
 use mathlib.Core.Bool.{Bool, true, false, cond, not, _&&_, _||_}

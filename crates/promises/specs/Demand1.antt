@@ -15,7 +15,7 @@ use Rattle.meaning.specs.declared.Frame.{Frame}
 use Rattle.meaning.specs.declared.One.{One}
 use Rattle.meaning.specs.Bytes.{num, numberAt, zeros, put}
 use Rattle.meaning.specs.Editions.{editions, allowed, known, isIn}
-use Rattle.meaning.specs.Records.{layout, judge, check}
+use Rattle.meaning.specs.Records.{layout, judge, check, recordCheck}
 use Rattle.meaning.specs.Values.{read, readAnswered, writeAnswer, writeBuffer}
 use Rattle.meaning.specs.Ring.{askedOf, distance, stopAt, frame, recordAt, whole, shown, oneFrame, taken, notTaken, readOne, oneScratch}
 use Rattle.meaning.specs.Drain.{End, journalKind, entryFor, start, ended, frameAt, after, run, drain}
@@ -24,8 +24,8 @@ use Rattle.runs.specs.Cutting.{Cut, begin, cuttingBy, entries, total, Chained, 
 use Rattle.runs.specs.Entries.{answer-back, all-at}
 use Rattle.runs.specs.Forward.{Counted, frame-going, going-framed}
 use Rattle.runs.specs.Scratches.{scratch-whole, scratch-crosses, put-holds, shown-record}
-use Rattle.editions.specs.Numbers.{recordNumbers, checkNumbers, stopNumbers, writeNumbers}
-use Rattle.editions.specs.InTable.{judge-in, judge-small, check-in, write-in}
+use Rattle.editions.specs.Numbers.{recordNumbers, checkNumbers, recordCheckNumbers, stopNumbers, writeNumbers}
+use Rattle.editions.specs.InTable.{judge-in, judge-small, check-in, record-check-in, write-in}
 use Rattle.laws.specs.Put.{part-of}
 use Rattle.laws.specs.Rows.{gives}
 use Rattle.laws.specs.Rings.{stopRows, frame-stop, frame-reason, run-stop}
@@ -35,8 +35,8 @@ use Rattle.promises.specs.Scratch.{going-room, liesWhole, all-whole, cop
 
 -- ---- "Bad input is refused by the numbers in document 01": record check, the reader of a record's bytes, the writer
 
-pub check-numbers : (e : ℕ) (a : Attributes) (xs : List ℕ) → isIn (check editions e a xs) checkNumbers ≡ true
-check-numbers = check-in editions
+pub check-numbers : (e : ℕ) (a : Attributes) (xs : List ℕ) → isIn (recordCheck editions e a xs) recordCheckNumbers ≡ true
+check-numbers = record-check-in editions
 
 pub read-numbers : (e : ℕ) (a : Attributes) (xs : List ℕ) → isIn (read editions e a xs .answer) checkNumbers ≡ true
 unfolding read readAnswered
@@ -237,7 +237,7 @@ module _ (e : ℕ) (a : Attributes) (ring : List ℕ) (head tail budget : ℕ) (
     pub drain-framed : All (λ (c : Cut). framed (c .record-bytes) ≡ true) records
     drain-framed = counted .shaped
 
-    -- the answer in each entry is record check's for that record's bytes
+    -- the answer in each entry is record check's for that record's bytes, but for 44, which is 0 here
     pub drain-checks : allowed editions e ≡ true → (i : ℕ) → i < end .state .taken → numberAt 2 (end .state .journal) (16 * i + 6) ≡ check editions e a (record-at i .record-bytes)
     drain-checks g i h =
         let c = counted .count in

@@ -6,18 +6,20 @@
 -- `depends` lists what a record's reading depends on, with no edition for an argument; `outside` says that something of a list lies outside; `Fair`
 -- holds two answers to it. Each theorem stands twice: over any table of editions that rises, so that a fourth edition is a row and not a proof,
 -- and over document 01's table. Assumes nothing.
-use mathlib.Core.Path.{_≡_, sym, ap, _∙_}
+use mathlib.Core.Path.{_≡_, refl, sym, ap, ap₂, _∙_}
 use mathlib.Core.List.{List}
-use mathlib.Core.Bool.{Bool, true, false, _&&_}
+use mathlib.Core.Bool.{Bool, true, false, cond, _&&_}
 use mathlib.Core.Logic.{_⊎_}
 use Prim.Native.Nat.{ℕ, _<_, _≤_}
 use lib.ListN.{length}
-use borrow.Author.Tests.{ne-eqb}
+use lib.Dec.{eqb}
+use borrow.Author.Tests.{eqb-true, ne-eqb}
 use Rattle.meaning.specs.declared.Attributes.{Attributes}
 use Rattle.meaning.specs.declared.Known.{Known}
 use Rattle.meaning.specs.Bytes.{zeros}
 use Rattle.meaning.specs.Editions.{editions, allowed, known, outside, isUnknown}
-use Rattle.meaning.specs.Records.{check}
+use Rattle.meaning.specs.Refusals.{orElse}
+use Rattle.meaning.specs.Records.{layout, check, flagOf, recordCheck}
 use Rattle.meaning.specs.Values.{readAnswered, read}
 use Rattle.meaning.specs.Drain.{drain}
 use Rattle.editions.specs.Fairness.{rising, Words, dependsOf, Fair}
@@ -42,12 +44,36 @@ exactly-where older newer out f = (λ u. sym (f .exact) ∙ u, λ o. f .exact �
 pub else-alike : (older newer : ℕ) (out : Bool) → Fair older newer out → isUnknown older ≡ false → older ≡ newer
 else-alike older newer out f u = f .alike (sym (f .exact) ∙ u)
 
+-- 44 is no answer of an edition that does not know something, and it stands in the place of 0 alone
+flag-known : (n f : ℕ) → isUnknown (orElse n (cond (eqb f 0) 0 44)) ≡ isUnknown n
+unfolding isUnknown
+flag-known n f = go (eqb n 0) (eqb f 0) refl
+  where
+    go : (t u : Bool) → eqb n 0 ≡ t → isUnknown (cond t (cond u 0 44) n) ≡ isUnknown n
+    go true true h = ap isUnknown (sym (eqb-true n 0 h))
+    go true false h = ap isUnknown (sym (eqb-true n 0 h))
+    go false u h = refl
+
 -- ---- any table that rises: each row knows no more than every later one
 module _ (rows : List Known) (up : rising rows ≡ true) (e₁ e₂ : ℕ) (order : e₁ ≤ e₂) (is₁ : allowed rows e₁ ≡ true) (is₂ : allowed rows e₂ ≡ true)
     (a : Attributes) (ws : Words a) where
   -- record check: of any slice. What is no record is refused alike
   pub fair-check : (r : List ℕ) → Fair (check rows e₁ a r) (check rows e₂ a r) (framed r && outside (known rows e₁) (dependsOf a r))
   fair-check = check-fair rows up e₁ e₂ order is₁ is₂ a ws
+
+  -- the flag is the same in both (M-107), and so record check as it is exported, with its 44, is fair as well
+  pub same-flag : (r : List ℕ) → flagOf (layout (known rows e₁) a) r ≡ flagOf (layout (known rows e₂) a) r
+  unfolding flagOf layout
+  same-flag r = refl
+
+  pub fair-record-check : (r : List ℕ) → Fair (recordCheck rows e₁ a r) (recordCheck rows e₂ a r) (framed r && outside (known rows e₁) (dependsOf a r))
+  unfolding recordCheck
+  fair-record-check r =
+      let f = fair-check r in
+      record {
+        exact = flag-known (check rows e₁ a r) (flagOf (layout (known rows e₁) a) r) ∙ f .exact;
+        alike = λ o. ap₂ (λ (n g : ℕ). orElse n (cond (eqb g 0) 0 44)) (f .alike o) (same-flag r);
+      }
 
   -- the reader of a record's bytes: where nothing lies outside, the words are the same too
   pub fair-read : (r : List ℕ)
@@ -78,6 +104,9 @@ module _ (rows : List Known) (up : rising rows ≡ true) (e₁ e₂ : ℕ) (orde
 module _ (e₁ e₂ : ℕ) (order : e₁ ≤ e₂) (is₁ : allowed editions e₁ ≡ true) (is₂ : allowed editions e₂ ≡ true) (a : Attributes) (ws : Words a) where
   pub older-check : (r : List ℕ) → Fair (check editions e₁ a r) (check editions e₂ a r) (framed r && outside (known editions e₁) (dependsOf a r))
   older-check = fair-check editions editions-rise e₁ e₂ order is₁ is₂ a ws
+
+  pub older-record-check : (r : List ℕ) → Fair (recordCheck editions e₁ a r) (recordCheck editions e₂ a r) (framed r && outside (known editions e₁) (dependsOf a r))
+  older-record-check = fair-record-check editions editions-rise e₁ e₂ order is₁ is₂ a ws
 
   pub older-read : (r : List ℕ)
       → Fair (read editions e₁ a r .answer) (read editions e₂ a r .answer) (framed r && outside (known editions e₁) (dependsOf a r))

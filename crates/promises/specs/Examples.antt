@@ -8,14 +8,15 @@ use lib.ListN.{length, take, drop}
 use lib.Dec.{eqb}
 use Rattle.meaning.specs.declared.Attributes.{Attributes}
 use Rattle.meaning.specs.declared.One.{One}
-use Rattle.meaning.specs.Bytes.{num, spell, bit, ones, zeros, zeroIn, put}
+use Rattle.meaning.specs.Bytes.{num, spell, bit, ones, zeros, zeroIn, allZero, stale, put}
 use Rattle.meaning.specs.Refusals.{first}
 use Rattle.meaning.specs.Items.{span, rule, holds, counted, before, past, part, settle, shapeStep, step, walk}
+use Rattle.meaning.specs.Writing.{ends, named, dirty}
 use Rattle.meaning.specs.Editions.{editions, known, unreadable}
-use Rattle.meaning.specs.Records.{layout, kindOf, miscOf, sizeOf, roomShape, room, fieldsOf, closed, fieldsAnswer, judge, checkBy, check, recordCheck}
+use Rattle.meaning.specs.Records.{layout, kindOf, miscOf, sizeOf, roomShape, room, fieldsOf, closed, fieldsAnswer, judge, checkBy, check, flagBy, flagOf, recordCheck}
 use Rattle.meaning.specs.declared.Bit13.the-variants.{SwitchedOut}
 use Rattle.meaning.specs.Misc.{types13, types14, means13, means14, number13, miscMeaning}
-use Rattle.meaning.specs.Values.{tell, slotShape, words, wordsBy, recordWords, readAnswered}
+use Rattle.meaning.specs.Values.{tell, slotShape, flagWords, words, wordsBy, recordWords, readAnswered}
 use Rattle.meaning.specs.Ring.{lengthAllowed, distance, recordAt, stopped, sized, frame, scratchAfter, taken, notTaken, readOne, oneScratch}
 
 -- a slice under record check; a ring under the reader of one record
@@ -127,5 +128,5 @@ all [] = true
 all (c ∷ cs) = passes c && all cs
 
 pub every-example : all cases ≡ true
-unfolding all passes cases num spell bit ones zeroIn put first span rule holds counted before past part settle shapeStep step walk known unreadable layout kindOf miscOf sizeOf roomShape room fieldsOf closed fieldsAnswer judge checkBy check types13 types14 means13 means14 miscMeaning tell slotShape words wordsBy recordWords readAnswered lengthAllowed distance recordAt stopped sized frame scratchAfter taken notTaken readOne oneScratch
+unfolding all passes cases num spell bit ones zeroIn put first span rule holds counted before past part settle shapeStep step walk known unreadable layout kindOf miscOf sizeOf roomShape room fieldsOf closed fieldsAnswer judge checkBy check allZero stale ends named dirty flagBy flagOf recordCheck types13 types14 means13 means14 miscMeaning tell slotShape flagWords words wordsBy recordWords readAnswered lengthAllowed distance recordAt stopped sized frame scratchAfter taken notTaken readOne oneScratch
 every-example = refl

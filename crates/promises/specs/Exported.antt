@@ -15,8 +15,8 @@ use Rattle.meaning.specs.declared.Frame.{Frame}
 use Rattle.meaning.specs.declared.One.{One}
 use Rattle.meaning.specs.Bytes.{small, put}
 use Rattle.meaning.specs.Editions.{editions, allowed, known}
-use Rattle.meaning.specs.Records.{Layout, layout, Value, judge, checkBy, check, value, cleanedRecord}
-use Rattle.meaning.specs.Values.{recordWords, readAnswered, meant, writeAnswer, writeBuffer}
+use Rattle.meaning.specs.Records.{Layout, layout, Value, judge, checkBy, check, flagOf, value, cleanedRecord}
+use Rattle.meaning.specs.Values.{recordWords, readAnswered, meant, flagged, writeAnswer, writeBuffer}
 use Rattle.meaning.specs.Ring.{recordAt, shown, oneFrame, taken, readOne, oneScratch}
 use Rattle.record.specs.Into.{readIntoAnswer, readIntoWords}
 use Rattle.one.specs.Told.{oneTold, oneWords}
@@ -131,20 +131,20 @@ module _ (e : ℕ) (a : Attributes) where
       (r, ap (meant lay xs) (read-accepted xs out r .2) ∙ b .2)
 
   -- "a decoded record written again with room has the same bytes except those that 01 lists as ignored": the words that ollskuvan_read filled, given to
-  -- ollskuvan_write with the record as their source; the rest of the buffer is unchanged
-  pub writes-again : (xs out buffer : List ℕ) → small xs ≡ true → readIntoAnswer editions e a xs out ≡ 0 → length xs ≤ length buffer
+  -- ollskuvan_write with the record as their source; the rest of the buffer is unchanged. "Demand 2's writing back now speaks of values without the flag"
+  pub writes-again : (xs out buffer : List ℕ) → small xs ≡ true → readIntoAnswer editions e a xs out ≡ 0 → flagOf lay xs ≡ 0 → length xs ≤ length buffer
       → (writeWordsAnswer e a xs (readIntoWords editions e a xs out) (length buffer) ≡ 0)
       × (take (length xs) (writeWordsBuffer e a xs (readIntoWords editions e a xs out) buffer) ≡ cleanedRecord lay xs)
       × (drop (length xs) (writeWordsBuffer e a xs (readIntoWords editions e a xs out) buffer) ≡ drop (length xs) buffer)
       × (length (cleanedRecord lay xs) ≡ length xs)
-  writes-again xs out buffer s z room =
+  writes-again xs out buffer s z n₀ room =
       let r = read-accepted xs out z in
       let long = r .3 in
       let most = r .1 in
       let ws : List ℕ = readIntoWords editions e a xs out in
       let m : 56 ≤ length ws = omega (arith, long, most) in
       let w = written-again editions e a xs s (r .0) in
-      let same : writeAnswer editions e a xs (take 56 ws) (length buffer) ≡ 0 = ap (λ (l : List ℕ). writeAnswer editions e a xs l (length buffer)) (r .2) ∙ w .taken (length buffer) room in
+      let same : writeAnswer editions e a xs (take 56 ws) (length buffer) ≡ 0 = ap (λ (l : List ℕ). writeAnswer editions e a xs l (length buffer)) (r .2) ∙ w .taken n₀ (length buffer) room in
       let bytes : bytesOf editions e a xs (take 56 ws) ≡ cleanedRecord lay xs = ap (bytesOf editions e a xs) (r .2) ∙ w .cleaned in
       let n : length (bytesOf editions e a xs (take 56 ws)) ≡ length xs = ap length bytes ∙ w .long in
       let b = buffer-holds editions e a xs (take 56 ws) buffer same in
@@ -155,6 +155,18 @@ module _ (e : ℕ) (a : Attributes) where
         w .long,
       )
 
+  -- "The writer refuses a value with the flag set with 43": whatever the buffer
+  pub writes-43 : (xs out : List ℕ) (space : ℕ) → small xs ≡ true → readIntoAnswer editions e a xs out ≡ 0 → (flagOf lay xs ≡ 0 → ⊥)
+      → writeWordsAnswer e a xs (readIntoWords editions e a xs out) space ≡ 43
+  writes-43 xs out space s z n =
+      let r = read-accepted xs out z in
+      let long = r .3 in
+      let most = r .1 in
+      let ws : List ℕ = readIntoWords editions e a xs out in
+      few xs ws space (check-of editions e a xs (r .0) .0) (omega (arith, long, most))
+      ∙ ap (λ (l : List ℕ). writeAnswer editions e a xs l space) (r .2)
+      ∙ written-again editions e a xs s (r .0) .refused n space
+
   -- "Ignored bytes, written as zero": of the record that C finds in its buffer none but zeros are ignored
   pub written-zero : (src ws buffer : List ℕ) → writeWordsAnswer e a src ws (length buffer) ≡ 0
       → cleanedRecord lay (record-in ws (writeWordsBuffer e a src ws buffer)) ≡ record-in ws (writeWordsBuffer e a src ws buffer)
@@ -163,14 +175,14 @@ module _ (e : ℕ) (a : Attributes) where
       let c = written-clean lay (meant lay src (take 56 ws)) (sound (known editions e) a) (accepted editions e a src (take 56 ws) (length buffer) (w .1) .fitting) in
       subst (λ (l : List ℕ). cleanedRecord lay l ≡ l) (sym (holds-record src ws buffer z .0)) c
 
-  -- "42 exactly when no record decodes, under that edition and those attributes, to the same numbers and listed bytes"
+  -- "42 exactly when no record decodes, under that edition and those attributes, to the same numbers and listed bytes": past 43, which comes before it
   pub exactly-42 : (src ws : List ℕ) (space : ℕ) → 56 ≤ length ws → allowed editions e ≡ true → lay .unknown (getD (take 56 ws) 0 0) (getD (take 56 ws) 1 0) ≡ 0
-      → passes editions e a src (take 56 ws) ≡ false
+      → flagged lay (take 56 ws) ≡ false → passes editions e a src (take 56 ws) ≡ false
       → (writeWordsAnswer e a src ws space ≡ 42 → (xs : List ℕ) → Written editions e a xs src (take 56 ws) → ⊥)
       × (((xs : List ℕ) → Written editions e a xs src (take 56 ws) → ⊥) → writeWordsAnswer e a src ws space ≡ 42)
-  exactly-42 src ws space m g k i =
+  exactly-42 src ws space m g k f₀ i =
       let f = few src ws space g m in
-      let x = exact-42 editions e a src (take 56 ws) space g k i in
+      let x = exact-42 editions e a src (take 56 ws) space g k f₀ i in
       (λ h. x .0 (sym f ∙ h), λ none. f ∙ x .1 none)
 
   -- two records that ollskuvan_read decodes to the same value differ only in ignored bytes

@@ -1,4 +1,4 @@
--- Demand 1, the reader that fills lent words: as record check answers; then 40 if there are fewer words than a value has. Refused: the words are
+-- Demand 1, the reader that fills lent words: the answer of the reader of a record's bytes; then 40 if there are fewer words than a value has. Refused: the words are
 -- unchanged. Accepted: the value, the rest unchanged. Assumes nothing.
 use mathlib.Core.Path.{_≡_, refl, ap, _∙_}
 use mathlib.Core.List.{List, _∷_}

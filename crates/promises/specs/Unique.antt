@@ -225,6 +225,9 @@ table-item-of κs a x y s t p q = same p q
 pub table-item-at : Result table.item_at.Kinds.ps table.item_at.Kinds.r table.item_at.Reads.Learnt
 table-item-at κs a x y s t p q = same p q
 
+pub table-flag-at : Result table.flag_at.Kinds.ps table.flag_at.Kinds.r table.flag_at.Reads.Learnt
+table-flag-at κs a x y s t p q = same p q
+
 -- the rows of a type's fields: which part of the table it is stays open, since equal rows stand in it more than once; what they stand for does not
 pub table-part-of : (κs : Lfts 0) (a : Dens κs table.part_of.Kinds.ps) (x y : resT table.part_of.Kinds.r κs .Denot)
     (s t : AtExit (endedOf 0 table.part_of.Kinds.ps table.part_of.Kinds.r) κs) → table.part_of.Reads.Learnt κs a x s → table.part_of.Reads.Learnt κs a y t
@@ -256,6 +259,9 @@ answers-judge κs a x y s t p q = same p q
 
 pub answers-check : Result answers.check.Kinds.ps answers.check.Kinds.r answers.check.Reads.Learnt
 answers-check κs a x y s t p q = same p q
+
+pub record-or-dirty : Result records.or_dirty.Kinds.ps records.or_dirty.Kinds.r records.or_dirty.Reads.Learnt
+record-or-dirty κs a x y s t p q = same p q
 
 pub record-read : Result records.read.Kinds.ps records.read.Kinds.r records.read.Reads.Learnt
 record-read κs a x y s t p q = same p q

@@ -2,7 +2,7 @@
 -- Assumes nothing.
 use mathlib.Core.Path.{_≡_, refl, sym, ap, ap₂, _∙_, subst}
 use mathlib.Core.Bool.{cond}
-use mathlib.Core.List.{List, _∷_}
+use mathlib.Core.List.{List, _∷_, _++_}
 use Prim.Native.Nat.{ℕ, _+_, _-_, _<_, _≤_}
 use native.Mathlib.Omega.{arith}
 use lib.ListN.{length, take}
@@ -18,15 +18,15 @@ use Rattle.meaning.specs.Items.{walk}
 use Rattle.meaning.specs.Schema.{schema, trailer}
 use Rattle.meaning.specs.Editions.{known}
 use Rattle.meaning.specs.Records.{layout, kindOf, miscOf, sizeOf, room, origin, fieldsOf, fieldsAnswer, check}
-use Rattle.meaning.specs.Values.{bodyWords, trailWords, valueWords, words, wordsBy, recordWords, readAnswered, read}
+use Rattle.meaning.specs.Values.{width, flagWords, bodyWords, trailWords, valueWords, words, wordsBy, recordWords, readAnswered, read}
 use Rattle.laws.specs.Fixed.{fixed-run}
-use Rattle.laws.specs.Answers.{fields-zero, check-zero}
+use Rattle.laws.specs.Answers.{fields-zero}
 use Rattle.laws.specs.Every.{trailer-fixed}
-use Rattle.laws.specs.Told.{fields-few, trailer-few}
-use Rattle.laws.specs.Answer42.{check-of}
+use Rattle.laws.specs.Put.{put-put}
+use Rattle.laws.specs.Told.{words-length, flag-length, fields-few, trailer-few}
 use Rattle.table.specs.Rows.{fieldRows, allRows}
 use Rattle.table.specs.Same.{trailer-rows}
-use Rattle.record.specs.Into.{itemsOf, Fills, readIntoAnswer, readIntoWords}
+use Rattle.record.specs.Into.{itemsOf, Fills, recordFlag, readIntoAnswer, readIntoWords}
 
 -- ---- the two loops of an accepted record
 
@@ -75,18 +75,40 @@ module _ (a : Attributes) (xs : List ℕ) (kind misc t : ℕ) (g : Header a xs k
 
   abbrev whole : ℕ → ℕ → ℕ → ℕ → List ℕ
   whole k m s n =
-      put (put (k ∷ m ∷ s ∷ zeros 53) 3 (words (take (length xs - n) xs) (schema k m a) (origin 8))) 48 (words xs (trailer k a) (origin (length xs - n)))
+      put
+      (put (k ∷ m ∷ s ∷ zeros 53) 3 (words (take (length xs - n) xs) (schema k m a) (origin 8) ++ flagWords (schema k m a) (recordFlag a xs)))
+      48
+      (words xs (trailer k a) (origin (length xs - n)))
 
-  pub words-are : (size from to : ℕ) (c d : Cursor) (one two : List ℕ) → size ≡ sizeOf xs → itemsOf a misc kind from to ≡ schema kind misc a
+  -- the flag's word follows those of the fields
+  flag-put : (d : List ℕ) (c : Cursor) → length d ≡ valueWords
+      → put (put d 3 (words (take (length xs - t) xs) (schema kind misc a) c)) (bodyWords + width (schema kind misc a)) (flagWords (schema kind misc a) (recordFlag a xs))
+      ≡ put d 3 (words (take (length xs - t) xs) (schema kind misc a) c ++ flagWords (schema kind misc a) (recordFlag a xs))
+  flag-put d c l =
+      let is : List Item = schema kind misc a in
+      let F : List ℕ = flagWords is (recordFlag a xs) in
+      let W : List ℕ = words (take (length xs - t) xs) is c in
+      let w = fields-few kind misc a in
+      let lw = words-length is (take (length xs - t) xs) c in
+      let lf = flag-length is (recordFlag a xs) in
+      let q : bodyWords + width is ≡ 3 + length W = omega (arith, lw) in
+      ap (λ (k : ℕ). put (put d 3 W) k F) q ∙ put-put d 3 W F (omega (arith, lw, lf, w, l))
+
+  pub words-are : (size from to : ℕ) (c d : Cursor) (one mid two : List ℕ) → size ≡ sizeOf xs → itemsOf a misc kind from to ≡ schema kind misc a
       → c ≡ origin 8 → d ≡ origin (length xs - t)
       → one ≡ put (kind ∷ misc ∷ size ∷ zeros 53) 3 (words (take (length xs - t) xs) (itemsOf a misc kind from to) c)
-      → two ≡ put one 48 (words xs (itemsOf a misc kind fieldRows allRows) d)
+      → mid ≡ put one (bodyWords + width (schema kind misc a)) (flagWords (schema kind misc a) (recordFlag a xs))
+      → two ≡ put mid 48 (words xs (itemsOf a misc kind fieldRows allRows) d)
       → two ≡ wordsBy (schema (kindOf xs) (miscOf xs) a) (trailer (kindOf xs) a) xs
   unfolding wordsBy fieldsOf
-  words-are size from to c d one two es ei ec ed e₁ e₂ =
+  words-are size from to c d one mid two es ei ec ed e₁ eₘ e₂ =
+      let d₀ : List ℕ = kind ∷ misc ∷ size ∷ zeros 53 in
       e₂
       ∙ ap₂ (λ (o : List ℕ) (x : Cursor). put o 48 (words xs (trailer kind a) x))
-      (e₁ ∙ ap₂ (λ (is : List Item) (x : Cursor). put (kind ∷ misc ∷ size ∷ zeros 53) 3 (words (take (length xs - t) xs) is x)) ei ec)
+      (eₘ
+      ∙ ap (λ (o : List ℕ). put o (bodyWords + width (schema kind misc a)) (flagWords (schema kind misc a) (recordFlag a xs)))
+      (e₁ ∙ ap₂ (λ (is : List Item) (x : Cursor). put d₀ 3 (words (take (length xs - t) xs) is x)) ei ec)
+      ∙ flag-put d₀ (origin 8) refl)
       ed
       ∙ ap (λ (k : ℕ). whole k misc size t) (g .kind-is)
       ∙ ap (λ (m : ℕ). whole (kindOf xs) m size t) (g .misc-is)
@@ -95,10 +117,6 @@ module _ (a : Attributes) (xs : List ℕ) (kind misc t : ℕ) (g : Header a xs k
 -- ---- the readers
 
 module _ (ks : List Known) (e : ℕ) (a : Attributes) (xs : List ℕ) where
-  pub check-accepts : check ks e a xs ≡ 0 → (8 ≤ length xs) × (fieldsAnswer (schema (kindOf xs) (miscOf xs) a) (room (trailer (kindOf xs) a)) xs ≡ 0)
-  unfolding layout
-  check-accepts h = let z = check-zero (layout (known ks e) a) xs (check-of ks e a xs h .1) in (z .0, z .4)
-
   words-of : wordsBy (schema (kindOf xs) (miscOf xs) a) (trailer (kindOf xs) a) xs ≡ recordWords (layout (known ks e) a) xs
   unfolding recordWords layout
   words-of = refl

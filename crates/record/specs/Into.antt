@@ -1,8 +1,9 @@
--- The reader that fills lent words: its answer, and what the words then hold. Also what the loop over rows asks for.
+-- The reader that fills lent words: its answer, and what the words then hold; the flag of a record, and record check's 44. Also what the loop over
+-- rows asks for.
 -- Assumes nothing: these are definitions.
 use mathlib.Core.Path.{_≡_}
-use Prim.Native.Nat.{ℕ, _+_, _≤_}
-use mathlib.Core.Bool.{cond}
+use Prim.Native.Nat.{ℕ, _+_, _%_, _≤_}
+use mathlib.Core.Bool.{Bool, cond}
 use mathlib.Core.List.{List, map}
 use lib.ListN.{length}
 use lib.Seq.{slice}
@@ -14,8 +15,10 @@ use Rattle.meaning.specs.declared.Known.{Known}
 use Rattle.meaning.specs.Bytes.{put}
 use Rattle.meaning.specs.Refusals.{orElse}
 use Rattle.meaning.specs.Items.{walk}
+use Rattle.meaning.specs.Schema.{schema, trailer}
+use Rattle.meaning.specs.Writing.{dirty}
 use Rattle.meaning.specs.Editions.{known}
-use Rattle.meaning.specs.Records.{layout, check}
+use Rattle.meaning.specs.Records.{layout, kindOf, miscOf, room, origin, fieldsOf, fieldsAnswer, flagBy, check}
 use Rattle.meaning.specs.Values.{width, valueWords, recordWords}
 use Rattle.table.specs.Rows.{rows, itemOf}
 
@@ -26,6 +29,23 @@ readIntoAnswer ks e a xs ws = orElse (check ks e a xs) (cond (leb valueWords (le
 -- refused: unchanged; accepted: the first 56 are those of the record, the rest unchanged
 unfoldable pub readIntoWords : List Known → ℕ → Attributes → List ℕ → List ℕ → List ℕ
 readIntoWords ks e a xs ws = cond (eqb (readIntoAnswer ks e a xs ws) 0) (put ws 0 (recordWords (layout (known ks e) a) xs)) ws
+
+-- the bytes of a record of this type whose fields are accepted
+pub record Accepted (a : Attributes) (xs : List ℕ) (kind : ℕ) : Type 0 where
+  pub kind-is : kind ≡ kindOf xs
+  pub eights : length xs % 8 ≡ 0
+  pub answer-is : fieldsAnswer (schema (kindOf xs) (miscOf xs) a) (room (trailer (kindOf xs) a)) xs ≡ 0
+
+-- its flag, as a test and as a number. No edition: it is a property of the record's bytes and the attributes
+abbrev pub nameDirty : Attributes → List ℕ → Bool
+nameDirty a xs = dirty (fieldsOf (room (trailer (kindOf xs) a)) xs) (schema (kindOf xs) (miscOf xs) a) (origin 8)
+
+abbrev pub recordFlag : Attributes → List ℕ → ℕ
+recordFlag a xs = flagBy (schema (kindOf xs) (miscOf xs) a) (room (trailer (kindOf xs) a)) xs
+
+-- "where it is set, record check, and nothing else, answers 44 instead of 0": by the answer that record check shares with the readers
+unfoldable pub orDirty : ℕ → Attributes → List ℕ → ℕ
+orDirty answer a xs = orElse answer (cond (eqb (recordFlag a xs) 0) 0 44)
 
 -- the items of the rows from k up to `to`
 abbrev pub itemsOf : Attributes → ℕ → ℕ → ℕ → ℕ → List Item

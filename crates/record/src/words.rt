@@ -4,11 +4,12 @@ ghost use Prim.Native.Nat.{_+_, _≤_};
 ghost use lib.ListN.{length};
 ghost use Rattle.meaning.specs.Bytes.{put};
 ghost use Rattle.meaning.specs.Schema.{schema, trailer};
-ghost use Rattle.meaning.specs.Records.{room, kindOf, miscOf, fieldsAnswer};
+ghost use Rattle.meaning.specs.Records.{kindOf, miscOf};
 ghost use Rattle.meaning.specs.Values.{words, wordsBy};
 ghost use Rattle.fields.specs.Told.{wordsIn};
-ghost use Rattle.record.specs.Into.{itemsOf, Fills};
+ghost use Rattle.record.specs.Into.{Accepted, itemsOf, Fills};
 ghost use Rattle.table.specs.Rows.{allRows};
+use crate::flag;
 use fields::Words;
 use meaning::Attributes;
 use meaning::Cursor;
@@ -62,9 +63,10 @@ pub fn fill(
     }
 }
 
-// Type, misc and size; the words of the fields from 3 on, those of the trailer from 48 on; every other word is 0.
+// Type, misc and size; the words of the fields from 3 on, then the flag where the type has a name; those of the trailer from 48 on; every other
+// word is 0.
 pub fn of_record(r: &[u8], a: Attributes) -> [u64; 56]
-    requires { ⌜ (8 ≤ length (now r)) × (fieldsAnswer (schema (kindOf (now r)) (miscOf (now r)) a) (room (trailer (kindOf (now r)) a)) (now r) ≡ 0) ⌝ }
+    requires { ⌜ Accepted a (now r) (kindOf (now r)) ⌝ }
     ensures { λ w. ⌜ w ≡ wordsBy (schema (kindOf (now (r .entry))) (miscOf (now (r .entry))) a) (trailer (kindOf (now (r .entry))) a) (now (r .entry)) ⌝ }
 {
     let h = reader::read_header(r);
@@ -89,6 +91,7 @@ pub fn of_record(r: &[u8], a: Attributes) -> [u64; 56]
         &mut out,
         FIELDS_AT,
     );
+    flag::set(r, kind, misc, a, &mut out);
     fill(
         r,
         kind,

@@ -5,6 +5,7 @@ ghost use Prim.Native.Nat.{_<_};
 ghost use lib.ListN.{getD};
 ghost use Rattle.meaning.specs.Schema.{trails};
 ghost use Rattle.table.specs.Rows.{rows, allRows, guard, guards, shape, itemOf};
+ghost use Rattle.table.specs.Flags.{flagAt};
 ghost use Rattle.table.specs.Same.{Holds};
 use meaning::Attributes;
 use meaning::Item;
@@ -31,6 +32,18 @@ pub fn part_of(kind: u64) -> Part
         }
     } else {
         Part { from: 0, to: 0 }
+    }
+}
+
+// The word of the flag, of a type that has a name: the next after the words of its fields (M-107). 0 for the other types.
+pub fn flag_at(kind: u64) -> usize
+    ensures { λ r. ⌜ r ≡ flagAt kind ⌝ }
+{
+    if kind < rows::TYPES {
+        let k = kind as usize;
+        rows::FLAGS[k]
+    } else {
+        0
     }
 }
 

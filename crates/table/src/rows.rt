@@ -305,3 +305,28 @@ pub const STARTS: [usize; 22] = [
     115,
     121,
 ];
+
+// "MMAP, MMAP2, COMM, KSYMBOL and CGROUP records gain a flag": its word by type, from type 0 on; 0 where there is none.
+pub const FLAGS: [usize; 21] = [
+    0,
+    10, // MMAP
+    0,
+    7, // COMM
+    0,
+    0,
+    0,
+    0,
+    0,
+    0,
+    18, // MMAP2
+    0,
+    0,
+    0,
+    0,
+    0,
+    0,
+    9, // KSYMBOL
+    0,
+    6, // CGROUP
+    0, // TEXT_POKE: its padding is no name
+];

@@ -8,20 +8,20 @@ use lib.Dec.{leb, ltb, eqb}
 use lib.ListN.{length}
 use Rattle.meaning.specs.declared.Attributes.{Attributes}
 use Rattle.meaning.specs.declared.Item.{Item}
-use Rattle.meaning.specs.Bytes.{num, spell, bit, ones, zeros, zeroIn, small, nonzero, allZero, keep, put}
+use Rattle.meaning.specs.Bytes.{num, spell, bit, ones, zeros, zeroIn, small, nonzero, allZero, stale, keep, put}
 use Rattle.meaning.specs.Refusals.{first}
 use Rattle.meaning.specs.Items.{cursor, span, rule, holds, counted, before, past, part, settle, shapeStep, step, walk}
-use Rattle.meaning.specs.Writing.{emit, number, blank, listed, fitShape, next, fit, write, kept, cleaned}
+use Rattle.meaning.specs.Writing.{emit, number, blank, listed, fitShape, next, fit, write, kept, cleaned, ends, named, dirty}
 use Rattle.meaning.specs.Schema.{sample, trailer}
 use Rattle.meaning.specs.Editions.{editions, known, allowed, unreadable}
-use Rattle.meaning.specs.Records.{layout, kindOf, miscOf, sizeOf, roomShape, room, fieldsOf, closed, fieldsAnswer, judge, checkBy, check, header, fieldBytes, written, writeRecord, fitsBy, fits, cleanedBy, cleanedRecord}
-use Rattle.meaning.specs.Values.{lists, unit, held, means, beyond, anyBeyond, slotShape, tell, width, words, wordsBy, recordWords, readAnswered, read, slotTold, lastTold, beforeTold, slotsTold, meant, spareBy, spare, writable, writeBy, writeAnswer, writeBuffer}
+use Rattle.meaning.specs.Records.{layout, kindOf, miscOf, sizeOf, roomShape, room, fieldsOf, closed, fieldsAnswer, judge, checkBy, check, flagBy, flagOf, recordCheck, header, fieldBytes, written, writeRecord, fitsBy, fits, cleanedBy, cleanedRecord}
+use Rattle.meaning.specs.Values.{lists, unit, held, means, beyond, anyBeyond, slotShape, tell, width, flagWords, flagTold, words, wordsBy, recordWords, readAnswered, read, slotTold, lastTold, beforeTold, slotsTold, meant, spareBy, spare, flagged, writable, writeBy, writeAnswer, writeBuffer}
 use Rattle.meaning.specs.Ring.{lengths, lengthAllowed, distance, stopped, sized, frame}
 use Rattle.meaning.specs.Drain.{journalKind, entry, End, run, drain}
 use Rattle.meaning.specs.Names.{nameAnswer, nameBuffer}
 use Rattle.meaning.specs.Misc.{types13, types14, means13, means14, miscMeaning}
 use Rattle.tables.specs.Numbers.{from, among, Limits, editionLimits, exponents, Field, sampleOrder, indexedOrder, trailerOrder, trailerMask, trailerBits, entryBytes, kindsOfTypes, miscBits}
-use Rattle.tables.specs.Rows.{Row, types, mappings, readings, samples, indexed, trailed, laid, said, clean, Judged, bodies, branchStacks, buildIds, oneRegister, slices, Stop, sizedRing, headersRing, go, stops, Copied, copies}
+use Rattle.tables.specs.Rows.{Row, types, mappings, readings, samples, indexed, trailed, flags, orders, laid, said, given, checked, rewritten, clean, Judged, bodies, branchStacks, buildIds, oneRegister, slices, Stop, sizedRing, headersRing, go, stops, Copied, copies}
 
 -- ---- tools of the comparison
 
@@ -179,42 +179,52 @@ abbrev reads : Row → Bool
 reads r =
     eqb (8 + length (r .body)) (r .size)
     && (eqb (check editions 3 (of r) (laid r)) 0
+    && (eqb (recordCheck editions 3 (of r) (laid r)) (checked r)
     && (same (read editions 3 (of r) (laid r) .words) (said r)
-    && same (cleanedRecord (layout (known editions 3) (of r)) (laid r)) (clean r)))
+    && same (cleanedRecord (layout (known editions 3) (of r)) (laid r)) (clean r))))
 
 abbrev writes : Row → Bool
 writes r =
-    eqb (writeAnswer editions 3 (of r) (laid r) (said r) (r .size)) 0
-    && (eqb (writeAnswer editions 3 (of r) (laid r) (said r) (r .size - 1)) 40
-    && same (writeBuffer editions 3 (of r) (laid r) (said r) (zeros (r .size) ++ (7 ∷ []))) (clean r ++ (7 ∷ [])))
+    eqb (writeAnswer editions 3 (of r) (laid r) (said r) (r .size)) (rewritten r)
+    && (eqb (writeAnswer editions 3 (of r) (laid r) (given r) (r .size)) 0
+    && (eqb (writeAnswer editions 3 (of r) (laid r) (given r) (r .size - 1)) 40
+    && same (writeBuffer editions 3 (of r) (laid r) (given r) (zeros (r .size) ++ (7 ∷ []))) (clean r ++ (7 ∷ []))))
 
 pub types-read : every reads types ≡ true
-unfolding num bit ones zeroIn keep first span rule holds counted before past part settle shapeStep step walk kept cleaned known unreadable layout kindOf miscOf sizeOf roomShape room fieldsOf closed fieldsAnswer judge checkBy check cleanedBy cleanedRecord slotShape tell words wordsBy recordWords readAnswered read put
+unfolding num bit ones zeroIn allZero stale keep first span rule holds counted before past part settle shapeStep step walk kept cleaned ends named dirty known unreadable layout kindOf miscOf sizeOf roomShape room fieldsOf closed fieldsAnswer judge checkBy check flagBy flagOf recordCheck cleanedBy cleanedRecord slotShape tell flagWords words wordsBy recordWords readAnswered read put
 types-read = refl
 
 pub mappings-read : every reads mappings ≡ true
-unfolding num bit ones zeroIn keep first span rule holds counted before past part settle shapeStep step walk kept cleaned known unreadable layout kindOf miscOf sizeOf roomShape room fieldsOf closed fieldsAnswer judge checkBy check cleanedBy cleanedRecord slotShape tell words wordsBy recordWords readAnswered read put
+unfolding num bit ones zeroIn allZero stale keep first span rule holds counted before past part settle shapeStep step walk kept cleaned ends named dirty known unreadable layout kindOf miscOf sizeOf roomShape room fieldsOf closed fieldsAnswer judge checkBy check flagBy flagOf recordCheck cleanedBy cleanedRecord slotShape tell flagWords words wordsBy recordWords readAnswered read put
 mappings-read = refl
 
 pub readings-read : every reads readings ≡ true
-unfolding num bit ones zeroIn keep first span rule holds counted before past part settle shapeStep step walk kept cleaned known unreadable layout kindOf miscOf sizeOf roomShape room fieldsOf closed fieldsAnswer judge checkBy check cleanedBy cleanedRecord slotShape tell words wordsBy recordWords readAnswered read put
+unfolding num bit ones zeroIn allZero stale keep first span rule holds counted before past part settle shapeStep step walk kept cleaned ends named dirty known unreadable layout kindOf miscOf sizeOf roomShape room fieldsOf closed fieldsAnswer judge checkBy check flagBy flagOf recordCheck cleanedBy cleanedRecord slotShape tell flagWords words wordsBy recordWords readAnswered read put
 readings-read = refl
 
 pub samples-read : every reads samples ≡ true
-unfolding num bit ones zeroIn keep first span rule holds counted before past part settle shapeStep step walk kept cleaned known unreadable layout kindOf miscOf sizeOf roomShape room fieldsOf closed fieldsAnswer judge checkBy check cleanedBy cleanedRecord slotShape tell words wordsBy recordWords readAnswered read put
+unfolding num bit ones zeroIn allZero stale keep first span rule holds counted before past part settle shapeStep step walk kept cleaned ends named dirty known unreadable layout kindOf miscOf sizeOf roomShape room fieldsOf closed fieldsAnswer judge checkBy check flagBy flagOf recordCheck cleanedBy cleanedRecord slotShape tell flagWords words wordsBy recordWords readAnswered read put
 samples-read = refl
 
 pub indexed-read : every reads indexed ≡ true
-unfolding num bit ones zeroIn keep first span rule holds counted before past part settle shapeStep step walk kept cleaned known unreadable layout kindOf miscOf sizeOf roomShape room fieldsOf closed fieldsAnswer judge checkBy check cleanedBy cleanedRecord slotShape tell words wordsBy recordWords readAnswered read put
+unfolding num bit ones zeroIn allZero stale keep first span rule holds counted before past part settle shapeStep step walk kept cleaned ends named dirty known unreadable layout kindOf miscOf sizeOf roomShape room fieldsOf closed fieldsAnswer judge checkBy check flagBy flagOf recordCheck cleanedBy cleanedRecord slotShape tell flagWords words wordsBy recordWords readAnswered read put
 indexed-read = refl
 
 pub trailed-read : every reads trailed ≡ true
-unfolding num bit ones zeroIn keep first span rule holds counted before past part settle shapeStep step walk kept cleaned known unreadable layout kindOf miscOf sizeOf roomShape room fieldsOf closed fieldsAnswer judge checkBy check cleanedBy cleanedRecord slotShape tell words wordsBy recordWords readAnswered read put
+unfolding num bit ones zeroIn allZero stale keep first span rule holds counted before past part settle shapeStep step walk kept cleaned ends named dirty known unreadable layout kindOf miscOf sizeOf roomShape room fieldsOf closed fieldsAnswer judge checkBy check flagBy flagOf recordCheck cleanedBy cleanedRecord slotShape tell flagWords words wordsBy recordWords readAnswered read put
 trailed-read = refl
 
-pub all-written : every writes (types ++ (mappings ++ (readings ++ (samples ++ (indexed ++ trailed))))) ≡ true
-unfolding num spell bit ones small nonzero allZero first emit number blank listed fitShape next fit write span rule holds counted before past part settle shapeStep step walk known unreadable layout roomShape room header fieldBytes written writeRecord fitsBy fits lists unit held means beyond anyBeyond tell width slotTold lastTold beforeTold slotsTold meant spareBy spare writable writeBy writeAnswer writeBuffer put
+pub flags-read : every reads flags ≡ true
+unfolding num bit ones zeroIn allZero stale keep first span rule holds counted before past part settle shapeStep step walk kept cleaned ends named dirty known unreadable layout kindOf miscOf sizeOf roomShape room fieldsOf closed fieldsAnswer judge checkBy check flagBy flagOf recordCheck cleanedBy cleanedRecord slotShape tell flagWords words wordsBy recordWords readAnswered read put
+flags-read = refl
+
+pub all-written : every writes (types ++ (mappings ++ (readings ++ (samples ++ (indexed ++ (trailed ++ flags)))))) ≡ true
+unfolding num spell bit ones small nonzero allZero first emit number blank listed fitShape next fit write span rule holds counted before past part settle shapeStep step walk known unreadable layout roomShape room header fieldBytes written writeRecord fitsBy fits lists unit held means beyond anyBeyond tell width slotTold lastTold beforeTold slotsTold ends named flagWords flagTold meant spareBy spare flagged writable writeBy writeAnswer writeBuffer put
 all-written = refl
+
+pub flag-orders : every (λ (o : ℕ × List ℕ × ℕ × ℕ). eqb (writeAnswer editions (o .0) (attributes 0 0 false 0 0) (from 1 8) (o .1) (o .2)) (o .3)) orders ≡ true
+unfolding num spell bit ones small nonzero allZero first emit number blank listed fitShape next fit write span rule holds counted before past part settle shapeStep step walk known unreadable layout roomShape room header fieldBytes written writeRecord fitsBy fits lists unit held means beyond anyBeyond tell width slotTold lastTold beforeTold slotsTold ends named flagWords flagTold meant spareBy spare flagged writable writeBy writeAnswer
+flag-orders = refl
 
 -- ---- the rules of a body at their edges
 

@@ -11,7 +11,8 @@ pub data Told : Type 0 where
   at : ℕ → ℕ → Told
   is : ℕ → Told
 
--- a record of edition 3 that decodes: the high byte of misc, the attributes, the bytes, its words, and the places of ignored bytes
+-- a record of edition 3 that decodes: the high byte of misc, the attributes, the bytes, its words, the flag's word where a byte after its name's zero is not
+-- zero, and the places of ignored bytes
 pub record Row : Type 0 where
   pub kind : ℕ
   pub high : ℕ
@@ -24,11 +25,12 @@ pub record Row : Type 0 where
   pub size : ℕ
   pub body : List ℕ
   pub told : List Told
+  pub flag : List Told
   pub trail : List Told
   pub ignored : List ℕ
 
-abbrev row : ℕ → ℕ → ℕ → ℕ → ℕ → List ℕ → List Told → List ℕ → Row
-row kind high sample format size body told ignored =
+abbrev flaggedRow : ℕ → ℕ → ℕ → ℕ → ℕ → List ℕ → List Told → List Told → List ℕ → Row
+flaggedRow kind high sample format size body told flag ignored =
     record {
       kind = kind;
       high = high;
@@ -41,20 +43,29 @@ row kind high sample format size body told ignored =
       size = size;
       body = body;
       told = told;
+      flag = flag;
       trail = [];
       ignored = ignored;
     }
+
+abbrev row : ℕ → ℕ → ℕ → ℕ → ℕ → List ℕ → List Told → List ℕ → Row
+row kind high sample format size body told ignored = flaggedRow kind high sample format size body told [] ignored
 
 -- a record of numbers alone: each byte after the header is its own place
 abbrev plain : ℕ → ℕ → List Told → Row
 plain kind size told = row kind 0 0 0 size (from 8 (size - 8)) told []
 
--- the name "abc" in the last eight bytes; the four after its zero are ignored
+-- the name "abc" in the last eight bytes; the four after its zero are ignored, and not zero, so that the record is flagged
 abbrev abc : List ℕ
 abc = 97 ∷ 98 ∷ 99 ∷ 0 ∷ 1 ∷ 2 ∷ 3 ∷ 4 ∷ []
 
 abbrev named : ℕ → ℕ → List Told → Row
-named kind place told = row kind 0 0 0 (place + 8) (from 8 (place - 8) ++ abc) (told ++ (is place ∷ is 3 ∷ [])) (from (place + 4) 4)
+named kind place told =
+    flaggedRow kind 0 0 0 (place + 8) (from 8 (place - 8) ++ abc) (told ++ (is place ∷ is 3 ∷ [])) (is 1 ∷ []) (from (place + 4) 4)
+
+-- the same with zeros after the name's zero: every byte is kept, and the flag's word is 0
+abbrev tidy : ℕ → ℕ → List Told → Row
+tidy kind place told = row kind 0 0 0 (place + 8) (from 8 (place - 8) ++ (97 ∷ 98 ∷ 99 ∷ 0 ∷ 0 ∷ 0 ∷ 0 ∷ 0 ∷ [])) (told ++ (is place ∷ is 3 ∷ is 0 ∷ [])) []
 
 -- READ by its format, with what stands behind pid and tid
 abbrev reading : ℕ → ℕ → List ℕ → List Told → Row
@@ -87,8 +98,9 @@ abbrev pub mappings : List Row
 mappings =
     named 10 72
     (at 8 4 ∷ at 12 4 ∷ at 16 8 ∷ at 24 8 ∷ at 32 8 ∷ at 40 4 ∷ at 44 4 ∷ at 48 8 ∷ at 56 8 ∷ is 0 ∷ is 0 ∷ at 64 4 ∷ at 68 4 ∷ [])
-    ∷ row 10 64 0 0 80 (from 8 32 ++ (5 ∷ from 41 31) ++ abc)
+    ∷ flaggedRow 10 64 0 0 80 (from 8 32 ++ (5 ∷ from 41 31) ++ abc)
     (at 8 4 ∷ at 12 4 ∷ at 16 8 ∷ at 24 8 ∷ at 32 8 ∷ is 0 ∷ is 0 ∷ is 0 ∷ is 0 ∷ is 5 ∷ is 44 ∷ at 64 4 ∷ at 68 4 ∷ is 72 ∷ is 3 ∷ [])
+    (is 1 ∷ [])
     (from 41 3 ++ (from 49 15 ++ from 76 4))
     ∷ []
 
@@ -161,6 +173,7 @@ indexed =
       told = is 0 ∷ is 0 ∷ is 0 ∷ is 0 ∷ is 0 ∷ is 0 ∷ is 0 ∷ is 0 ∷ is 0 ∷ is 0  -- identifier to period
           ∷ is 0 ∷ is 0 ∷ is 0 ∷ is 0 ∷ is 0 ∷ is 0 ∷ is 0 ∷ is 0 ∷ is 0 ∷ is 0 ∷ is 0  -- read values, callchain, raw
           ∷ is 2 ∷ at 16 8 ∷ is 24 ∷ [];
+      flag = [];
       trail = [];
       ignored = [];
     }
@@ -181,9 +194,70 @@ trailed =
       size = 72;
       body = from 8 64;
       told = at 8 8 ∷ at 16 8 ∷ [];
+      flag = [];
       trail = at 24 4 ∷ at 28 4 ∷ at 32 8 ∷ at 40 8 ∷ at 48 8 ∷ at 56 4 ∷ at 64 8 ∷ [];
       ignored = from 60 4;
     }
+    ∷ []
+
+-- "whether any byte after the name's zero within its room is not zero" (M-107): names without such a byte, with one in the last place alone, with one
+-- before a trailer, which is no part of the room; a trailer that is not zero behind a name that is clean; and text padding, which is no name
+abbrev pub flags : List Row
+flags =
+    tidy 3 16 (at 8 4 ∷ at 12 4 ∷ [])
+    ∷ tidy 19 16 (at 8 8 ∷ [])
+    ∷ flaggedRow 19 0 0 0 24 (from 8 8 ++ (97 ∷ 0 ∷ 0 ∷ 0 ∷ 0 ∷ 0 ∷ 0 ∷ 9 ∷ [])) (at 8 8 ∷ is 16 ∷ is 1 ∷ []) (is 1 ∷ []) (from 18 6)
+    ∷ row 19 0 0 0 24 (from 8 8 ++ (1 ∷ 2 ∷ 3 ∷ 4 ∷ 5 ∷ 6 ∷ 7 ∷ 0 ∷ [])) (at 8 8 ∷ is 16 ∷ is 7 ∷ is 0 ∷ []) []
+    ∷ timed (97 ∷ 0 ∷ 0 ∷ 0 ∷ 0 ∷ 0 ∷ 0 ∷ 0 ∷ []) []
+    ∷ timed (97 ∷ 0 ∷ 0 ∷ 5 ∷ 0 ∷ 0 ∷ 0 ∷ 0 ∷ []) (is 1 ∷ [])
+    ∷ row 20 0 0 0 32 (from 8 8 ++ (3 ∷ 0 ∷ 2 ∷ 0 ∷ from 20 5 ++ (0 ∷ from 26 6))) (at 8 8 ∷ is 3 ∷ is 2 ∷ is 20 ∷ is 23 ∷ []) (from 25 7)
+    ∷ []
+  where
+    -- CGROUP with a time behind it, that has no zero byte
+    timed : List ℕ → List Told → Row
+    timed name flag =
+        record {
+          kind = 19;
+          high = 0;
+          sample = 4;
+          format = 0;
+          trails = true;
+          user = 0;
+          interrupt = 0;
+          branch = 0;
+          size = 32;
+          body = from 8 8 ++ (name ++ from 24 8);
+          told = at 8 8 ∷ is 16 ∷ is 1 ∷ [];
+          flag = flag;
+          trail = is 0 ∷ is 0 ∷ at 24 8 ∷ [];
+          ignored = from 18 6;
+        }
+
+-- n numbers: those given, then zeros
+abbrev filled : ℕ → List ℕ → List ℕ
+filled zero xs = []
+filled (suc n) [] = 0 ∷ filled n []
+filled (suc n) (x ∷ xs) = x ∷ filled n xs
+
+-- ---- the writer's answers around 43: edition, the words of a CGROUP whose flag is set, with a name of three bytes at a place in a source of eight, room
+
+abbrev flaggedWords : ℕ → ℕ → List ℕ
+flaggedWords place flag = 19 ∷ 0 ∷ 24 ∷ 5 ∷ place ∷ 3 ∷ flag ∷ filled 49 []
+
+-- "with 43, after 24 and before 41": 2, 20, 43 before 41, before 42 (a word that CGROUP does not have is 9) and before 40; any flag but 0; none
+abbrev pub orders : List (ℕ × List ℕ × ℕ × ℕ)
+orders =
+    (0, flaggedWords 0 1, 24, 2)
+    ∷ (1, flaggedWords 0 1, 24, 20)
+    ∷ (3, flaggedWords 0 1, 24, 43)
+    ∷ (3, flaggedWords 6 1, 24, 43)
+    ∷ (3, flaggedWords 6 0, 24, 41)
+    ∷ (3, 19 ∷ 0 ∷ 24 ∷ 5 ∷ 0 ∷ 3 ∷ 1 ∷ 9 ∷ filled 48 [], 24, 43)
+    ∷ (3, 19 ∷ 0 ∷ 24 ∷ 5 ∷ 0 ∷ 3 ∷ 0 ∷ 9 ∷ filled 48 [], 24, 42)
+    ∷ (3, flaggedWords 0 1, 23, 43)
+    ∷ (3, flaggedWords 0 0, 23, 40)
+    ∷ (3, flaggedWords 0 2, 24, 43)
+    ∷ (3, flaggedWords 0 0, 24, 0)
     ∷ []
 
 -- ---- what a row says
@@ -197,15 +271,29 @@ tells xs [] = []
 tells xs (at place k ∷ ts) = spelled k place xs ∷ tells xs ts
 tells xs (is n ∷ ts) = n ∷ tells xs ts
 
--- n numbers: those given, then zeros
-abbrev filled : ℕ → List ℕ → List ℕ
-filled zero xs = []
-filled (suc n) [] = 0 ∷ filled n []
-filled (suc n) (x ∷ xs) = x ∷ filled n xs
+-- 56 words: type, misc, size; 45 of the body; 8 of the trailer. Those that a writer takes have no flag
+abbrev wordsWith : Row → List Told → List ℕ
+wordsWith r told = r .kind ∷ 256 * r .high ∷ r .size ∷ (filled 45 (tells (laid r) told) ++ filled 8 (tells (laid r) (r .trail)))
 
--- 56 words: type, misc, size; 45 of the body; 8 of the trailer
 abbrev pub said : Row → List ℕ
-said r = r .kind ∷ 256 * r .high ∷ r .size ∷ (filled 45 (tells (laid r) (r .told)) ++ filled 8 (tells (laid r) (r .trail)))
+said r = wordsWith r (r .told ++ r .flag)
+
+abbrev pub given : Row → List ℕ
+given r = wordsWith r (r .told)
+
+-- record check's answer, and the writer's to the words as they were read: 44 and 43 where the flag is set
+abbrev flaggedElse : Row → ℕ → ℕ
+flaggedElse r n = by (r .flag)
+  where
+    by : List Told → ℕ
+    by [] = 0
+    by (t ∷ ts) = n
+
+abbrev pub checked : Row → ℕ
+checked r = flaggedElse r 44
+
+abbrev pub rewritten : Row → ℕ
+rewritten r = flaggedElse r 43
 
 -- the bytes from a place on, with zero at the places that are ignored
 abbrev cleared : ℕ → List ℕ → List ℕ → List ℕ

@@ -1,27 +1,29 @@
 -- The writer's answers, as the code finds them. Assumes nothing.
 use mathlib.Core.Path.{_≡_, refl, sym, ap, ap₂, _∙_}
-use Prim.Native.Nat.{ℕ, _-_, _<_, _≤_}
+use Prim.Native.Nat.{ℕ, _+_, _-_, _<_, _≤_}
 use native.Mathlib.Omega.{arith}
-use mathlib.Core.Bool.{Bool, true, false, cond}
+use mathlib.Core.Bool.{Bool, true, false, not, cond}
 use mathlib.Core.List.{List}
 use lib.ListN.{length, take, drop, getD, length-append}
 use lib.Dec.{leb, eqb}
-use borrow.Author.Tests.{eq-eqb, ne-eqb, le-leb, lt-leb}
+use borrow.Author.Tests.{eq-eqb, eqb-true, eqb-false, ne-eqb, not-false, le-leb, lt-leb}
 use Rattle.meaning.specs.declared.Attributes.{Attributes}
 use Rattle.meaning.specs.declared.Item.{Item}
 use Rattle.meaning.specs.Bytes.{put}
 use Rattle.meaning.specs.Editions.{editions, known, allowed, unreadable}
-use Rattle.meaning.specs.Writing.{write}
+use Rattle.meaning.specs.Schema.{schema}
+use Rattle.meaning.specs.Writing.{named, write}
 use Rattle.meaning.specs.Records.{Layout, origin, layout, Value, header, fieldBytes, written, writeRecord, fits}
-use Rattle.meaning.specs.Values.{anyBeyond, slotsTold, meant, spare, writable, writeBy, writeAnswer, writeBuffer, bodyWords, valueWords}
+use Rattle.meaning.specs.Values.{anyBeyond, slotsTold, width, flagTold, meant, spare, flagged, writable, writeBy, writeAnswer, writeBuffer, bodyWords, valueWords}
 use Rattle.laws.specs.Whole.{header-length}
-use Rattle.laws.specs.Answer42.{buffer-kept}
+use Rattle.laws.specs.Answer42.{buffer-kept, flagged-43}
+use Rattle.table.specs.Flags.{flagAt, flag-none, flag-some}
 use Rattle.writer_words.specs.declared.Reached.{Reached}
 use Rattle.writer_words.specs.Tellings.{startAt}
 use Rattle.writer_parts.specs.declared.TypePart.{TypePart}
 use Rattle.writer_parts.specs.Parts.{Lays, itemsFrom, slotsFrom}
 use Rattle.writer_record.specs.Measures.{valueMeant, measured, sizeMeant, bytesMeant}
-use Rattle.writer.specs.Known.{passes, knownAnswer, knownBuffer}
+use Rattle.writer.specs.Known.{flagSet, passes, knownAnswer, knownBuffer}
 use Rattle.writer.specs.Writer.{writeWordsAnswer, writeWordsBuffer}
 
 -- the code's loop over the fields is the test of their slots
@@ -31,6 +33,26 @@ unfolding slotsFrom
 beyond-lays src ws p a kind is first r l e h =
     h ∙ ap (λ (x : List Item). anyBeyond src x (slotsTold x (drop (first .at) ws) (first .n) (first .old))) (l .items)
     ∙ ap (λ (x : Reached). anyBeyond src is (slotsTold is (drop (x .at) ws) (x .n) (x .old))) e
+
+-- ---- the flag
+
+pub flag-is : (ws : List ℕ) (kind misc : ℕ) (a : Attributes) → not (eqb (flagTold (schema kind misc a) ws) 0) ≡ flagSet kind ws
+unfolding flagTold flagSet
+flag-is ws kind misc a = go (eqb (flagAt kind) 0) refl
+  where
+    go : (t : Bool) → eqb (flagAt kind) 0 ≡ t
+        → not (eqb (cond (named (schema kind misc a)) (getD ws (bodyWords + width (schema kind misc a)) 0) 0) 0) ≡ cond t false (not (eqb (getD ws (flagAt kind) 0) 0))
+    go true h = rw (flag-none kind misc a (eqb-true (flagAt kind) 0 h))
+    go false h = let s = flag-some kind misc a (eqb-false (flagAt kind) 0 h) in rw (s .0) (ap (λ (k : ℕ). not (eqb (getD ws k 0) 0)) (sym (s .1)))
+
+-- as the code tests it
+pub set-none : (ws : List ℕ) (kind : ℕ) → flagAt kind ≡ 0 → false ≡ flagSet kind ws
+unfolding flagSet
+set-none ws kind z = rw (eq-eqb (flagAt kind) 0 z)
+
+pub set-some : (ws : List ℕ) (kind at w : ℕ) → at ≡ flagAt kind → (at ≡ 0 → ⊥) → w ≡ getD ws at 0 → not (eqb w 0) ≡ flagSet kind ws
+unfolding flagSet
+set-some ws kind at w e n ew = rw (ne-eqb (flagAt kind) 0 (λ z. n (e ∙ z))) (ap (λ (x : ℕ). not (eqb x 0)) (ew ∙ ap (λ (k : ℕ). getD ws k 0) e))
 
 -- ---- of a type that the edition knows
 
@@ -119,39 +141,55 @@ module _ (e : ℕ) (a : Attributes) (src ws buffer : List ℕ) (fine : allowed e
     pub answers-unknown : (why ≡ 0 → ⊥) → Answered why buffer
     answers-unknown n = (sym (is-unknown n), sym (buffer-kept editions e a src ws buffer (λ z. n (sym (is-unknown n) ∙ z))))
 
-    module _ (z : why ≡ 0) where
-      past-unknown : writeAnswer editions e a src ws (length buffer)
-          ≡ cond (passes src ws a (getD ws 0 0) (getD ws 1 0)) 41 (cond (writable lay src ws) (cond (leb (length (writeRecord lay (meant lay src ws))) (length buffer)) 0 40) 42)
-      unfolding writeAnswer writeBy layout
-      past-unknown = rw (fine, unknown-is, eq-eqb why 0 z)
+    module _ (z : why ≡ 0) (f : Bool) (ef : f ≡ flagSet kind ws) where
+      flagged-is : flagged lay ws ≡ f
+      unfolding flagged layout
+      flagged-is = flag-is ws (getD ws 0 0) (getD ws 1 0) a ∙ ap (λ (k : ℕ). flagSet k ws) (sym eₖ) ∙ sym ef
 
-      -- the size that is measured is the record's, or there is none
-      size-is : sizeMeant src ws a (getD ws 0 0) (getD ws 1 0) ≡ cond (writable lay src ws) (length (writeRecord lay (meant lay src ws))) 0
-      unfolding measured writable spare fits meant valueMeant writeRecord layout
-      size-is =
-          let u : unreadable (known editions e) a (getD ws 0 0) (getD ws 1 0) ≡ 0 = unknown-is ∙ z in
-          rw (eq-eqb (unreadable (known editions e) a (getD ws 0 0) (getD ws 1 0)) 0 u)
+      is-43 : f ≡ true → writeAnswer editions e a src ws (length buffer) ≡ 43
+      is-43 h = flagged-43 editions e a src ws (length buffer) fine (unknown-is ∙ z) (flagged-is ∙ h)
 
-      some : 8 ≤ length (writeRecord lay (meant lay src ws))
-      unfolding writeRecord
-      some = long-enough (lay .body (meant lay src ws .kind) (meant lay src ws .misc)) (lay .trail (meant lay src ws .kind)) (meant lay src ws)
+      pub answers-43 : f ≡ true → Answered 43 buffer
+      answers-43 h = (sym (is-43 h), sym (buffer-kept editions e a src ws buffer (λ q. let p = is-43 h in omega (arith, p, q))))
 
-      answer-is : knownAnswer src ws a kind misc (length buffer) ≡ writeAnswer editions e a src ws (length buffer)
-      unfolding knownAnswer
-      answer-is =
-          ap₂ (λ (x y : ℕ). knownAnswer src ws a x y (length buffer)) eₖ eₘ
-          ∙ ap (λ (n : ℕ). cond (passes src ws a (getD ws 0 0) (getD ws 1 0)) 41 (cond (eqb n 0) 42 (cond (leb n (length buffer)) 0 40))) size-is
-          ∙ ap (λ (n : ℕ). cond (passes src ws a (getD ws 0 0) (getD ws 1 0)) 41 n) (size-test (writable lay src ws) (length (writeRecord lay (meant lay src ws))) (length buffer) some)
-          ∙ sym past-unknown
+      module _ (n : f ≡ false) where
+        past-unknown : writeAnswer editions e a src ws (length buffer)
+            ≡ cond (passes src ws a (getD ws 0 0) (getD ws 1 0)) 41 (cond (writable lay src ws) (cond (leb (length (writeRecord lay (meant lay src ws))) (length buffer)) 0 40) 42)
+        unfolding writeAnswer writeBy layout
+        past-unknown = rw (fine, unknown-is, eq-eqb why 0 z, flagged-is, n)
 
-      bytes-are : bytesMeant src ws a kind misc ≡ writeRecord lay (meant lay src ws)
-      unfolding meant valueMeant writeRecord layout
-      bytes-are = ap₂ (λ (x y : ℕ). bytesMeant src ws a x y) eₖ eₘ
+        clean : eqb (flagTold (schema (getD ws 0 0) (getD ws 1 0) a) ws) 0 ≡ true
+        unfolding flagged layout
+        clean = not-false (eqb (flagTold (schema (getD ws 0 0) (getD ws 1 0) a) ws) 0) (flagged-is ∙ n)
 
-      pub answers-known : (r : ℕ) (b : List ℕ) → Known src ws buffer a kind misc r b → Answered r b
-      unfolding knownBuffer writeBuffer
-      answers-known r b k =
-          (k .0 ∙ answer-is, k .1 ∙ ap₂ (λ (n : ℕ) (l : List ℕ). cond (eqb n 0) (put buffer 0 l) buffer) answer-is bytes-are)
+        -- the size that is measured is the record's, or there is none
+        size-is : sizeMeant src ws a (getD ws 0 0) (getD ws 1 0) ≡ cond (writable lay src ws) (length (writeRecord lay (meant lay src ws))) 0
+        unfolding measured writable spare fits meant valueMeant writeRecord layout
+        size-is =
+            let u : unreadable (known editions e) a (getD ws 0 0) (getD ws 1 0) ≡ 0 = unknown-is ∙ z in
+            let g : eqb (flagTold (schema (getD ws 0 0) (getD ws 1 0) a) ws) 0 ≡ true = clean in
+            rw (eq-eqb (unreadable (known editions e) a (getD ws 0 0) (getD ws 1 0)) 0 u, g)
+
+        some : 8 ≤ length (writeRecord lay (meant lay src ws))
+        unfolding writeRecord
+        some = long-enough (lay .body (meant lay src ws .kind) (meant lay src ws .misc)) (lay .trail (meant lay src ws .kind)) (meant lay src ws)
+
+        answer-is : knownAnswer src ws a kind misc (length buffer) ≡ writeAnswer editions e a src ws (length buffer)
+        unfolding knownAnswer
+        answer-is =
+            ap₂ (λ (x y : ℕ). knownAnswer src ws a x y (length buffer)) eₖ eₘ
+            ∙ ap (λ (n : ℕ). cond (passes src ws a (getD ws 0 0) (getD ws 1 0)) 41 (cond (eqb n 0) 42 (cond (leb n (length buffer)) 0 40))) size-is
+            ∙ ap (λ (n : ℕ). cond (passes src ws a (getD ws 0 0) (getD ws 1 0)) 41 n) (size-test (writable lay src ws) (length (writeRecord lay (meant lay src ws))) (length buffer) some)
+            ∙ sym past-unknown
+
+        bytes-are : bytesMeant src ws a kind misc ≡ writeRecord lay (meant lay src ws)
+        unfolding meant valueMeant writeRecord layout
+        bytes-are = ap₂ (λ (x y : ℕ). bytesMeant src ws a x y) eₖ eₘ
+
+        pub answers-known : (r : ℕ) (b : List ℕ) → Known src ws buffer a kind misc r b → Answered r b
+        unfolding knownBuffer writeBuffer
+        answers-known r b k =
+            (k .0 ∙ answer-is, k .1 ∙ ap₂ (λ (n : ℕ) (l : List ℕ). cond (eqb n 0) (put buffer 0 l) buffer) answer-is bytes-are)
 
 -- ---- of words that a caller lends
 

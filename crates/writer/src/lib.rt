@@ -5,7 +5,7 @@ ghost use mathlib.Core.Bool.{true};
 ghost use lib.ListN.{length, getD};
 ghost use Rattle.meaning.specs.Editions.{editions, allowed};
 ghost use Rattle.meaning.specs.Values.{writeAnswer, writeBuffer};
-ghost use Rattle.writer.specs.Known.{knownAnswer, knownBuffer};
+ghost use Rattle.writer.specs.Known.{flagSet, knownAnswer, knownBuffer};
 ghost use Rattle.writer.specs.Writer.{writeWordsAnswer, writeWordsBuffer};
 use meaning::Attributes;
 
@@ -43,7 +43,18 @@ fn write_known(
     0
 }
 
-// "Writer, in this order: 2; 20 to 24; 41 ..; 42 ..; 40", with 25 between 23 and 24 (M-102): from 20 on. A word past the lent ones counts as 0.
+// "The writer refuses a value with the flag set with 43" (M-107): the flag's word, of a type that has a name, is not 0.
+fn flag_set(ws: &[u64], kind: u64) -> bool
+    ensures { λ r. ⌜ r ≡ flagSet kind (now (ws .entry)) ⌝ }
+{
+    let at = table::flag_at(kind);
+    if at == 0 {
+        return false;
+    }
+    writer_words::word(ws, at) != 0
+}
+
+// "Writer, in this order: 2; 20 to 24; 41 ..; 42 ..; 40", with 25 between 23 and 24 (M-102) and 43 "after 24 and before 41": from 20 on. A word past the lent ones counts as 0.
 fn write_value(ws: &[u64], source: &[u8], e: u64, a: Attributes, buffer: &mut [u8]) -> u16
     requires { ⌜ allowed editions e ≡ true ⌝ }
     ensures { λ r. ⌜ r ≡ writeAnswer editions e a (now (source .entry)) (now (ws .entry)) (length (now (buffer .entry))) ⌝ }
@@ -54,6 +65,9 @@ fn write_value(ws: &[u64], source: &[u8], e: u64, a: Attributes, buffer: &mut [u
     let why = record::unreadable(record::edition(e), a, kind, misc);
     if why != 0 {
         return why;
+    }
+    if flag_set(ws, kind) {
+        return 43;
     }
     write_known(ws, source, a, kind, misc, buffer)
 }

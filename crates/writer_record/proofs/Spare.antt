@@ -12,13 +12,17 @@ use borrow.Author.Tests.{leb-true, leb-false, eq-eqb, ne-eqb}
 use Rattle.meaning.specs.declared.Attributes.{Attributes}
 use Rattle.meaning.specs.declared.Item.{Item}
 use Rattle.meaning.specs.Bytes.{allZero}
-use Rattle.meaning.specs.Schema.{trailer}
-use Rattle.meaning.specs.Values.{tell, wordsOf, width, spareBy, bodyWords, trailWords, valueWords}
+use Rattle.meaning.specs.Schema.{schema, trailer}
+use Rattle.meaning.specs.Writing.{named}
+use Rattle.meaning.specs.Values.{tell, wordsOf, width, flagWords, bodyWidth, spareBy, bodyWords, trailWords, valueWords}
 use Rattle.laws.specs.Bytes.{take-length-by}
+use Rattle.laws.specs.Told.{fields-few}
+use Rattle.table.specs.Flags.{flagAt, flag-none, flag-some}
 use Rattle.table.specs.Rows.{rows, allRows}
 use Rattle.writer_parts.specs.declared.TypePart.{TypePart}
-use Rattle.writer_parts.specs.Parts.{itemHere, itemsFrom}
+use Rattle.writer_parts.specs.Parts.{itemHere, itemsFrom, partItems, Lays}
 use Rattle.writer_parts.specs.Turns.{items-next, items-over}
+use Rattle.writer_record.specs.Measures.{Fields}
 
 -- ---- how many words
 
@@ -90,9 +94,39 @@ all-and (x ∷ xs) ys = go (eqb x 0) (all-and xs ys)
 abbrev pub freeWord : ℕ
 freeWord = 55
 
-pub spare-is : (is : List Item) (kind : ℕ) (a : Attributes) (ws : List ℕ) (n : ℕ) (x y : Bool) → n ≡ bodyWords + width is
+pub spare-is : (is : List Item) (kind : ℕ) (a : Attributes) (ws : List ℕ) (n : ℕ) (x y : Bool) → n ≡ bodyWords + bodyWidth is
     → x ≡ allZero (drop n (take trailWords ws)) → y ≡ allZero (drop freeWord (take valueWords ws)) → x && y ≡ allZero (spareBy is (trailer kind a) ws)
 unfolding spareBy width tell
 spare-is is kind a ws n x y e p q =
     ap₂ (λ (b d : Bool). b && d) (p ∙ ap (λ (k : ℕ). allZero (drop k (take trailWords ws))) e) q
-    ∙ sym (all-and (drop (bodyWords + width is) (take trailWords ws)) (drop freeWord (take valueWords ws)))
+    ∙ sym (all-and (drop (bodyWords + bodyWidth is) (take trailWords ws)) (drop freeWord (take valueWords ws)))
+
+-- ---- where a type's own words end
+
+pub fields-of : (p : TypePart) (a : Attributes) (kind misc : ℕ) → Lays p a kind (schema kind misc a) → Fields p
+fields-of p a kind misc l = record { misc = misc; items-are = l .items ∙ ap₂ (λ (k : ℕ) (b : Attributes). schema k misc b) (sym (l .kind)) (sym (l .attributes)) }
+
+module _ (p : TypePart) (f : Fields p) where
+  abbrev own : List Item
+  own = partItems p
+
+  named-is : (b : Bool) → named (schema (p .kind) (f .misc) (p .attributes)) ≡ b → named own ≡ b
+  named-is b h = ap named (f .items-are) ∙ h
+
+  pub end-none : (n : ℕ) → flagAt (p .kind) ≡ 0 → n ≡ bodyWords + width own → n ≡ bodyWords + bodyWidth own
+  unfolding flagWords
+  end-none n z e = rw (named-is false (flag-none (p .kind) (f .misc) (p .attributes) z)) (let q : n ≡ bodyWords + (width own + 0) = omega (arith, e) in q)
+
+  pub end-some : (n : ℕ) → n ≡ flagAt (p .kind) → (n ≡ 0 → ⊥) → n + 1 ≡ bodyWords + bodyWidth own
+  unfolding flagWords
+  end-some n e z =
+      let s = flag-some (p .kind) (f .misc) (p .attributes) (λ q. z (e ∙ q)) in
+      let w = ap width (f .items-are) in
+      let a = s .1 in
+      rw (named-is true (s .0)) (let q : n + 1 ≡ bodyWords + (width own + 1) = omega (arith, e, a, w) in q)
+
+  pub end-few : (n : ℕ) → n ≡ flagAt (p .kind) → (n ≡ 0 → ⊥) → n ≤ 48
+  end-few n e z =
+      let s = flag-some (p .kind) (f .misc) (p .attributes) (λ q. z (e ∙ q)) .1 in
+      let h = fields-few (p .kind) (f .misc) (p .attributes) in
+      omega (arith, e, s, h)

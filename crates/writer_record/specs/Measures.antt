@@ -10,7 +10,9 @@ use Rattle.meaning.specs.declared.Item.{Item}
 use Rattle.meaning.specs.Bytes.{allZero}
 use Rattle.meaning.specs.Schema.{schema, trailer}
 use Rattle.meaning.specs.Records.{Value, written, fitsBy}
-use Rattle.meaning.specs.Values.{means, anyBeyond, slotsTold, spareBy, bodyWords, trailWords}
+use Rattle.meaning.specs.Values.{means, anyBeyond, slotsTold, flagTold, spareBy, bodyWords, trailWords}
+use Rattle.writer_parts.specs.declared.TypePart.{TypePart}
+use Rattle.writer_parts.specs.Parts.{partItems}
 
 unfoldable pub valueMeant : List Item → List Item → List ℕ → List ℕ → Value
 valueMeant is ts src ws = record {
@@ -19,11 +21,17 @@ valueMeant is ts src ws = record {
   size = getD ws 2 0;
   body = means src is (slotsTold is (drop bodyWords ws) 0 0);
   tail = means src ts (slotsTold ts (drop trailWords ws) 0 0);
+  flag = flagTold is ws;
 }
 
 -- the size of the record that the words tell; 0 where there is none
 unfoldable pub measured : List Item → List Item → List ℕ → List ℕ → ℕ
 measured is ts src ws = cond (allZero (spareBy is ts ws) && fitsBy is ts (valueMeant is ts src ws)) (length (written is ts (valueMeant is ts src ws))) 0
+
+-- a part that holds the fields of its type, for some misc
+pub record Fields (p : TypePart) : Type 0 where
+  pub misc : ℕ
+  pub items-are : partItems p ≡ schema (p .kind) misc (p .attributes)
 
 -- kind and misc are the words' own, and no selected list or name of that type passes the source's end
 abbrev pub Inside : List ℕ → List ℕ → Attributes → ℕ → ℕ → Type 0

@@ -6,10 +6,10 @@ ghost use Prim.Native.Nat.{_+_, _≤_, _<_};
 ghost use lib.ListN.{length, take, drop};
 ghost use Rattle.meaning.specs.Bytes.{allZero, spell, put};
 ghost use Rattle.meaning.specs.Schema.{trailer};
-ghost use Rattle.meaning.specs.Values.{spareBy, width, trailWords};
+ghost use Rattle.meaning.specs.Values.{spareBy, width, bodyWidth, bodyWords, trailWords};
 ghost use Rattle.table.specs.Rows.{allRows};
 ghost use Rattle.writer_parts.specs.Parts.{partItems};
-ghost use Rattle.writer_record.specs.Measures.{Inside, sizeMeant, bytesMeant};
+ghost use Rattle.writer_record.specs.Measures.{Fields, Inside, sizeMeant, bytesMeant};
 use meaning::Attributes;
 use writer_parts::TypePart;
 
@@ -43,12 +43,24 @@ fn zero_between(ws: &[u64], from: usize, to: usize) -> bool
     true
 }
 
-// Every word that no item of the type has is 0: the trailer has seven words, and one is kept free.
+// The words before the end of a type's own: the flag of a name follows its fields.
+fn body_end(p: TypePart) -> usize
+    requires { ⌜ (p .from ≤ p .to) × (p .to ≤ allRows) × Fields p ⌝ }
+    ensures { λ r. ⌜ r ≡ bodyWords + bodyWidth (partItems p) ⌝ }
+{
+    let flag = table::flag_at(p.kind);
+    if flag == 0 {
+        return words_end(p, writer_words::BODY_WORDS);
+    }
+    flag + 1
+}
+
+// Every word that the type does not have is 0: the trailer has seven words, and one is kept free.
 fn spare_zero(ws: &[u64], p: TypePart) -> bool
-    requires { ⌜ (p .from ≤ p .to) × (p .to ≤ allRows) ⌝ }
+    requires { ⌜ (p .from ≤ p .to) × (p .to ≤ allRows) × Fields p ⌝ }
     ensures { λ r. ⌜ r ≡ allZero (spareBy (partItems p) (trailer (p .kind) (p .attributes)) (now (ws .entry))) ⌝ }
 {
-    let own = words_end(p, writer_words::BODY_WORDS);
+    let own = body_end(p);
     let between = zero_between(ws, own, writer_words::TRAIL_WORDS);
     between & zero_between(ws, writer_words::FREE_WORD, writer_words::VALUE_WORDS)
 }

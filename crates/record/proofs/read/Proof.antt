@@ -2,13 +2,14 @@
 use mathlib.Core.Path.{sym, _∙_}
 use denote.Ref.{now}
 use Rattle.meaning.specs.Editions.{editions}
-use Rattle.record.proofs.Readers.{check-accepts, read-accepted, read-refused}
+use Rattle.record.specs.Same.{accepted}
+use Rattle.record.proofs.Readers.{read-accepted, read-refused}
 use borrow.Author.Needs.{needs}
 use Rattle.record.proofs.read.Statement.{statement}
 use Rattle.record.proofs.read.Tie as tie
 
 of-record-requires : tie.Need-of-record-requires
-of-record-requires c κs = let a = c .before .before .before .args in check-accepts editions (a .e) (a .a) (now (a .r)) (sym (c .before .check .ensures) ∙ c .if1 .taken)
+of-record-requires c κs = let a = c .before .before .before .args in accepted editions (a .e) (a .a) (now (a .r)) (sym (c .before .check .ensures) ∙ c .if1 .taken)
 
 returns : tie.Need-returns
 returns c = let a = c .before .before .before .before .args in read-accepted editions (a .e) (a .a) (now (a .r)) _ (c .before .before .check .ensures) _ (c .before .if1 .taken) (c .of-record .ensures)

@@ -2,7 +2,8 @@
 use mathlib.Core.Path.{sym, _∙_}
 use denote.Ref.{now}
 use Rattle.meaning.specs.Editions.{editions}
-use Rattle.record.proofs.Readers.{check-accepts, into-refused, into-short, into-filled}
+use Rattle.record.specs.Same.{accepted}
+use Rattle.record.proofs.Readers.{into-refused, into-short, into-filled}
 use borrow.Author.Needs.{needs}
 use Rattle.record.proofs.read_into.Statement.{statement}
 use Rattle.record.proofs.read_into.Tie as tie
@@ -14,7 +15,7 @@ returns-2 : tie.Need-returns-2
 returns-2 c = let a = c .before .before .before .before .before .args in into-short editions (a .e) (a .a) (now (a .r)) _ (c .before .before .check .ensures) (now (a .words)) (c .before .if1 .left) (c .if2 .taken)
 
 of-record-requires : tie.Need-of-record-requires
-of-record-requires c κs = let a = c .before .before .before .before .before .args in check-accepts editions (a .e) (a .a) (now (a .r)) (sym (c .before .before .check .ensures) ∙ c .before .if1 .left)
+of-record-requires c κs = let a = c .before .before .before .before .before .args in accepted editions (a .e) (a .a) (now (a .r)) (sym (c .before .before .check .ensures) ∙ c .before .if1 .left)
 
 returns-3 : tie.Need-returns-3
 returns-3 c =

@@ -1,9 +1,9 @@
--- `writer::write_value` meets its contract: rows 20 to 25 by the words' type and misc, and past them the answers of a type that is known. Assumes nothing.
+-- `writer::write_value` meets its contract: rows 20 to 25 by the words' type and misc, then 43, and past them the answers of a type that is known. Assumes nothing.
 use denote.Ref.{now}
 use mathlib.Core.Path.{_≡_, ap, _∙_}
 use Rattle.meaning.specs.declared.Known.{Known}
 use Rattle.meaning.specs.Editions.{editions, known, unreadable}
-use Rattle.writer.proofs.Answers.{answers-unknown, answers-known}
+use Rattle.writer.proofs.Answers.{answers-unknown, answers-43, answers-known}
 use borrow.Author.Needs.{needs}
 use Rattle.writer.proofs.write_value.Statement.{statement}
 use Rattle.writer.proofs.write_value.Tie as tie
@@ -21,11 +21,20 @@ returns c =
 
 returns-2 : tie.Need-returns-2
 returns-2 c =
-    let s = c .before .before .before .before .before .before .before .before .before .before .before .before in
+    let b = c .before .before .before in
+    let s = b .before .before .before .before .before .before .before in
     let a = s .args in
-    let b = c .before .before .before .before .before in
+    answers-43 (a .e) (a .a) (now (a .source)) (now (a .ws)) (now (a .buffer)) (s .pre) (b .before .before .before .word .result) (b .before .before .word2 .result)
+    (b .before .before .before .word .ensures) (b .before .before .word2 .ensures) (b .unreadable .result) (why-is b) (c .before .before .if1 .left) (c .before .flag-set .result) (c .before .flag-set .ensures) (c .if2 .taken)
+
+returns-3 : tie.Need-returns-3
+returns-3 c =
+    let f = c .before .before .before .before .before in
+    let b = f .before .before in
+    let s = b .before .before .before .before .before .before .before in
+    let a = s .args in
     answers-known (a .e) (a .a) (now (a .source)) (now (a .ws)) (now (a .buffer)) (s .pre) (b .before .before .before .word .result) (b .before .before .word2 .result)
-    (b .before .before .before .word .ensures) (b .before .before .word2 .ensures) (b .unreadable .result) (why-is b) (c .before .before .before .before .if1 .left) _ _ (c .before .before .write-known .ensures)
+    (b .before .before .before .word .ensures) (b .before .before .word2 .ensures) (b .unreadable .result) (why-is b) (f .before .if1 .left) (f .flag-set .result) (f .flag-set .ensures) (c .before .before .before .before .if2 .left) _ _ (c .before .before .write-known .ensures)
 
 pub write-value-spec : {M : Type 1} → statement M
 write-value-spec =
@@ -37,5 +46,7 @@ write-value-spec =
     (λ c κs. search needs)
     returns
     (λ c κs. search needs)
+    returns-2
+    (λ c κs. search needs)
     (λ c. search needs)
-    returns-2)
+    returns-3)

@@ -11,6 +11,7 @@ use Rattle.meaning.specs.Values.{bodyWords, trailWords}
 use Rattle.writer_words.specs.declared.Reached.{Reached}
 use Rattle.writer_words.specs.Tellings.{startAt}
 use Rattle.writer_parts.specs.Parts.{tryItems, slotsFrom}
+use Rattle.writer_record.proofs.Spare.{fields-of}
 use Rattle.writer_record.proofs.Measuring.{tried-lays, tried-most, spare-lays, bad-body, bad-tail, measured-yes, measured-no}
 use borrow.Author.Needs.{needs}
 use Rattle.writer_record.proofs.measure.Statement.{statement}
@@ -67,7 +68,7 @@ returns-2 c =
     (c .before .before .before .before .before .before .try-all .result) (first-is (c .before .before .before .before .before .before)) (c .before .before .before .before .before .if1 .left) (c .before .try-all2 .result) (second-is (c .before)) (c .if2 .taken)
 
 spare-zero-requires : tie.Need-spare-zero-requires
-spare-zero-requires c κs = let b = c .before .before .before .before .before .before .before .before .before .before .body .ensures in (b .ordered, b .within)
+spare-zero-requires c κs = let b = c .before .before .before .before .before .before .before .before .before .before .body .ensures in let a = c .before .before .before .before .before .before .before .before .before .before .before .before .before .args in (b .ordered, b .within, fields-of _ (a .attributes) (a .kind) (a .misc) b)
 
 returns-3 : tie.Need-returns-3
 returns-3 c =

@@ -1,4 +1,4 @@
--- `writer_record::spare_zero` meets its contract: the words after the fields' and the one after the trailer's are those that no item has. Assumes nothing.
+-- `writer_record::spare_zero` meets its contract: the words after the body's and the one after the trailer's are those that the type does not have. Assumes nothing.
 use denote.Ref.{now}
 use Rattle.writer_parts.specs.Parts.{itemsFrom}
 use Rattle.writer_record.proofs.Spare.{spare-is}
@@ -9,7 +9,7 @@ use Rattle.writer_record.proofs.spare_zero.Tie as tie
 returns : tie.Need-returns
 returns c =
     let a = c .before .before .before .before .args in
-    spare-is (itemsFrom (a .p) (a .p .from)) (a .p .kind) (a .p .attributes) (now (a .ws)) (c .before .before .words-end .result) _ _ (c .before .before .words-end .ensures) (c .before .zero-between .ensures) (c .zero-between2 .ensures)
+    spare-is (itemsFrom (a .p) (a .p .from)) (a .p .kind) (a .p .attributes) (now (a .ws)) (c .before .before .body-end .result) _ _ (c .before .before .body-end .ensures) (c .before .zero-between .ensures) (c .zero-between2 .ensures)
 
 pub spare-zero-spec : {M : Type 1} → statement M
 spare-zero-spec =
