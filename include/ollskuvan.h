@@ -16,7 +16,7 @@
  * handler, as long as no slice that one call writes is lent to another. A ring
  * has one reader: two threads that drain it from one tail take the same records.
  *
- * Stack: no call needs more than 2,048 bytes, its return address and what it
+ * Stack: no call needs more than 2,560 bytes, its return address and what it
  * calls included (measured on a painted stack); besides its own code it calls
  * the C library's memcpy and memset alone. No function calls itself, so no input
  * makes it more.
