@@ -15,6 +15,7 @@
  *   TIME CPU out WORD WORD            the same, but the record that the second is in is missing
  *   TIME CPU in WORD WORD             the second is switched in after the first, whose own record is missing
  *   TIME CPU name WORD                its name
+ *   TIME CPU dirty WORD               its name, with bytes that are not zero after the name's zero
  *   TIME CPU exit WORD                its end
  *   TIME CPU lost COUNT               so many records were lost
  *   TIME CPU damaged                  a switch that is too short
@@ -122,6 +123,15 @@ static void add_name(struct scene *s, const struct moment *m)
     add(s, m, fields, 8 + (length / 8 + 1) * 8, m->who->name);
 }
 
+/* The writer writes zeros after a name: here they are made stale bytes, up to the trailer. */
+static void add_dirty_name(struct scene *s, const struct moment *m)
+{
+    struct ring *ring = &s->rings[m->cpu];
+    size_t name = ring->used + 16, length = strlen(m->who->name);
+    add_name(s, m);
+    memset(ring->bytes + name + length + 1, 'x', 7 - length % 8);
+}
+
 static void add_exit(struct scene *s, const struct moment *m)
 {
     uint64_t fields[OLLSKUVAN_FIELDS] = { [OLLSKUVAN_TYPE] = OLLSKUVAN_TYPE_EXIT, [OLLSKUVAN_EXIT_PID] = m->who->pid,
@@ -196,6 +206,9 @@ static bool add_one(struct scene *s, struct moment *m, const char *what, const c
     } else if (actor != NULL && strcmp(what, "name") == 0) {
         m->who = actor;
         add_name(s, m);
+    } else if (actor != NULL && strcmp(what, "dirty") == 0) {
+        m->who = actor;
+        add_dirty_name(s, m);
     } else if (actor != NULL && strcmp(what, "exit") == 0) {
         m->who = actor;
         add_exit(s, m);

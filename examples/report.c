@@ -164,6 +164,13 @@ static void print_build_id(const struct page *p, const struct event *e)
     print_apart(p, line);
 }
 
+/* The name is sound; the kernel left something behind it. */
+static void print_stale(const struct page *p, const struct event *e)
+{
+    if (e->stale)
+        print_apart(p, "(a dirty name: stale bytes after its zero)");
+}
+
 static void print_table(const struct page *p)
 {
     print_row(p, "time ms", "cpu", "what", "who", "how");
@@ -177,6 +184,7 @@ static void print_table(const struct page *p)
         const char *what = describe(detail, p->story, e);
         print_row(p, time, cpu, what, who_in_words(who, &e->who), detail);
         print_build_id(p, e);
+        print_stale(p, e);
         progress("writing the table", i, p->story->event_count);
     }
 }
@@ -194,6 +202,11 @@ static void print_source(const struct page *p, const struct source *s)
         plural(s->records, "record", "records"), (unsigned long long)s->bytes, plural(s->bytes, "byte", "bytes"),
         (unsigned long long)s->refused, (unsigned long long)s->lost);
     print_sentence(p->out, p->columns, 2, text);
+    if (s->stale != 0) {
+        snprintf(text, sizeof text, "%llu dirty %s: stale bytes were left after %s zero", (unsigned long long)s->stale,
+            plural(s->stale, "name", "names"), plural(s->stale, "its", "their"));
+        print_sentence(p->out, p->columns, 2, text);
+    }
     if (s->stop != OLLSKUVAN_STOP_NOTHING) {
         fprintf(p->out, "  NOT READ TO ITS END: stop %u at tail %llu\n", s->stop, (unsigned long long)s->stop_tail);
         fprintf(p->out, "  (%s)\n", ollskuvan_stop_text(s->stop));

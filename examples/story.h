@@ -45,6 +45,7 @@ struct event {
     uint64_t number;    /* of NAME, FORK, EXIT and MAPPED: the id of the event that wrote it */
     bool numbered;      /* it has that id */
     bool twice;         /* FORK, EXIT: another event told of it too, and that is left out */
+    bool stale;         /* its name has stale bytes after its zero */
     const char *text;   /* NULL: none, or too long to be shown */
     uint64_t text_bytes;
     uint8_t build_id[20], build_id_bytes;
@@ -99,6 +100,7 @@ struct source {
     struct event_table table; /* count 0: the attributes serve */
     size_t length;
     uint64_t records, refused, bytes, lost, switches;
+    uint64_t stale;       /* records that have stale bytes after their name */
     uint32_t stop;        /* of the drain that did not reach the head, else of the last one */
     uint64_t stop_tail;
     bool full;            /* what came after its last record is not known */

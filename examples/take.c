@@ -33,11 +33,13 @@ static struct whom whom(uint64_t pid, uint64_t tid)
 
 /* ---- the parts of a record ---- */
 
-static void take_name(struct reading *r, uint64_t place, uint64_t count, size_t room)
+static void take_name(struct reading *r, uint64_t place, uint64_t count, uint64_t flag, size_t room)
 {
     uint8_t buffer[FILE_NAME_ROOM];
     uint32_t answer = ollskuvan_copy_name(r->record, r->size, place, count, buffer, room);
     r->event->text_bytes = count;
+    r->event->stale = flag != 0;
+    r->source->stale += flag != 0;
     if (answer == OLLSKUVAN_OK) /* else it is said to be too long, never cut */
         r->event->text = story_keep(r->story, (const char *)buffer);
 }
@@ -117,7 +119,7 @@ static void take_comm(struct reading *r)
     e->kind = EVENT_NAME;
     e->flag = means(r, OLLSKUVAN_MEANS_EXEC);
     e->who = whom(f[OLLSKUVAN_COMM_PID], f[OLLSKUVAN_COMM_TID]);
-    take_name(r, f[OLLSKUVAN_COMM_NAME], f[OLLSKUVAN_COMM_NAME_COUNT], THREAD_NAME_ROOM);
+    take_name(r, f[OLLSKUVAN_COMM_NAME], f[OLLSKUVAN_COMM_NAME_COUNT], f[OLLSKUVAN_COMM_NAME_FLAG], THREAD_NAME_ROOM);
     e->numbered = trailer_id(r, &e->number);
 }
 
@@ -140,7 +142,7 @@ static void take_mmap(struct reading *r)
     r->event->numbered = trailer_id(r, &r->event->number);
     r->event->flag = means(r, OLLSKUVAN_MEANS_DATA_MAPPING);
     r->event->who = whom(f[OLLSKUVAN_MMAP_PID], f[OLLSKUVAN_MMAP_TID]);
-    take_name(r, f[OLLSKUVAN_MMAP_NAME], f[OLLSKUVAN_MMAP_NAME_COUNT], FILE_NAME_ROOM);
+    take_name(r, f[OLLSKUVAN_MMAP_NAME], f[OLLSKUVAN_MMAP_NAME_COUNT], f[OLLSKUVAN_MMAP_NAME_FLAG], FILE_NAME_ROOM);
 }
 
 static void take_build_id(struct reading *r)
@@ -159,7 +161,7 @@ static void take_mmap2(struct reading *r)
     r->event->numbered = trailer_id(r, &r->event->number);
     r->event->flag = means(r, OLLSKUVAN_MEANS_DATA_MAPPING);
     r->event->who = whom(f[OLLSKUVAN_MMAP2_PID], f[OLLSKUVAN_MMAP2_TID]);
-    take_name(r, f[OLLSKUVAN_MMAP2_NAME], f[OLLSKUVAN_MMAP2_NAME_COUNT], FILE_NAME_ROOM);
+    take_name(r, f[OLLSKUVAN_MMAP2_NAME], f[OLLSKUVAN_MMAP2_NAME_COUNT], f[OLLSKUVAN_MMAP2_NAME_FLAG], FILE_NAME_ROOM);
     if (means(r, OLLSKUVAN_MEANS_BUILD_ID))
         take_build_id(r);
 }
@@ -205,10 +207,12 @@ static void take_body(struct reading *r)
         take_lost(r, f[OLLSKUVAN_LOST_SAMPLES_LOST]);
         break;
     case OLLSKUVAN_TYPE_KSYMBOL:
-        take_name(r, f[OLLSKUVAN_KSYMBOL_NAME], f[OLLSKUVAN_KSYMBOL_NAME_COUNT], FILE_NAME_ROOM);
+        take_name(r, f[OLLSKUVAN_KSYMBOL_NAME], f[OLLSKUVAN_KSYMBOL_NAME_COUNT], f[OLLSKUVAN_KSYMBOL_NAME_FLAG],
+            FILE_NAME_ROOM);
         break;
     case OLLSKUVAN_TYPE_CGROUP:
-        take_name(r, f[OLLSKUVAN_CGROUP_NAME], f[OLLSKUVAN_CGROUP_NAME_COUNT], FILE_NAME_ROOM);
+        take_name(r, f[OLLSKUVAN_CGROUP_NAME], f[OLLSKUVAN_CGROUP_NAME_COUNT], f[OLLSKUVAN_CGROUP_NAME_FLAG],
+            FILE_NAME_ROOM);
         break;
     case OLLSKUVAN_TYPE_READ:
         r->event->who = whom(f[OLLSKUVAN_READ_PID], f[OLLSKUVAN_READ_TID]);

@@ -17,7 +17,7 @@
  * that drain a ring from one tail take the same records; two readers of one ring
  * keep a tail each, and ollskuvan_publish tells which one the kernel gets.
  *
- * Stack: no call needs more than 2,048 bytes, its return address and what it
+ * Stack: no call needs more than 2,560 bytes, its return address and what it
  * calls included (measured on a painted stack); besides its own code it calls
  * the C library's memcpy and memset alone. No function calls itself, so no input
  * makes it more.

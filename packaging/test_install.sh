@@ -14,10 +14,10 @@ tmp=$(mktemp -d) || exit 2
 trap 'rm -rf "$tmp"' EXIT
 
 # ---- the manual page says what the header says
-numbers() { grep -oE '^#define OLLSKUVAN_(STOP|REFUSED)_[A-Z_]+ [0-9]+u' "$root/include/ollskuvan.h" | grep -E "_$1_" | sed 's/.* \([0-9]*\)u/\1/' | sort -un; }
+numbers() { grep -oE '^#define OLLSKUVAN_(STOP|REFUSED|DIRTY)_[A-Z_]+ [0-9]+u' "$root/include/ollskuvan.h" | grep -E "_($1)_" | sed 's/.* \([0-9]*\)u/\1/' | sort -un; }
 page() { awk -v want="$1" '/^\.SS / { on = index($0, want) } on && /^[0-9]+\t/ { print $1 }' "$here/ollskuvan.3" | sort -un; }
 [ "$(numbers STOP)" = "$(page 'Why a drain stopped')" ] || wrong "the page's stops are not the header's"
-[ "$(numbers REFUSED)" = "$(page 'Why a record')" ] || wrong "the page's refusals are not the header's"
+[ "$(numbers 'REFUSED|DIRTY')" = "$(page 'Why a record')" ] || wrong "the page's refusals, and 44, are not the header's"
 for call in $(grep -oE 'ollskuvan_[a-z_]+\(' "$root/include/ollskuvan.h" | tr -d '(' | sort -u); do
   grep -q "$call" "$here/ollskuvan.3" || wrong "the page does not name $call"
 done
@@ -86,7 +86,19 @@ env -u MAKEFLAGS -u MAKEOVERRIDES -u OLLSKUVAN_CFLAGS -u OLLSKUVAN_LIBS make -s 
 cmp -s "$tmp/report" "$root/examples/expected/kiln.txt" || wrong "the installed library gives another report"
 
 # ---- the header from other languages' compilers
-printf '#include <ollskuvan.h>\nint main(void) { return ollskuvan_check(0, 0, 0, 0, 0, 0, 0, 0, OLLSKUVAN_EDITION_3) == OLLSKUVAN_REFUSED_LENGTH && ollskuvan_type_name(9)[0] == 83 ? 0 : 1; }\n' >"$tmp/one.c"
+cat >"$tmp/one.c" <<'ONE'
+#include <ollskuvan.h>
+/* a COMM without a name; behind the name's zero a byte that is not zero */
+static const uint8_t dirty[24] = { OLLSKUVAN_TYPE_COMM, 0, 0, 0, 0, 0, 24, 0, 0, 0, 0, 0, 0, 0, 0, 0, 0, 1 };
+int main(void)
+{
+    uint64_t fields[OLLSKUVAN_FIELDS];
+    return ollskuvan_check(0, 0, 0, 0, 0, 0, 0, 0, OLLSKUVAN_EDITION_3) == OLLSKUVAN_REFUSED_LENGTH &&
+        ollskuvan_check(dirty, sizeof dirty, 0, 0, 0, 0, 0, 0, OLLSKUVAN_EDITION_3) == OLLSKUVAN_DIRTY_NAME &&
+        ollskuvan_read(dirty, sizeof dirty, 0, 0, 0, 0, 0, 0, OLLSKUVAN_EDITION_3, fields, OLLSKUVAN_FIELDS) == OLLSKUVAN_OK &&
+        fields[OLLSKUVAN_COMM_NAME_FLAG] == 1 && ollskuvan_type_name(9)[0] == 'S' ? 0 : 1;
+}
+ONE
 cp "$tmp/one.c" "$tmp/one.cc"
 # shellcheck disable=SC2046 # words are wanted
 ${CC:-cc} -std=c99 -pedantic -Wall -Wextra -Werror $(pkg-config --cflags ollskuvan) -o "$tmp/one" "$tmp/one.c" $(pkg-config --libs ollskuvan) &&

@@ -15,7 +15,7 @@
 #include "bytes.h"
 #include "image.h"
 
-enum { STACK = 1 << 16, PAINT = 0xa5, MOST = 2048 };
+enum { STACK = 1 << 16, PAINT = 0xa5, MOST = 2560 };
 enum { NOTHING, DRAIN, CHECK, COPY_NAME, READ, READ_ONE, WRITE, DRAIN_EVENTS, FIND_EVENT, READ_ONE_EVENTS, CALLS };
 
 static const char *const names[CALLS] = { "nothing", "drain", "check", "copy_name", "read", "read_one", "write",

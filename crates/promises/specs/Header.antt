@@ -12,7 +12,7 @@ use Rattle.meaning.specs.declared.Frame.{Frame}
 use Rattle.meaning.specs.Bytes.{numberAt}
 use Rattle.meaning.specs.Refusals.{Refusal, refusal}
 use Rattle.meaning.specs.Editions.{editions, allowed, known, isIn}
-use Rattle.meaning.specs.Records.{layout, judge, check}
+use Rattle.meaning.specs.Records.{layout, judge, recordCheck}
 use Rattle.meaning.specs.Values.{valueWords, read, writeAnswer}
 use Rattle.meaning.specs.Ring.{Asked, askedOf, lengthAllowed, distance, stopped, sized, callRows, leftRows, frame, recordAt, oneFrame, readOne}
 use Rattle.meaning.specs.Drain.{start, run, drain}
@@ -23,7 +23,7 @@ use Rattle.writer.specs.Writer.{writeWordsAnswer}
 use Rattle.laws.specs.Bytes.{apart}
 use Rattle.laws.specs.Rows.{or-false, in-cond, gives, Passed, passed-by, stopped-after}
 use Rattle.laws.specs.Rings.{header-whole}
-use Rattle.editions.specs.Numbers.{recordNumbers, checkNumbers, stopNumbers, writeNumbers, nameNumbers}
+use Rattle.editions.specs.Numbers.{recordNumbers, checkNumbers, recordCheckNumbers, stopNumbers, writeNumbers, nameNumbers}
 use Rattle.editions.specs.InTable.{frame-in}
 use Rattle.promises.specs.Demand1.{check-numbers, read-numbers, write-numbers, one-stop-numbers, one-numbers, drain-stop-numbers, drain-entry-numbers}
 use Rattle.promises.specs.Lent.{readNumbers, lent-numbers}
@@ -85,7 +85,7 @@ pub record Nobodys (k e : ℕ) (a : Attributes) : Type 0 where
   pub one-answer : (ring : List ℕ) (head tail : ℕ) (scratch : List ℕ) → readOne editions e a ring head tail scratch .answer ≡ k → ⊥
   pub told-stop : (ring : List ℕ) (head tail : ℕ) (scratch words : List ℕ) → oneTold editions e a ring head tail scratch words .stop ≡ k → ⊥
   pub told-answer : (ring : List ℕ) (head tail : ℕ) (scratch words : List ℕ) → oneTold editions e a ring head tail scratch words .answer ≡ k → ⊥
-  pub check-answer : (xs : List ℕ) → check editions e a xs ≡ k → ⊥
+  pub check-answer : (xs : List ℕ) → recordCheck editions e a xs ≡ k → ⊥
   pub read-answer : (xs : List ℕ) → read editions e a xs .answer ≡ k → ⊥
   pub lent-answer : (xs words : List ℕ) → readIntoAnswer editions e a xs words ≡ k → ⊥
   pub write-answer : (src ws : List ℕ) (space : ℕ) → writeAnswer editions e a src ws space ≡ k → ⊥
@@ -111,7 +111,7 @@ module _ (e : ℕ) (a : Attributes) where
       where
         by : (b : Bool) → isIn (cond b (toldTaken ring next tail answer) (toldStop next tail) .stop) stopNumbers ≡ true
         by true = refl
-        by false = frame-in (askedOf editions e) ring head tail 1 16 (length scratch)
+        by false = frame-in (allowed editions e) ring head tail 1 16 (length scratch)
 
     told-answers : isIn (oneTold editions e a ring head tail scratch words .answer) readNumbers ≡ true
     unfolding oneTold
@@ -138,7 +138,7 @@ module _ (e : ℕ) (a : Attributes) where
         one-answer = λ ring head tail scratch. not-in recordNumbers 10 _ refl (one-numbers e a ring head tail scratch);
         told-stop = λ ring head tail scratch words. not-in stopNumbers 10 _ refl (told-stops ring head tail scratch words);
         told-answer = λ ring head tail scratch words. not-in readNumbers 10 _ refl (told-answers ring head tail scratch words);
-        check-answer = λ xs. not-in checkNumbers 10 _ refl (check-numbers e a xs);
+        check-answer = λ xs. not-in recordCheckNumbers 10 _ refl (check-numbers e a xs);
         read-answer = λ xs. not-in checkNumbers 10 _ refl (read-numbers e a xs);
         lent-answer = λ xs words. not-in readNumbers 10 _ refl (lent-numbers e a xs words);
         write-answer = λ src ws space. not-in writeNumbers 10 _ refl (write-numbers e a src ws space);

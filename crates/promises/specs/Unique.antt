@@ -51,7 +51,7 @@ use Rattle.one.proofs as one
 use Rattle.reader.proofs as reader
 use Rattle.drain.proofs as drains
 use Rattle.event_drain.proofs as eventful
-use Rattle.event_one.proofs as picked
+use Rattle.event_one.proofs as single
 use Rattle.fast_drain.proofs as fast
 use Rattle.ollskuvan.proofs as ollskuvan
 use Rattle.writer_words.proofs as words
@@ -556,13 +556,13 @@ pub event-take-event-journal : Seen eventful.take_event.Kinds.ps eventful.take_e
 event-take-event-journal κs a x y s t p q = same (p .1) (q .1)
 
 -- the reader of one record with a table: what is told, and the scratch and the words at exit
-pub event-read-one : Result picked.read_one_events.Kinds.ps picked.read_one_events.Kinds.r picked.read_one_events.Reads.Learnt
+pub event-read-one : Result single.read_one_events.Kinds.ps single.read_one_events.Kinds.r single.read_one_events.Reads.Learnt
 event-read-one κs a x y s t p q = same (p .0) (q .0)
 
-pub event-read-one-scratch : Seen picked.read_one_events.Kinds.ps picked.read_one_events.Kinds.r picked.read_one_events.Reads.Learnt (λ κs x s. now (s .1 .1 .1 .1 .1 .1 .0))
+pub event-read-one-scratch : Seen single.read_one_events.Kinds.ps single.read_one_events.Kinds.r single.read_one_events.Reads.Learnt (λ κs x s. now (s .1 .1 .1 .1 .1 .1 .0))
 event-read-one-scratch κs a x y s t p q = same (p .1 .0) (q .1 .0)
 
-pub event-read-one-words : Seen picked.read_one_events.Kinds.ps picked.read_one_events.Kinds.r picked.read_one_events.Reads.Learnt (λ κs x s. now (s .1 .1 .1 .1 .1 .1 .1 .0))
+pub event-read-one-words : Seen single.read_one_events.Kinds.ps single.read_one_events.Kinds.r single.read_one_events.Reads.Learnt (λ κs x s. now (s .1 .1 .1 .1 .1 .1 .1 .0))
 event-read-one-words κs a x y s t p q = same (p .1 .1) (q .1 .1)
 
 -- ---- fast_drain, under the same contract

@@ -201,7 +201,7 @@ trailed =
     ∷ []
 
 -- "whether any byte after the name's zero within its room is not zero" (M-107): names without such a byte, with one in the last place alone, with one
--- before a trailer, which is no part of the room; and a trailer that is not zero behind a name that is clean
+-- before a trailer, which is no part of the room; a trailer that is not zero behind a name that is clean; and text padding, which is no name
 abbrev pub flags : List Row
 flags =
     tidy 3 16 (at 8 4 ∷ at 12 4 ∷ [])
@@ -210,6 +210,7 @@ flags =
     ∷ row 19 0 0 0 24 (from 8 8 ++ (1 ∷ 2 ∷ 3 ∷ 4 ∷ 5 ∷ 6 ∷ 7 ∷ 0 ∷ [])) (at 8 8 ∷ is 16 ∷ is 7 ∷ is 0 ∷ []) []
     ∷ timed (97 ∷ 0 ∷ 0 ∷ 0 ∷ 0 ∷ 0 ∷ 0 ∷ 0 ∷ []) []
     ∷ timed (97 ∷ 0 ∷ 0 ∷ 5 ∷ 0 ∷ 0 ∷ 0 ∷ 0 ∷ []) (is 1 ∷ [])
+    ∷ row 20 0 0 0 32 (from 8 8 ++ (3 ∷ 0 ∷ 2 ∷ 0 ∷ from 20 5 ++ (0 ∷ from 26 6))) (at 8 8 ∷ is 3 ∷ is 2 ∷ is 20 ∷ is 23 ∷ []) (from 25 7)
     ∷ []
   where
     -- CGROUP with a time behind it, that has no zero byte
