@@ -16,7 +16,7 @@ static uint32_t refused(uint32_t type, uint32_t edition, uint64_t sample_type, u
         return 20;
     if (sample_type >> (last_bit[edition] + 1) != 0 && (type == 9 || id_all))
         return 21;
-    if (read_format >> 4 != 0 && (type == 8 || (type == 9 && bit(sample_type, 4))))
+    if (read_format >> (last_format[edition] + 1) != 0 && (type == 8 || (type == 9 && bit(sample_type, 4))))
         return 22;
     if (type == 9 && bit(sample_type, 11) && new_branches(edition, branch_sample_type))
         return 25;
@@ -30,20 +30,10 @@ static uint32_t sized(uint64_t size, uint64_t want)
     return size == want ? 0 : size < want ? 30 : 31;
 }
 
-static void read_sums(struct plan *p, uint64_t read_format)
-{
-    p->read_words = 8 + words(read_format & 3);
-    p->read_entry = 0;
-    if (bit(read_format, 3))
-        p->read_entry = bit(read_format, 2) ? 16 : 8;
-    else
-        p->read_words += words(read_format & 4);
-}
-
 uint32_t careful_check(const uint8_t *record, size_t record_len, uint64_t sample_type, uint64_t read_format,
     uint32_t sample_id_all, uint64_t user_mask, uint64_t interrupt_mask, uint64_t branch_sample_type, uint32_t edition)
 {
-    if (edition - 1 > 2)
+    if (edition - 1 > 3)
         return 2;
     if (record_len < HEADER)
         return 7;
@@ -74,7 +64,7 @@ uint32_t careful_check(const uint8_t *record, size_t record_len, uint64_t sample
     if (name_start[type] != 0) {
         p.form[type] = type == 10 ? FORM_MMAP2 : FORM_NAME;
         p.from[type] = name_start[type];
-        p.build_id_known = edition == 3;
+        p.build_id_known = edition >= 3;
         return judge(&p, record, type, load16(record + 4), size);
     }
     p.form[type] = type == 16 ? FORM_NAMESPACES : FORM_TEXT_POKE;

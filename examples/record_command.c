@@ -246,7 +246,7 @@ static void usage(FILE *out)
         "  --branch N    samples of the cpu's cycles too, with the branches before each, by\n"
         "                this branch sample type (0x9: any of user code; 0x20000 more: the\n"
         "                hardware index, see the manual page); not with --clock\n"
-        "  --edition N   what the reader knows: 1, 2 or 3 (3)\n"
+        "  --edition N   what the reader knows: 1, 2, 3 or 4 (4)\n"
         "  --save NAME   drain nothing until the end, then write NAME-cpuN.img for each\n"
         "                ring, and NAME-names.txt\n"
         "  --help        this\n"
@@ -278,7 +278,7 @@ static bool take_option(struct options *o, int letter)
     case 'r':
         return bits_argument(optarg, "--branch", &o->want.branch);
     case 'e':
-        if (!whole_argument(optarg, "--edition", 1, 3, &n))
+        if (!whole_argument(optarg, "--edition", 1, 4, &n))
             return false;
         o->want.edition = (uint32_t)n;
         return true;
@@ -347,7 +347,7 @@ int record_command(int argc, char **argv)
     bool help = false;
     called_as(argv[0]);
     struct controller *c = must(calloc(1, sizeof *c)); /* its buffers are long for a stack */
-    c->options = (struct options){ .budget = 32, .want = { .cpu = -1, .edition = OLLSKUVAN_EDITION_3 } };
+    c->options = (struct options){ .budget = 32, .want = { .cpu = -1, .edition = OLLSKUVAN_EDITION_4 } };
     c->live.program = PROGRAM_NONE;
     int status = read_options(&c->options, argc, argv, &help) ? STATUS_DONE : STATUS_USAGE;
     if (help)

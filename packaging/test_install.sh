@@ -86,7 +86,7 @@ env -u MAKEFLAGS -u MAKEOVERRIDES -u OLLSKUVAN_CFLAGS -u OLLSKUVAN_LIBS make -s 
 cmp -s "$tmp/report" "$root/examples/expected/kiln.txt" || wrong "the installed library gives another report"
 
 # ---- the header from other languages' compilers
-printf '#include <ollskuvan.h>\nint main(void) { return ollskuvan_check(0, 0, 0, 0, 0, 0, 0, 0, OLLSKUVAN_EDITION_3) == OLLSKUVAN_REFUSED_LENGTH && ollskuvan_type_name(9)[0] == 83 ? 0 : 1; }\n' >"$tmp/one.c"
+printf '#include <ollskuvan.h>\nint main(void) { return ollskuvan_check(0, 0, 0, 0, 0, 0, 0, 0, OLLSKUVAN_EDITION_4) == OLLSKUVAN_REFUSED_LENGTH && ollskuvan_type_name(9)[0] == 83 ? 0 : 1; }\n' >"$tmp/one.c"
 cp "$tmp/one.c" "$tmp/one.cc"
 # shellcheck disable=SC2046 # words are wanted
 ${CC:-cc} -std=c99 -pedantic -Wall -Wextra -Werror $(pkg-config --cflags ollskuvan) -o "$tmp/one" "$tmp/one.c" $(pkg-config --libs ollskuvan) &&

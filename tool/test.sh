@@ -117,7 +117,7 @@ $tool journal $out/not-indexed.img | cmp -s - <(target/bin/ringdump <$out/not-in
 $tool dump $out/indexed-0.img | cmp -s - <($tool dump $out/not-indexed.img) || wrong "a branch sample type of 0 behind the ring"
 
 # ---- the dumps that are kept
-for name in tasks kernel every-type every-type-plain every-type-edition-2 indexed indexed-edition-2; do
+for name in tasks kernel every-type every-type-plain every-type-edition-2 every-type-edition-3 lost-counts indexed indexed-edition-2; do
   if [ "${1:-}" = --write ]; then
     cp "$out/$name.txt" "tool/expected/$name.txt"
   else
