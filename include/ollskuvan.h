@@ -282,7 +282,7 @@ extern "C" {
  *    TEXT_POKE's padding; all else comes to a multiple of 8 by its own rules
  *    (32).
  *  - Entries, all of u64: read values are value, then id where read-format bit 2
- *    is set; branches are from, to, flags; namespaces are dev, inode. A call
+ *    is set, then lost count where bit 4 is; branches are from, to, flags; namespaces are dev, inode. A call
  *    chain is addresses. Registers stand in the order of their mask's bits, the
  *    lowest first.
  *  - Where a list is selected its place must lie in the source, or at its end,
@@ -344,7 +344,7 @@ extern "C" {
 #define OLLSKUVAN_FORK_PTID 6u /* u32 */
 #define OLLSKUVAN_FORK_TIME 7u
 
-/* 8 READ. Without read-format bit 3: value, enabled, running, id; with it:
+/* 8 READ. Without read-format bit 3: value, enabled, running, id, lost; with it:
  * values_count, enabled, running and the list of entries. */
 #define OLLSKUVAN_READ_PID 3u /* u32 */
 #define OLLSKUVAN_READ_TID 4u /* u32 */
