@@ -314,7 +314,7 @@ pub const STARTS: [usize; 23] = [
 ];
 
 // "MMAP, MMAP2, COMM, KSYMBOL and CGROUP records gain a flag": its word by type, from type 0 on; 0 where there is none.
-pub const FLAGS: [usize; 21] = [
+pub const FLAGS: [usize; 22] = [
     0,
     10, // MMAP
     0,
@@ -336,4 +336,5 @@ pub const FLAGS: [usize; 21] = [
     0,
     6, // CGROUP
     0, // TEXT_POKE: its padding is no name
+    0,
 ];
