@@ -373,7 +373,7 @@ fn edges_of(record: &[u8], a: &Attributes, edition: u32, r: &mut Random, tally: 
             expect("flag", answer, 43)?;
             let (answer, _) = compare_write(&flagged, &[], a, edition, 0, r, tally)?;
             expect("flag before 41 and 40", answer, 43)?;
-            for (other, m, due) in [(SIZE, 12, 43), (55, 1, 43), (MISC, 1 << 16, 43), (TYPE, 21, 20), (TYPE, 1 << 32, 20)] {
+            for (other, m, due) in [(SIZE, 12, 43), (55, 1, 43), (MISC, 1 << 16, 43), (TYPE, 22, 20), (TYPE, 1 << 32, 20)] {
                 let mut more = flagged;
                 more[other] = m;
                 let (answer, _) = compare_write(&more, record, a, edition, size, r, tally)?;
@@ -381,7 +381,7 @@ fn edges_of(record: &[u8], a: &Attributes, edition: u32, r: &mut Random, tally: 
             }
             let (answer, _) = compare_write(&flagged[..55], record, a, edition, size, r, tally)?;
             expect("flag in too few words", answer, 42)?;
-            let (answer, _) = compare_write(&flagged, record, a, 4, size, r, tally)?;
+            let (answer, _) = compare_write(&flagged, record, a, 5, size, r, tally)?;
             expect("flag and no edition", answer, 2)?;
         }
     }
