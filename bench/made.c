@@ -547,7 +547,7 @@ static size_t event_record(struct made_random *r, const struct made_ring *ring, 
 {
     struct made_aims aims;
     size_t event = made_below(r, ring->event_count);
-    unsigned type = one_in(r, 3) ? 9 : 1 + (unsigned)made_below(r, 20);
+    unsigned type = one_in(r, 3) ? 9 : 1 + (unsigned)made_below(r, 21);
     size_t size = made_record(r, &attributes[event], type, most, record, &aims);
     uint64_t identifier = ring->events[event].identifier;
     if (one_in(r, 12)) { /* cut to 8 or 16 bytes */
