@@ -32,7 +32,7 @@ test:
 
 lib:
 	@tools/needs.sh run
-	@tools/prove.sh staticlib ollskuvan && echo "$(LIB)"
+	@tools/library.sh && echo "$(LIB)"
 
 clean:
 	rm -rf target

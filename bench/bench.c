@@ -2,10 +2,13 @@
  * The bench: first that the drains agree, then what they cost.
  *
  *   bench compare [RINGS [SEED]]   careful C and ollskuvan_drain on the same sound and damaged rings
+ *   bench tables [RINGS [SEED]]    the same with a table of events
  *   bench time [ROUNDS]            the three workloads, interleaved
  *   bench sizes [ROUNDS]           the cost of a record in rings of 64 bytes to 1 MiB
  *   bench values [ROUNDS]          the cost of ollskuvan_read and ollskuvan_write
+ *   bench mixes [ROUNDS]           rings of 1, 11 and 32 events with their table
  *   bench kinds [DRAIN]            every kind of ring: that the drains agree; with a name, two drains of each for callgrind
+ *   bench table-kinds [DRAIN]      the same with a table of events
  *   bench check WHOSE NUMBER       record check of each record of a workload, for callgrind: careful or ours
  *   bench once DRAIN WORKLOAD [BUDGET]   one drain, for callgrind; prints the number of records
  *   bench list                     the names that `once` takes
@@ -31,14 +34,14 @@ static struct ollskuvan_drained memcpy_drain(const uint8_t *ring, size_t ring_le
 }
 
 const struct contender contenders[] = {
-    [CAREFUL] = { "careful", "careful C, every stop at every record", careful_drain },
-    [CAREFUL_ONCE] = { "careful-once", "careful C, stops 1, 2, 4, 5 once", careful_once_drain },
-    [OURS] = { "ours", "ollskuvan_drain", ollskuvan_drain },
-    { "floor", "floor: trusts sizes, no body", floor_drain },
+    [CAREFUL] = { "careful", "careful C, every stop at every record", careful_drain, careful_drain_events },
+    [CAREFUL_ONCE] = { "careful-once", "careful C, stops 1, 2, 4, 5 once", careful_once_drain, NULL },
+    [OURS] = { "ours", "ollskuvan_drain", ollskuvan_drain, ollskuvan_drain_events },
+    { "floor", "floor: trusts sizes, no body", floor_drain, NULL },
 #ifdef WITH_OTHER
-    { "other", "linux-perf-event-reader, parse", other_drain },
+    { "other", "linux-perf-event-reader, parse", other_drain, NULL },
 #endif
-    { "memcpy", "memcpy of the bytes", memcpy_drain },
+    { "memcpy", "memcpy of the bytes", memcpy_drain, NULL },
 };
 const size_t contender_count = sizeof contenders / sizeof contenders[0];
 
@@ -61,6 +64,14 @@ struct ollskuvan_drained run_drain(drain_function *drain, const struct made_ring
         ring->journal_length);
 }
 
+struct ollskuvan_drained run_events(events_function *drain, const struct made_ring *ring, uint8_t *scratch, uint8_t *journal)
+{
+    return drain(ring->length == 0 ? NULL : ring->bytes, ring->length, ring->head, ring->tail,
+        ring->event_count == 0 ? NULL : ring->events, ring->event_count, ring->edition, ring->budget,
+        ring->scratch_length == 0 ? NULL : scratch, ring->scratch_length, ring->journal_length == 0 ? NULL : journal,
+        ring->journal_length);
+}
+
 /* ---- one drain, for callgrind ---- */
 
 static int list_names(void)
@@ -70,13 +81,20 @@ static int list_names(void)
     for (unsigned which = 0; which < MADE_WORKLOADS; which++)
         printf("workload %s\n", made_workload_names[which]);
     printf("workload empty\n");
+    for (unsigned which = 0; which < MADE_MIXES; which++)
+        printf("mix %s\n", made_mixes[which].name);
     return 0;
 }
 
 static int run_once(const char *drain, const char *workload, uint64_t budget)
 {
-    struct made_ring ring = { .bytes = grab(MADE_RING_MAX) };
-    bool known = false;
+    struct made_ring ring = { .bytes = grab(MADE_RING_MAX), .events = grab(MADE_EVENTS_MAX * sizeof *ring.events) };
+    bool known = false, mixed = false;
+    for (unsigned which = 0; which < MADE_MIXES; which++)
+        if (strcmp(workload, made_mixes[which].name) == 0) {
+            made_table_fill(&made_mixes[which], MIB, &ring);
+            known = mixed = true;
+        }
     for (unsigned which = 0; which < MADE_WORKLOADS; which++)
         if (strcmp(workload, made_workload_names[which]) == 0) {
             made_fill(which, MIB, &ring);
@@ -91,18 +109,21 @@ static int run_once(const char *drain, const char *workload, uint64_t budget)
     for (size_t k = 0; k < contender_count; k++)
         if (strcmp(drain, contenders[k].name) == 0)
             found = &contenders[k];
-    if (!known || found == NULL) {
+    if (!known || found == NULL || (mixed && found->events == NULL)) {
         fprintf(stderr, "bench: no such drain or workload: %s, %s (see: bench list)\n", drain, workload);
+        free(ring.events);
         free(ring.bytes);
         return 2;
     }
     if (budget != 0)
         ring.budget = budget;
     uint8_t *scratch = grab(ring.scratch_length), *journal = grab(ring.journal_length);
-    struct ollskuvan_drained done = run_drain(found->drain, &ring, scratch, journal);
+    struct ollskuvan_drained done =
+        mixed ? run_events(found->events, &ring, scratch, journal) : run_drain(found->drain, &ring, scratch, journal);
     printf("records %llu bytes %llu stop %u\n", (unsigned long long)done.taken, (unsigned long long)done.bytes, done.stop);
     free(scratch);
     free(journal);
+    free(ring.events);
     free(ring.bytes);
     return 0;
 }
@@ -124,8 +145,8 @@ static uint64_t number(const char *text, uint64_t least, uint64_t most)
 
 static int usage(void)
 {
-    fprintf(stderr, "usage: bench compare [RINGS [SEED]] | time [ROUNDS] | sizes [ROUNDS] | values [ROUNDS]\n"
-                    "       bench once DRAIN WORKLOAD [BUDGET] | kinds [DRAIN] | list\n");
+    fprintf(stderr, "usage: bench compare [RINGS [SEED]] | tables [RINGS [SEED]] | time [ROUNDS] | mixes [ROUNDS] | sizes [ROUNDS] | values [ROUNDS]\n"
+                    "       bench once DRAIN WORKLOAD [BUDGET] | kinds [DRAIN] | table-kinds [DRAIN] | list\n");
     return 2;
 }
 
@@ -134,12 +155,16 @@ int main(int argc, char **argv)
     const char *mode = argc > 1 ? argv[1] : "";
     if (strcmp(mode, "compare") == 0 && argc <= 4)
         return compare(argc > 2 ? number(argv[2], 1, UINT64_MAX) : 20000, argc > 3 ? number(argv[3], 0, UINT64_MAX) : 1);
+    if (strcmp(mode, "tables") == 0 && argc <= 4)
+        return compare_tables(argc > 2 ? number(argv[2], 1, UINT64_MAX) : 10000, argc > 3 ? number(argv[3], 0, UINT64_MAX) : 1);
     if (strcmp(mode, "once") == 0 && (argc == 4 || argc == 5))
         return run_once(argv[2], argv[3], argc > 4 ? number(argv[4], 1, UINT64_MAX) : 0);
     if (strcmp(mode, "check") == 0 && argc == 4)
         return run_checks(argv[2], (enum made_workload)number(argv[3], 0, MADE_WORKLOADS - 1));
     if (strcmp(mode, "kinds") == 0 && argc <= 3)
-        return argc > 2 ? run_kinds(argv[2]) : compare_kinds();
+        return argc > 2 ? run_kinds(argv[2], false) : compare_kinds();
+    if (strcmp(mode, "table-kinds") == 0 && argc <= 3)
+        return argc > 2 ? run_kinds(argv[2], true) : compare_table_kinds();
     if (strcmp(mode, "list") == 0 && argc == 2)
         return list_names();
     if (argc > 3)
@@ -149,6 +174,8 @@ int main(int argc, char **argv)
         return time_workloads(rounds != 0 ? rounds : 1000);
     if (strcmp(mode, "sizes") == 0)
         return time_sizes(rounds != 0 ? rounds : 200);
+    if (strcmp(mode, "mixes") == 0)
+        return time_tables(rounds != 0 ? rounds : 300);
     if (strcmp(mode, "values") == 0)
         return time_values(rounds != 0 ? rounds : 100);
     return usage();

@@ -14,6 +14,7 @@ struct contender {
     const char *name;  /* for `bench once` */
     const char *title; /* for the tables */
     drain_function *drain;
+    events_function *events; /* NULL: it takes no table */
 };
 
 enum { CAREFUL, CAREFUL_ONCE, OURS };
@@ -22,16 +23,20 @@ extern const size_t contender_count;
 
 /* One drain of the whole ring. */
 struct ollskuvan_drained run_drain(drain_function *drain, const struct made_ring *ring, uint8_t *scratch, uint8_t *journal);
+/* The same with the ring's table. */
+struct ollskuvan_drained run_events(events_function *drain, const struct made_ring *ring, uint8_t *scratch, uint8_t *journal);
 
 /* Zeroed memory, or the end of the program. */
 void *grab(size_t bytes);
 
 /* compare.c: the exit status. */
 int compare(uint64_t rings, uint64_t seed);
+int compare_tables(uint64_t rings, uint64_t seed);
 
 /* timing.c */
 int time_workloads(size_t rounds);
 int time_sizes(size_t rounds);
 int time_values(size_t rounds);
+int time_tables(size_t rounds);
 
 #endif

@@ -5,6 +5,7 @@
  */
 #define careful_drain careful_drain_not_used
 #define careful_once_drain careful_once_drain_not_used
+#define careful_drain_events careful_drain_events_not_used
 #include "careful.c"
 
 #include "kinds.h"

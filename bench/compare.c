@@ -18,7 +18,7 @@
 
 enum { GUARD = 64 };
 
-enum { ANSWERS = 34, STOPS = 10, KINDS = 22 };
+enum { ANSWERS = 34, STOPS = 12, KINDS = 22 };
 
 struct tally {
     uint64_t rings, records;
@@ -70,16 +70,37 @@ static void show_difference(const char *what, const uint8_t *left, const uint8_t
         }
 }
 
-static void show_case(const struct made_ring *ring, uint64_t number, uint64_t seed)
+static void show_attributes(const struct made_ring *ring)
 {
     const struct made_attributes *a = &ring->attributes;
+    if (ring->events == NULL)
+        printf("  sample type %#llx, read format %#llx, sample_id_all %u, masks %#llx %#llx, branch %#llx\n",
+            (unsigned long long)a->sample_type, (unsigned long long)a->read_format, a->sample_id_all,
+            (unsigned long long)a->user_mask, (unsigned long long)a->interrupt_mask,
+            (unsigned long long)a->branch_sample_type);
+    for (size_t i = 0; ring->events != NULL && i < ring->event_count; i++) {
+        const struct ollskuvan_event *v = &ring->events[i];
+        printf("  event %#llx: sample type %#llx, read format %#llx, sample_id_all %#llx, masks %#llx %#llx, branch %#llx\n",
+            (unsigned long long)v->identifier, (unsigned long long)v->sample_type, (unsigned long long)v->read_format,
+            (unsigned long long)v->sample_id_all, (unsigned long long)v->user_mask, (unsigned long long)v->interrupt_mask,
+            (unsigned long long)v->branch_sample_type);
+    }
+}
+
+static void show_case(const struct made_ring *ring, uint64_t number, uint64_t seed)
+{
     printf("  case %llu of seed %llu: ring %zu, head %llu, tail %llu, edition %u, budget %llu, scratch %zu, journal %zu\n",
         (unsigned long long)number, (unsigned long long)seed, ring->length, (unsigned long long)ring->head,
         (unsigned long long)ring->tail, ring->edition, (unsigned long long)ring->budget, ring->scratch_length,
         ring->journal_length);
-    printf("  sample type %#llx, read format %#llx, sample_id_all %u, masks %#llx %#llx, branch %#llx\n",
-        (unsigned long long)a->sample_type, (unsigned long long)a->read_format, a->sample_id_all,
-        (unsigned long long)a->user_mask, (unsigned long long)a->interrupt_mask, (unsigned long long)a->branch_sample_type);
+    show_attributes(ring);
+}
+
+/* With the ring's table, where it has one. */
+static struct ollskuvan_drained run(const struct contender *who, const struct made_ring *ring, struct side *side)
+{
+    return ring->events != NULL ? run_events(who->events, ring, side->scratch + GUARD, side->journal + GUARD)
+                                : run_drain(who->drain, ring, side->scratch + GUARD, side->journal + GUARD);
 }
 
 static bool same_results(const struct contender *one, const struct contender *two, const struct made_ring *ring,
@@ -93,9 +114,9 @@ static bool same_results(const struct contender *one, const struct contender *tw
     memcpy(desk->ring_before, ring->bytes, ring->length);
     /* under the address sanitizer a byte read past the ring's end is an error */
     ASAN_POISON_MEMORY_REGION(ring->bytes + ring->length, MADE_RING_MAX - ring->length);
-    desk->left.done = run_drain(one->drain, ring, desk->left.scratch + GUARD, desk->left.journal + GUARD);
+    desk->left.done = run(one, ring, &desk->left);
     bool ring_same = memcmp(desk->ring_before, ring->bytes, ring->length) == 0;
-    desk->right.done = run_drain(two->drain, ring, desk->right.scratch + GUARD, desk->right.journal + GUARD);
+    desk->right.done = run(two, ring, &desk->right);
     ASAN_UNPOISON_MEMORY_REGION(ring->bytes + ring->length, MADE_RING_MAX - ring->length);
     ring_same = ring_same && memcmp(desk->ring_before, ring->bytes, ring->length) == 0;
     const struct ollskuvan_drained *l = &desk->left.done, *r = &desk->right.done;
@@ -117,18 +138,19 @@ static bool same_results(const struct contender *one, const struct contender *tw
     return false;
 }
 
-/* There is no stop above 9. */
-static bool count_stop(struct tally *tally, uint32_t stop)
+/* There is no stop above 9, but 11 with a table. */
+static bool count_stop(struct tally *tally, uint32_t stop, bool tables)
 {
-    if (stop < STOPS)
+    bool is_stop = stop < 10 || (tables && stop == 11);
+    if (is_stop)
         tally->stops[stop]++;
     else
         printf("stop %u, which no drain may give\n", stop);
-    return stop < STOPS;
+    return is_stop;
 }
 
 /* What the comparison says is worth only as much as it has met. */
-static bool enough_met(const struct tally *t)
+static bool enough_met(const struct tally *t, bool tables)
 {
     static const uint8_t of_type[KINDS][8] = {
         [1] = { 20, 21, 30, 33 }, [2] = { 21, 30, 31 }, [3] = { 21, 30, 33 }, [4] = { 21, 30, 31 },
@@ -140,8 +162,13 @@ static bool enough_met(const struct tally *t)
     };
     bool enough = true;
     for (unsigned stop = 0; stop < STOPS; stop++)
-        if (t->stops[stop] == 0) {
+        if (stop != 10 && (stop != 11 || tables) && t->stops[stop] == 0) {
             printf("stop %u was never met\n", stop);
+            enough = false;
+        }
+    for (unsigned kind = 1; kind < KINDS - 1 && tables; kind++)
+        if (t->answers[kind][26] == 0 || t->answers[kind][27] == 0) {
+            printf("type %u was never refused with 26, or with 27\n", kind);
             enough = false;
         }
     for (unsigned kind = 1; kind < KINDS; kind++) {
@@ -161,43 +188,65 @@ static bool enough_met(const struct tally *t)
     return enough;
 }
 
-int compare(uint64_t rings, uint64_t seed)
+/* The very rings that are timed. */
+static unsigned compare_timed(struct made_ring *ring, struct desk *desk)
+{
+    const struct contender *careful = &contenders[CAREFUL], *once = &contenders[CAREFUL_ONCE], *ours = &contenders[OURS];
+    unsigned differences = 0;
+    for (unsigned which = 0; ring->events == NULL && which < MADE_WORKLOADS; which++) {
+        made_fill(which, MIB, ring);
+        differences += !same_results(careful, ours, ring, desk, which, 0);
+        differences += !same_results(careful, once, ring, desk, which, 0);
+    }
+    for (unsigned which = 0; ring->events != NULL && which < MADE_MIXES; which++) {
+        made_table_fill(&made_mixes[which], MIB, ring);
+        differences += !same_results(careful, ours, ring, desk, which, 0);
+    }
+    return differences;
+}
+
+static unsigned compare_made(struct made_ring *ring, struct desk *desk, struct tally *tally, uint64_t rings, uint64_t seed)
 {
     enum { LIMIT = 5 };
+    const struct contender *careful = &contenders[CAREFUL], *once = &contenders[CAREFUL_ONCE], *ours = &contenders[OURS];
+    struct made_random r = { seed };
+    unsigned differences = 0;
+    for (uint64_t i = 0; i < rings && differences < LIMIT; i++) {
+        if (ring->events != NULL)
+            made_table_case(&r, ring);
+        else
+            made_case(&r, ring);
+        differences += !same_results(careful, ours, ring, desk, i, seed);
+        count_records(tally, desk->left.journal + GUARD, desk->left.done.taken);
+        differences += !count_stop(tally, desk->left.done.stop, ring->events != NULL);
+        tally->rings++;
+        if (ring->events == NULL && i % 4 == 0) /* the other form of careful C is a measure only */
+            differences += !same_results(careful, once, ring, desk, i, seed);
+    }
+    return differences;
+}
+
+static int compare_all(uint64_t rings, uint64_t seed, struct ollskuvan_event *events)
+{
     struct tally *tally = grab(sizeof *tally);
-    struct made_ring ring = { .bytes = grab(MADE_RING_MAX) };
+    struct made_ring ring = { .bytes = grab(MADE_RING_MAX), .events = events };
     size_t journal_max = 16 * (MADE_RING_MAX / 8 + 1) + 2 * GUARD, scratch_max = MADE_RING_MAX + 2 * GUARD;
     struct desk desk = {
         .left = { .scratch = grab(scratch_max), .journal = grab(journal_max) },
         .right = { .scratch = grab(scratch_max), .journal = grab(journal_max) },
         .ring_before = grab(MADE_RING_MAX),
     };
-    struct made_random r = { seed };
-    unsigned differences = 0;
-    const struct contender *careful = &contenders[CAREFUL], *once = &contenders[CAREFUL_ONCE], *ours = &contenders[OURS];
-    for (unsigned which = 0; which < MADE_WORKLOADS; which++) { /* the very rings that are timed */
-        made_fill(which, MIB, &ring);
-        differences += !same_results(careful, ours, &ring, &desk, which, 0);
-        differences += !same_results(careful, once, &ring, &desk, which, 0);
-    }
-    for (uint64_t i = 0; i < rings && differences < LIMIT; i++) {
-        made_case(&r, &ring);
-        differences += !same_results(careful, ours, &ring, &desk, i, seed);
-        count_records(tally, desk.left.journal + GUARD, desk.left.done.taken);
-        differences += !count_stop(tally, desk.left.done.stop);
-        tally->rings++;
-        if (i % 4 == 0) /* the other form of careful C is a measure only */
-            differences += !same_results(careful, once, &ring, &desk, i, seed);
-    }
-    printf("compared careful C and ollskuvan_drain: %llu rings, %llu records, seed %llu: %s\n",
-        (unsigned long long)tally->rings, (unsigned long long)tally->records, (unsigned long long)seed,
-        differences == 0 ? "no difference" : "DIFFERENT");
+    unsigned differences = compare_timed(&ring, &desk);
+    differences += compare_made(&ring, &desk, tally, rings, seed);
+    printf("compared careful C and %s: %llu rings, %llu records, seed %llu: %s\n",
+        events != NULL ? "ollskuvan_drain_events" : "ollskuvan_drain", (unsigned long long)tally->rings,
+        (unsigned long long)tally->records, (unsigned long long)seed, differences == 0 ? "no difference" : "DIFFERENT");
     printf("stops met:");
     for (unsigned stop = 0; stop < STOPS; stop++)
         if (tally->stops[stop] != 0)
             printf(" %u (%llu)", stop, (unsigned long long)tally->stops[stop]);
     printf("\n");
-    bool enough = rings < 10000 || enough_met(tally); /* a handful of rings cannot meet everything */
+    bool enough = rings < 10000 || enough_met(tally, events != NULL); /* a handful of rings cannot meet everything */
     free(tally);
     free(ring.bytes);
     free(desk.left.scratch);
@@ -206,4 +255,17 @@ int compare(uint64_t rings, uint64_t seed)
     free(desk.right.journal);
     free(desk.ring_before);
     return differences == 0 && enough ? 0 : 1;
+}
+
+int compare(uint64_t rings, uint64_t seed)
+{
+    return compare_all(rings, seed, NULL);
+}
+
+int compare_tables(uint64_t rings, uint64_t seed)
+{
+    struct ollskuvan_event *events = grab(MADE_EVENTS_MAX * sizeof *events);
+    int status = compare_all(rings, seed, events);
+    free(events);
+    return status;
 }

@@ -19,6 +19,14 @@ drain_function careful_drain;
  * (1, 2, 4, 5) are tested once. */
 drain_function careful_once_drain;
 
+/* With a table of events: the signature of ollskuvan_drain_events. */
+typedef struct ollskuvan_drained events_function(const uint8_t *ring, size_t ring_len, uint64_t head, uint64_t tail,
+    const struct ollskuvan_event *events, size_t event_count, uint32_t edition, uint64_t budget,
+    uint8_t *scratch, size_t scratch_len, uint8_t *journal, size_t journal_len);
+
+/* careful.c: every stop tested at every record, 11 once. */
+events_function careful_drain_events;
+
 /* floor.c: trusts every size and looks at no body. */
 drain_function floor_drain;
 

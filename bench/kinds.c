@@ -4,6 +4,9 @@
  * refusal of each type. A controller lives by its slowest kind, so the list must be
  * whole: after it is made, `missing` asks the careful reader which answers came up
  * for which type, and the bench fails if one of the table below did not.
+ *
+ * With a table of events they are the same kinds, each with sample bit 16 and
+ * sample_id_all besides.
  */
 #include "bench.h"
 
@@ -24,6 +27,20 @@ struct kind {
 
 static struct kind *kinds;
 static size_t kind_count;
+static bool tabled;
+
+enum { EVENTS = 11, OWN = 5, IDENTIFIER = 100 };
+
+/* What an event of a table must select. */
+static struct made_attributes marked(const struct made_attributes *a)
+{
+    struct made_attributes own = *a;
+    if (tabled) {
+        own.sample_type |= UINT64_C(1) << 16;
+        own.sample_id_all = 1;
+    }
+    return own;
+}
 
 static const uint64_t trailer = UINT64_C(0x10086);
 
@@ -48,11 +65,11 @@ static struct kind *add(const char *name, unsigned number, const struct made_att
         abort();
     memset(k, 0, sizeof *k);
     snprintf(k->name, sizeof k->name, "%s-%u", name, number);
-    k->attributes = *a;
+    k->attributes = marked(a);
     k->edition = 3;
     do {
         uint8_t *big = grab(MADE_RECORD_MAX);
-        k->size = made_record(&r, a, type, 400, big, aims);
+        k->size = made_record(&r, &k->attributes, type, 400, big, aims);
         memcpy(k->record, big, k->size < RECORD_ROOM ? k->size : RECORD_ROOM);
         free(big);
     } while (k->size > 2048 || (type == 10 && ((k->record[5] >> 6 & 1) != 0) != build_id));
@@ -165,9 +182,10 @@ static void sample_bits(void)
     add("two-weights", 9, &all, 9, false, &aims); /* 24 */
     struct made_attributes stack = { .sample_type = UINT64_C(1) << 13 };
     struct kind *k = add("stack-filled", 13, &stack, 9, false, &aims);
-    put64(k->record + 8, 16), put64(k->record + 32, 17); /* 32: more filled than there is */
-    k->size = 40;
-    put16(k->record + 6, 40);
+    size_t first = tabled ? 16 : 8; /* behind the identifier */
+    put64(k->record + first, 16), put64(k->record + first + 24, 17); /* 32: more filled than there is */
+    k->size = first + 32;
+    put16(k->record + 6, k->size);
 }
 
 /* Branch stacks with the hardware index, and 25. */
@@ -175,6 +193,7 @@ static void branches(void)
 {
     struct made_aims aims;
     const uint64_t index = OLLSKUVAN_BRANCH_HW_INDEX;
+    size_t first = tabled ? 16 : 8; /* behind the identifier */
     struct made_attributes a = { .sample_type = OLLSKUVAN_BIT_BRANCHES, .branch_sample_type = index };
     struct made_attributes all = { .sample_type = UINT64_C(0xffffff), .user_mask = 0xffff, .interrupt_mask = 0xff,
         .branch_sample_type = index };
@@ -184,10 +203,10 @@ static void branches(void)
     k = add("index-over", 11, &a, 9, false, &aims);
     put64(k->record + aims.list[0].at, UINT64_MAX / 24 + 1); /* 30 */
     k = add("index-alone", 11, &a, 9, false, &aims);
-    put64(k->record + 8, 0), k->size = 24; /* no branch, and the index all the same */
+    put64(k->record + first, 0), k->size = first + 16; /* no branch, and the index all the same */
     put16(k->record + 6, k->size);
     k = add("index-missing", 11, &a, 9, false, &aims);
-    put64(k->record + 8, 0), k->size = 16; /* 30: as a kernel writes it that has no branch stack */
+    put64(k->record + first, 0), k->size = first + 8; /* 30: as a kernel writes it that has no branch stack */
     put16(k->record + 6, k->size);
     add("index-all-bits", 9, &all, 9, false, &aims);
     for (uint32_t edition = 1; edition <= 3; edition++) { /* 25, 25, accepted */
@@ -227,11 +246,14 @@ static void dirty_names(void)
         }
 }
 
-static void make(void)
+static void make(bool with_table)
 {
-    if (kinds != NULL)
+    if (kinds != NULL && tabled == with_table)
         return;
+    free(kinds);
     kinds = grab(KINDS_MAX * sizeof *kinds);
+    kind_count = 0;
+    tabled = with_table;
     types();
     names();
     read_formats();
@@ -250,8 +272,23 @@ static void fill(const struct kind *k, struct made_ring *ring)
     ring->budget = UINT64_MAX;
     ring->scratch_length = RING;
     ring->journal_length = 16 * (RING / 8 + 1);
-    for (; ring->head + k->size <= RING; ring->head += k->size)
-        memcpy(ring->bytes + ring->head, k->record, k->size);
+    for (; ring->head + k->size <= RING; ring->head += k->size) {
+        uint8_t *record = ring->bytes + ring->head;
+        memcpy(record, k->record, k->size);
+        if (tabled && k->size >= 16)
+            put64(k->record[0] == 9 && k->record[1] == 0 ? record + 8 : record + k->size - 8, IDENTIFIER + OWN);
+    }
+}
+
+/* A table of which the kind is one event, and the others sample. */
+static void fill_table(const struct kind *k, struct made_ring *ring)
+{
+    struct made_attributes own = marked(&k->attributes);
+    ring->event_count = EVENTS;
+    for (unsigned i = 0; i < EVENTS; i++)
+        ring->events[i] = (struct ollskuvan_event){ IDENTIFIER + i, 0x10187, 0, 0, 0, 0, 1 };
+    ring->events[OWN] = (struct ollskuvan_event){ IDENTIFIER + OWN, own.sample_type, own.read_format, own.user_mask,
+        own.interrupt_mask, own.branch_sample_type, 1 };
 }
 
 static uint32_t answer_of(const uint8_t *journal)
@@ -326,7 +363,7 @@ int compare_kinds(void)
     struct made_ring ring = { .bytes = grab(MADE_RING_MAX) };
     uint8_t *scratch = grab(RING), *mine = grab(16 * (RING / 8 + 1)), *theirs = grab(16 * (RING / 8 + 1));
     int failed = 0;
-    make();
+    make(false);
     for (size_t i = 0; i < kind_count; i++) {
         fill(&kinds[i], &ring);
         struct ollskuvan_drained a = run_drain(contenders[CAREFUL].drain, &ring, scratch, theirs);
@@ -349,22 +386,52 @@ int compare_kinds(void)
     return failed;
 }
 
-/* Two drains of each kind, with budgets 8 and 40: their difference is 32 records. For callgrind, which dumps after each. */
-int run_kinds(const char *drain)
+int compare_table_kinds(void)
 {
-    struct made_ring ring = { .bytes = grab(MADE_RING_MAX) };
+    struct made_ring ring = { .bytes = grab(MADE_RING_MAX), .events = grab(EVENTS * sizeof *ring.events) };
+    uint8_t *scratch = grab(RING), *mine = grab(16 * (RING / 8 + 1)), *theirs = grab(16 * (RING / 8 + 1));
+    int failed = 0;
+    make(true);
+    for (size_t i = 0; i < kind_count; i++) {
+        fill(&kinds[i], &ring);
+        fill_table(&kinds[i], &ring);
+        struct ollskuvan_drained a = run_events(contenders[CAREFUL].events, &ring, scratch, theirs);
+        struct ollskuvan_drained b = run_events(contenders[OURS].events, &ring, scratch, mine);
+        if (a.taken == 0 || a.taken != b.taken || a.stop != b.stop || memcmp(mine, theirs, 16 * a.taken) != 0) {
+            printf("kinds: the drains with a table differ on %s\n", kinds[i].name);
+            failed = 1;
+        }
+    }
+    printf("kinds of rings with a table: %zu, %s\n", kind_count, failed ? "FAILED" : "the drains agree on all");
+    free(ring.bytes), free(ring.events), free(scratch), free(mine), free(theirs);
+    return failed;
+}
+
+static void run_kind(const struct contender *who, const struct made_ring *ring, uint8_t *scratch, uint8_t *journal)
+{
+    if (tabled)
+        run_events(who->events, ring, scratch, journal);
+    else
+        run_drain(who->drain, ring, scratch, journal);
+}
+
+/* Two drains of each kind, with budgets 8 and 40: their difference is 32 records. For callgrind, which dumps after each. */
+int run_kinds(const char *drain, bool table)
+{
+    struct made_ring ring = { .bytes = grab(MADE_RING_MAX), .events = grab(EVENTS * sizeof *ring.events) };
     uint8_t *scratch = grab(RING), *journal = grab(16 * (RING / 8 + 1));
-    make();
+    make(table);
     for (size_t k = 0; k < contender_count; k++)
         if (strcmp(drain, contenders[k].name) == 0)
             for (size_t i = 0; i < kind_count; i++) {
                 fill(&kinds[i], &ring);
+                fill_table(&kinds[i], &ring);
                 ring.budget = 8;
-                run_drain(contenders[k].drain, &ring, scratch, journal);
+                run_kind(&contenders[k], &ring, scratch, journal);
                 printf("kind %s answer %u\n", kinds[i].name, answer_of(journal));
                 ring.budget = 40;
-                run_drain(contenders[k].drain, &ring, scratch, journal);
+                run_kind(&contenders[k], &ring, scratch, journal);
             }
-    free(ring.bytes), free(scratch), free(journal);
+    free(ring.bytes), free(ring.events), free(scratch), free(journal);
     return 0;
 }

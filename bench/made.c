@@ -450,6 +450,146 @@ void made_case(struct made_random *r, struct made_ring *ring)
     some_room(r, ring, records);
 }
 
+/* ---- cases with a table ---- */
+
+static void as_event(uint64_t identifier, const struct made_attributes *a, struct ollskuvan_event *event)
+{
+    *event = (struct ollskuvan_event){ .identifier = identifier, .sample_type = a->sample_type, .read_format = a->read_format,
+        .user_mask = a->user_mask, .interrupt_mask = a->interrupt_mask, .branch_sample_type = a->branch_sample_type,
+        .sample_id_all = a->sample_id_all };
+}
+
+static uint64_t some_identifier(struct made_random *r)
+{
+    switch (made_below(r, 4)) {
+    case 0:
+        return made_below(r, 64);
+    case 1:
+        return made_below(r, 8) << 32 | made_below(r, 8); /* alike in their halves */
+    case 2:
+        return UINT64_MAX - made_below(r, 64);
+    default:
+        return made_next(r);
+    }
+}
+
+static bool has_event(const struct made_ring *ring, uint64_t identifier)
+{
+    for (size_t i = 0; i < ring->event_count; i++)
+        if (ring->events[i].identifier == identifier)
+            return true;
+    return false;
+}
+
+static void some_events(struct made_random *r, struct made_ring *ring, struct made_attributes *attributes)
+{
+    size_t count = one_in(r, 8) ? OLLSKUVAN_EVENTS_MAX : 1 + made_below(r, one_in(r, 4) ? 31 : 5);
+    ring->event_count = 0;
+    while (ring->event_count < count) {
+        struct made_attributes *a = &attributes[ring->event_count];
+        uint64_t identifier = some_identifier(r);
+        some_attributes(r, ring->edition, a);
+        a->sample_type |= UINT64_C(1) << 16;
+        a->sample_id_all = 1;
+        if (has_event(ring, identifier))
+            continue;
+        as_event(identifier, a, &ring->events[ring->event_count]);
+        ring->events[ring->event_count++].sample_id_all = one_in(r, 4) ? UINT64_C(1) << made_below(r, 64) : 1;
+    }
+}
+
+/* A table that is refused. */
+static void spoil_events(struct made_random *r, struct made_ring *ring)
+{
+    size_t i = made_below(r, ring->event_count), j = made_below(r, ring->event_count);
+    switch (made_below(r, 5)) {
+    case 0:
+        ring->events[i].sample_type &= ~(UINT64_C(1) << 16);
+        break;
+    case 1:
+        ring->events[i].sample_id_all = 0;
+        break;
+    case 2:
+        ring->events[ring->event_count] = ring->events[i];
+        ring->event_count++;
+        break;
+    case 3:
+        ring->events[i].identifier = ring->events[j].identifier; /* the same event at times: then it stays sound */
+        break;
+    default: {
+        size_t count = one_in(r, 2) ? 0 : OLLSKUVAN_EVENTS_MAX + 1 + made_below(r, MADE_EVENTS_MAX - OLLSKUVAN_EVENTS_MAX);
+        while (ring->event_count < count) { /* all of them different */
+            uint64_t identifier = made_next(r);
+            if (has_event(ring, identifier))
+                continue;
+            ring->events[ring->event_count] = ring->events[i];
+            ring->events[ring->event_count++].identifier = identifier;
+        }
+        ring->event_count = count;
+        break;
+    }
+    }
+}
+
+static void put_identifier(uint8_t *record, size_t size, uint64_t identifier)
+{
+    uint32_t type;
+    memcpy(&type, record, 4);
+    if (size >= 16)
+        write_at(record, size, type == 9 ? 8 : size - 8, identifier, 8);
+}
+
+/* A record of one of the events, with its identifier or another. Returns its size. */
+static size_t event_record(struct made_random *r, const struct made_ring *ring, const struct made_attributes *attributes,
+    unsigned faults, size_t most, uint8_t *record)
+{
+    struct made_aims aims;
+    size_t event = made_below(r, ring->event_count);
+    unsigned type = one_in(r, 3) ? 9 : 1 + (unsigned)made_below(r, 20);
+    size_t size = made_record(r, &attributes[event], type, most, record, &aims);
+    uint64_t identifier = ring->events[event].identifier;
+    if (one_in(r, 12)) { /* cut to 8 or 16 bytes */
+        size = one_in(r, 2) ? 8 : 16;
+        memset(record + 8, 0, 8);
+        write_at(record, size, 6, size, 2);
+    }
+    put_identifier(record, size, identifier);
+    if (made_below(r, 10) < faults && one_in(r, 2)) {
+        size = damage(r, record, size, &aims);
+        if (one_in(r, 2))
+            put_identifier(record, size, identifier);
+    }
+    if (faults != 0 && one_in(r, 12))
+        put_identifier(record, size, one_in(r, 2) ? some_identifier(r) : identifier ^ UINT64_C(1) << made_below(r, 64));
+    return size;
+}
+
+void made_table_case(struct made_random *r, struct made_ring *ring)
+{
+    uint8_t record[MADE_RECORD_MAX + 64];
+    struct made_attributes attributes[MADE_EVENTS_MAX];
+    ring->edition = one_in(r, 4) ? some_edition(r) : 2 + (uint32_t)made_below(r, 2);
+    some_events(r, ring, attributes);
+    ring->length = some_length(r);
+    memset(ring->bytes, 0, ring->length);
+    ring->tail = ring->head = some_count(r, ring->length);
+    unsigned faults = (unsigned)made_below(r, 4) * 3;
+    size_t used = 0, records = 0;
+    while (ring->length >= 64) {
+        size_t size = event_record(r, ring, attributes, faults, ring->length < 512 ? ring->length / 4 : 512, record);
+        if (used + size > ring->length)
+            break;
+        lay(ring, ring->head, record, size);
+        ring->head += size;
+        used += size;
+        records++;
+    }
+    some_ends(r, ring);
+    some_room(r, ring, records);
+    if (one_in(r, 12))
+        spoil_events(r, ring);
+}
+
 /* ---- workloads ---- */
 
 const char *const made_workload_names[MADE_WORKLOADS] = { "side-band", "small samples", "fat samples" };
@@ -547,6 +687,84 @@ void made_fill(enum made_workload which, size_t length, struct made_ring *ring)
             misses++; /* a smaller one may still fit */
             continue;
         }
+        lay(ring, ring->head, record, size);
+        ring->head += size;
+        used += size;
+    }
+}
+
+/* ---- workloads with a table ---- */
+
+const struct made_mix made_mixes[MADE_MIXES] = {
+    { "1 event", 1, 1 },
+    { "11 events", 11, 11 },
+    { "11 of 32 events", 32, 11 },
+    { "32 events", 32, 32 },
+};
+
+/* The attributes of the events in turn: the first is side_band's; the others sample. */
+static void mix_attributes(size_t event, struct made_attributes *a)
+{
+    static const uint64_t sample_types[] = {
+        UINT64_C(0x10187), /* ip, tid, time, cpu, period, identifier */
+        UINT64_C(0x1018f), /* and addr */
+        UINT64_C(0x10197), /* and read values */
+        UINT64_C(0x10007), /* ip, tid, time, identifier */
+        UINT64_C(0x101a7), /* and a call chain */
+        UINT64_C(0x1c186), /* weight and data source, no ip */
+        UINT64_C(0x11187), /* and user registers */
+    };
+    size_t kinds = sizeof sample_types / sizeof sample_types[0];
+    *a = (struct made_attributes){ .sample_type = UINT64_C(0x10086), .sample_id_all = 1 };
+    if (event == 0)
+        return;
+    a->sample_type = sample_types[(event - 1) % kinds];
+    a->read_format = 7;
+    a->user_mask = 0x1c0;
+}
+
+/* The first event in a third of the cases; of the others the earlier ones more often. */
+static size_t mix_event(struct made_random *r, size_t busy)
+{
+    if (busy == 1 || one_in(r, 3))
+        return 0;
+    uint64_t a = made_below(r, busy - 1), b = made_below(r, busy - 1);
+    return 1 + (a < b ? a : b);
+}
+
+static size_t mix_record(struct made_random *r, const struct made_attributes *a, size_t event, uint64_t time, uint8_t *record)
+{
+    struct made_aims aims;
+    return event == 0 ? side_band(r, time, record) : made_record(r, a, 9, 512, record, &aims);
+}
+
+void made_table_fill(const struct made_mix *mix, size_t length, struct made_ring *ring)
+{
+    struct made_attributes attributes[OLLSKUVAN_EVENTS_MAX];
+    struct made_random r = { 40 + mix->busy };
+    uint8_t record[MADE_RECORD_MAX];
+    memset(ring->bytes, 0, length);
+    ring->edition = 3;
+    ring->length = length;
+    ring->tail = ring->head = length - 40;
+    ring->budget = UINT64_MAX;
+    ring->scratch_length = length;
+    ring->journal_length = 16 * (length / 8 + 1);
+    ring->event_count = mix->events;
+    for (size_t i = 0; i < mix->events; i++) {
+        mix_attributes(i, &attributes[i]);
+        as_event(17 + i, &attributes[i], &ring->events[i]); /* a kernel counts them up */
+    }
+    size_t used = 0, misses = 0, event = 0;
+    for (uint64_t time = UINT64_C(90000000000); misses < 64; time += 1000 + made_below(&r, 5000)) {
+        if (!one_in(&r, 3)) /* else the same event once more */
+            event = mix_event(&r, mix->busy);
+        size_t size = mix_record(&r, &attributes[event], event, time, record);
+        if (used + size > length) {
+            misses++;
+            continue;
+        }
+        put_identifier(record, size, ring->events[event].identifier);
         lay(ring, ring->head, record, size);
         ring->head += size;
         used += size;

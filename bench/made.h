@@ -8,6 +8,8 @@
 #include <stddef.h>
 #include <stdint.h>
 
+#include "ollskuvan.h"
+
 struct made_random {
     uint64_t state;
 };
@@ -30,7 +32,12 @@ struct made_ring {
     uint64_t head, tail;
     uint64_t budget;
     size_t scratch_length, journal_length;
+    struct ollskuvan_event *events; /* room for MADE_EVENTS_MAX; the comparison with a table uses them, not the attributes */
+    size_t event_count;
 };
+
+/* Above the greatest table, so that row 11 is met from above too. */
+#define MADE_EVENTS_MAX ((size_t)40)
 
 /* Above the greatest allowed length, so that row 1 is met from above too. */
 #define MADE_RING_MAX ((size_t)2097152)
@@ -54,10 +61,25 @@ size_t made_record(struct made_random *r, const struct made_attributes *a, unsig
 /* A ring for the comparison: sound or damaged, of any length, with any counts. */
 void made_case(struct made_random *r, struct made_ring *ring);
 
+/* The same with a table: sound or not, identifiers that are not in it, sizes of 8 and 16. */
+void made_table_case(struct made_random *r, struct made_ring *ring);
+
 enum made_workload { MADE_SIDE_BAND, MADE_SMALL_SAMPLES, MADE_FAT_SAMPLES, MADE_WORKLOADS };
 extern const char *const made_workload_names[MADE_WORKLOADS];
 
 /* A full ring of this length. One record crosses the ring's end where that can be. */
 void made_fill(enum made_workload which, size_t length, struct made_ring *ring);
+
+/* Rings with a table, each of 1 MiB: so many events in it, so many of them with records. */
+struct made_mix {
+    const char *name;
+    size_t events, busy;
+};
+enum { MADE_MIXES = 4 };
+extern const struct made_mix made_mixes[MADE_MIXES];
+
+/* As a live board sends them: the first event tells of switches, names and mappings (a third of the records), the
+ * others sample, each with its own attributes; the earlier in the table the more often, and often several in a row. */
+void made_table_fill(const struct made_mix *mix, size_t length, struct made_ring *ring);
 
 #endif

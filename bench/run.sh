@@ -2,8 +2,8 @@
 # Builds the bench and runs it. Everything goes to target/bench.
 #
 #   bench/run.sh                 all of it: the comparison, times, ring sizes, values, instructions
-#   bench/run.sh --short         the comparison alone: fails only if careful C and ollskuvan_drain differ (the gate)
-#   bench/run.sh --time | --sizes | --values | --instructions | --kinds    one part, after a short comparison
+#   bench/run.sh --short         the comparison alone, without a table and with one: fails only if careful C and ours differ (the gate)
+#   bench/run.sh --time | --sizes | --values | --instructions | --kinds | --tables    one part, after a short comparison
 #   bench/run.sh --sanitize      the comparison with address and undefined-behaviour sanitizers on the C side
 #
 # Options before the part: --library FILE (an archive other than target/staticlib/libollskuvan.a),
@@ -25,7 +25,7 @@ while [ $# -gt 0 ]; do
     --rings) [ $# -gt 1 ] || die "--rings needs a number"; rings=$2; shift ;;
     --seed) [ $# -gt 1 ] || die "--seed needs a number"; seed=$2; shift ;;
     --rounds) [ $# -gt 1 ] || die "--rounds needs a number"; rounds=$2; shift ;;
-    --short | --time | --sizes | --values | --instructions | --kinds | --sanitize) part=${1#--} ;;
+    --short | --time | --sizes | --values | --instructions | --kinds | --tables | --sanitize) part=${1#--} ;;
     -h | --help) sed -n '2,13p' "$0" | sed 's/^# \{0,1\}//'; exit 0 ;;
     *) die "unknown argument: $1 (see --help)" ;;
   esac
@@ -119,6 +119,30 @@ instructions() { # [BUDGET]
   done
 }
 
+# instructions a record with a table of events, of both; and what the same ring costs where the table has events without records
+tables() { # [BUDGET]
+  local drain name mix log=$out/callgrind.log budget=${1:-}
+  command -v valgrind >/dev/null || { echo "bench: tables skipped: valgrind is missing"; return 0; }
+  rm -f "$out"/tables.*
+  printf '\ninstructions a record with a table of events, by callgrind%s\n%-14s' "${budget:+, budget $budget}" ''
+  "$program" list | sed -n 's/^mix //p' | while read -r mix; do printf '%18s' "$mix"; done
+  printf '\n'
+  for drain in careful ours; do
+    name=careful_drain_events
+    [ "$drain" = ours ] && name=ollskuvan_drain_events
+    printf '%-14s' "$drain"
+    while read -r mix; do
+      valgrind --tool=callgrind --toggle-collect="$name" --callgrind-out-file=/dev/null "$program" once "$drain" "$mix" $budget \
+        >"$log" 2>&1 </dev/null || { cat "$log"; die "callgrind failed"; }
+      awk '/^records/ { n = $2 } /Collected/ { c = $NF } END { printf "%.1f\n", c / n }' "$log" | tee -a "$out/tables.$drain" |
+        awk '{ printf "%18.1f", $1 }'
+    done < <("$program" list | sed -n 's/^mix //p')
+    printf '\n'
+  done
+  printf '%-14s' ratio
+  paste "$out/tables.ours" "$out/tables.careful" | awk '{ printf "%18.3f", $1 / $2 } END { print "" }'
+}
+
 # instructions of one record check
 checks() {
   local whose name which log=$out/callgrind.log
@@ -138,28 +162,33 @@ checks() {
 }
 
 # instructions of a record more, on every kind of ring: the slowest against careful C
-kinds() {
+kinds() { # kinds|table-kinds
   local drain name
   command -v valgrind >/dev/null || { echo "bench: kinds skipped: valgrind is missing"; return 0; }
   rm -f "$out"/kinds.*
   for drain in careful ours; do
     name=careful_drain
     [ "$drain" = ours ] && name=ollskuvan_drain
+    [ "$1" = table-kinds ] && name=${name}_events
     valgrind --tool=callgrind --toggle-collect="$name" --dump-after="$name" --callgrind-out-file="$out/kinds.$drain" \
-      "$program" kinds "$drain" >"$out/kinds.$drain.names" 2>"$out/kinds.$drain.log" </dev/null || { cat "$out/kinds.$drain.log"; die "callgrind failed"; }
+      "$program" "$1" "$drain" >"$out/kinds.$drain.names" 2>"$out/kinds.$drain.log" </dev/null || { cat "$out/kinds.$drain.log"; die "callgrind failed"; }
   done
   python3 bench/kinds.py "$out"
 }
 
 case "$part" in
-  short) "$program" kinds || exit 1; "$program" compare "$rings" "$seed" || exit 1 ;;
-  sanitize) "$program" compare "$rings" "$seed" || exit 1 ;;
+  short) "$program" kinds || exit 1; "$program" table-kinds || exit 1; "$program" compare "$rings" "$seed" || exit 1; "$program" tables $((rings / 2)) "$seed" || exit 1 ;;
+  sanitize) "$program" compare "$rings" "$seed" || exit 1; "$program" tables $((rings / 2)) "$seed" || exit 1 ;;
   *)
     "$program" kinds || die "no times: the drains differ, or a kind is missing"
+    "$program" table-kinds || die "no times: the drains with a table differ"
     "$program" compare "$rings" "$seed" || die "no times: the drains differ"
+    "$program" tables $((rings / 2)) "$seed" || die "no times: the drains with a table differ"
     case "$part" in all | time) "$program" time $rounds || exit 1 ;; esac
+    case "$part" in all | time | tables) "$program" mixes $rounds || exit 1 ;; esac
     case "$part" in all | sizes) "$program" sizes $rounds || exit 1 ;; esac
     case "$part" in all | values) "$program" values $rounds || exit 1 ;; esac
     case "$part" in all | instructions) instructions && instructions 1 && checks || exit 1 ;; esac
-    case "$part" in all | kinds) kinds || exit 1 ;; esac ;;
+    case "$part" in all | instructions | tables) tables && tables 1 && tables 32 || exit 1 ;; esac
+    case "$part" in all | kinds) kinds kinds || exit 1; echo; echo "with a table of eleven events"; kinds table-kinds || exit 1 ;; esac ;;
 esac

@@ -11,7 +11,7 @@ out=target/bench/teeth
 mkdir -p "$out" || exit 2
 found=0 missed=0
 
-plant() { # WORDS SED-EXPRESSION (over the whole file at once)
+plant() { # WORDS SED-EXPRESSION (over the whole file at once) [tables: in the comparison with a table]
   sed -z "$2" bench/careful.c >"$out/careful.c" || exit 2
   if cmp -s bench/careful.c "$out/careful.c"; then
     echo "bench/teeth.sh: '$1' changes nothing: careful.c has moved on" >&2
@@ -20,7 +20,7 @@ plant() { # WORDS SED-EXPRESSION (over the whole file at once)
   gcc -std=c11 -O2 -w -DWITHOUT_VALUES -Iinclude -Ibench -o "$out/bench" bench/bench.c bench/compare.c bench/timing.c bench/made.c bench/kinds.c bench/careful_check.c \
     bench/floor.c "$out/careful.c" "$library" || exit 2
   # in a shell of its own: some mistakes end in a crash, which is found too
-  if bash -c '"$@"; exit $?' teeth "$out/bench" compare "${RINGS:-20000}" "${SEED:-1}" >"$out/log" 2>&1; then
+  if bash -c '"$@"; exit $?' teeth "$out/bench" "${3:-compare}" "${RINGS:-20000}" "${SEED:-1}" >"$out/log" 2>&1; then
     echo "MISSED: $1"
     missed=$((missed + 1))
   else
@@ -70,6 +70,21 @@ plant "the edition narrowed" 's/if (edition - 1 > 2)/if ((uint8_t)edition - 1u >
 plant "edition 2 knows type 16" 's/last_type\[4\] = { 0, 9, 15, 20 }/last_type[4] = { 0, 9, 16, 20 }/'
 plant "edition 1 knows bit 16" 's/last_bit\[4\] = { 0, 15, 18, 24 }/last_bit[4] = { 0, 16, 18, 24 }/'
 plant "the code page size is forgotten" 's/LAST_BITS UINT64_C(0xe80000)/LAST_BITS UINT64_C(0x680000)/'
+plant "the identifier of a SAMPLE at its end" 's/load64(type == 9 ? record + HEADER : record + size - 8)/load64(record + size - 8)/' tables
+plant "the identifier of others behind the header" 's/load64(type == 9 ? record + HEADER : record + size - 8)/load64(record + HEADER)/' tables
+plant "26 before 20" 's/if (unlikely(type - 1 >= last_type\[t->edition\]))\n        return 20;//' tables
+plant "edition 1 looks an event up" 's/if (unlikely(t->edition == 1))\n        return 21;//' tables
+plant "27 at a size of 16" 's/if (unlikely(size < 16))/if (unlikely(size <= 16))/' tables
+plant "no 27" 's/if (unlikely(size < 16))\n        return 27;/if (size < 16)\n        return 26;/' tables
+plant "a hint that is not looked at" 's/if (unlikely(t->events\[i\].identifier != identifier)) {/if (unlikely(i == 0)) {/' tables
+plant "the event after the one that matches" 's/    return &t->plans\[i\];/    return \&t->plans[i + 1 < t->count \&\& (t->made >> (i + 1) \& 1) ? i + 1 : i];/' tables
+plant "equal identifiers" 's/if (events\[j\].identifier == events\[i\].identifier)/if (0)/' tables
+plant "33 events" 's/count > OLLSKUVAN_EVENTS_MAX)/count > OLLSKUVAN_EVENTS_MAX + 1)/' tables
+plant "no event" 's/if (count < 1 || /if (/' tables
+plant "an event without bit 16" 's/!bit(events\[i\].sample_type, 16) || //' tables
+plant "sample_id_all narrowed" 's/events\[i\].sample_id_all == 0/(uint32_t)events[i].sample_id_all == 0/' tables
+plant "identifiers by their low halves" 's/t->events\[i\].identifier != identifier)\n        i++/(uint32_t)t->events[i].identifier != (uint32_t)identifier)\n        i++/' tables
+plant "the event's branch bits are not looked at" 's/v->branch_sample_type);/0);/' tables
 rm -rf "$out"
 echo "planted mistakes: $found found, $missed missed"
 [ "$missed" -eq 0 ]

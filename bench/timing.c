@@ -136,6 +136,53 @@ int time_workloads(size_t rounds)
     return 0;
 }
 
+/* ---- rings of several events ---- */
+
+static double time_events(events_function *drain, const struct made_ring *ring, struct buffers *b)
+{
+    run_events(drain, ring, b->scratch, b->journal); /* caches and branches are then its own */
+    uint64_t begin = now();
+    run_events(drain, ring, b->scratch, b->journal);
+    return (double)(now() - begin);
+}
+
+static void time_mix(const struct made_mix *mix, size_t rounds)
+{
+    struct made_ring ring = { .bytes = grab(MADE_RING_MAX), .events = grab(MADE_EVENTS_MAX * sizeof *ring.events) };
+    made_table_fill(mix, MIB, &ring);
+    struct buffers b = lend(&ring);
+    double records = (double)run_events(careful_drain_events, &ring, b.scratch, b.journal).taken;
+    double *theirs = grab(rounds * sizeof *theirs), *mine = grab(rounds * sizeof *mine), *ratios = grab(rounds * sizeof *ratios);
+    for (size_t round = 0; round < rounds; round++) {
+        bool turn = round % 2 == 0; /* nobody is always first */
+        if (turn)
+            theirs[round] = time_events(careful_drain_events, &ring, &b);
+        mine[round] = time_events(ollskuvan_drain_events, &ring, &b);
+        if (!turn)
+            theirs[round] = time_events(careful_drain_events, &ring, &b);
+        ratios[round] = mine[round] / theirs[round];
+    }
+    double ratio = median(ratios, rounds);
+    printf("  %-18s %8.0f records %11.2f %11.2f %8.3f %8.3f to %6.3f\n", mix->name, records, median(theirs, rounds) / records,
+        median(mine, rounds) / records, ratio, ratios[rounds / 4], ratios[rounds - 1 - rounds / 4]);
+    free(theirs);
+    free(mine);
+    free(ratios);
+    give_back(&b);
+    free(ring.events);
+    free(ring.bytes);
+}
+
+int time_tables(size_t rounds)
+{
+    stay_on_one_cpu();
+    printf("\nrings of several events in 1 MiB with their table, %zu rounds\n", rounds);
+    printf("  %-18s %16s %11s %11s %8s %18s\n", "", "", "careful: ns", "ours: ns", "ratio", "(middle half)");
+    for (unsigned which = 0; which < MADE_MIXES; which++)
+        time_mix(&made_mixes[which], rounds);
+    return 0;
+}
+
 /* ---- rings of every length ---- */
 
 /* LOST_SAMPLES without a trailer, 16 bytes: four of them fill the smallest ring. */

@@ -3,8 +3,10 @@
 #include <ctype.h>
 #include <errno.h>
 #include <stdlib.h>
+#include <string.h>
 
 #include "messages.h"
+#include "perf_ring.h"
 
 /* Digits alone: no sign, no blank, nothing behind them. */
 static bool read_whole(const char *text, unsigned long long *number)
@@ -55,4 +57,27 @@ bool pages_argument(const char *text, size_t *pages)
     }
     complain("--pages: a power of two from 1 to %d is wanted, not '%s'", PAGES_MAX, text);
     return false;
+}
+
+static bool is_counter(const char *text, size_t length, size_t number)
+{
+    return strlen(counter_names[number]) == length && strncmp(text, counter_names[number], length) == 0;
+}
+
+bool counters_argument(const char *text, uint32_t *counters)
+{
+    *counters = 0;
+    for (const char *at = text; at != NULL;) {
+        size_t length = strcspn(at, ","), number = 0;
+        while (number < COUNTERS && !is_counter(at, length, number))
+            number++;
+        if (number == COUNTERS || (*counters >> number & 1) != 0) {
+            complain("--events: some of %s, %s, %s and %s are wanted, each once, with commas, not '%s'", counter_names[0],
+                counter_names[1], counter_names[2], counter_names[3], text);
+            return false;
+        }
+        *counters |= UINT32_C(1) << number;
+        at = at[length] == ',' ? at + length + 1 : NULL;
+    }
+    return true;
 }

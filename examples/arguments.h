@@ -1,5 +1,5 @@
 /*
- * Numbers among the arguments. False: it is no such number, and that is said.
+ * Numbers and lists among the arguments. False: it is none, and that is said.
  */
 #ifndef EXAMPLES_ARGUMENTS_H
 #define EXAMPLES_ARGUMENTS_H
@@ -22,5 +22,9 @@ bool decimal_argument(const char *text, const char *option, double most, double 
 
 /* A ring's pages: a power of two. */
 bool pages_argument(const char *text, size_t *pages);
+
+/* Names of counters with commas between them, each once: a bit for each of
+ * counter_names. */
+bool counters_argument(const char *text, uint32_t *counters);
 
 #endif

@@ -18,6 +18,7 @@ struct live_want {
     size_t pages;
     bool clock;
     uint64_t branch; /* a branch sample type; 0: no branches */
+    uint32_t counters; /* of counter_names */
     uint32_t edition;
     double seconds; /* how long; 0: until the program ends */
     char **program; /* NULL: none */

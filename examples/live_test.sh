@@ -321,6 +321,24 @@ else
   echo "a full ring not tried: cpu 0 is not to be had, or taskset is missing"
 fi
 
+# ---- several events in one ring: every record has its event, and what is saved reads with its table
+"$programs/controller" --events cpu-clock,page-faults,context-switches -- "$programs/workload" known "$work/facts" >"$work/events.txt" 2>"$work/events.err" ||
+  wrong "controller --events failed: $(tail -n 1 "$work/events.err")"
+grep -q 'refused' "$work/events.txt" && wrong "controller --events refuses records of a live kernel"
+for event in switches 'mappings of the program' cpu-clock page-faults; do
+  grep -q -E "^  of event $event +[1-9]" "$work/events.txt" || wrong "controller --events: no record of event $event"
+done
+[ "$(sed -n 's/^  of event .* \([0-9]*\)$/\1/p' "$work/events.txt" | awk '{ n += $1 } END { print n }')" = "$(sed -n 's/^\([0-9]*\) records\{0,1\}, .*/\1/p' "$work/events.txt")" ] ||
+  wrong "controller --events: the records of the events do not add up"
+"$programs/controller" --edition 1 --seconds 0.2 --events cpu-clock >"$work/events1.txt" 2>/dev/null || wrong "controller --edition 1 --events failed"
+grep -q -E 'refused with 21 ' "$work/events1.txt" || wrong "edition 1 reads records by identifier"
+"$programs/controller" --seconds 0.3 --events page-faults,cpu-clock --save "$work/several" >/dev/null 2>"$work/events.err" || wrong "controller --events --save failed"
+"$programs/late" --short "$work"/several-cpu*.img >"$work/several.txt" 2>&1
+grep -q 'a table of 3 events$' "$work/several.txt" || wrong "a saved ring is read without its table"
+grep -q -E ' [1-9][0-9]* refused' "$work/several.txt" && wrong "a saved ring of several events: records are refused"
+"$programs/controller" --seconds 0.1 --save "$work/several" >/dev/null 2>&1
+! ls "$work"/several-cpu*.table >/dev/null 2>&1 || wrong "a table of an earlier recording is left beside a ring of one event"
+
 # ---- under load
 for budget in 1 16 40; do
   "$programs/load_test" 100000 "$budget" || wrong "records do not add up with a budget of $budget"

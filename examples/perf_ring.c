@@ -107,6 +107,17 @@ static void with_branches(struct perf_event_attr *attr, uint64_t branch_sample_t
     attr->branch_sample_type = branch_sample_type;
 }
 
+/* The counters: each with a period and sample bits of its own. */
+const char *const counter_names[COUNTERS] = { "cpu-clock", "page-faults", "context-switches", "cpu-migrations" };
+static const struct {
+    uint64_t config, period, bits;
+} counters[COUNTERS] = {
+    { PERF_COUNT_SW_CPU_CLOCK, 1000000, OLLSKUVAN_BIT_IP | OLLSKUVAN_BIT_PERIOD },
+    { PERF_COUNT_SW_PAGE_FAULTS, 100, OLLSKUVAN_BIT_IP | OLLSKUVAN_BIT_ADDR },
+    { PERF_COUNT_SW_CONTEXT_SWITCHES, 100, OLLSKUVAN_BIT_IP },
+    { PERF_COUNT_SW_CPU_MIGRATIONS, 1, 0 },
+};
+
 /* An older kernel refuses what it does not know: then without build ids. */
 static int open_or_without_build_id(struct perf_event_attr *attr, pid_t pid, int cpu)
 {
@@ -163,6 +174,54 @@ static enum perf_answer open_program_events(struct perf_ring *ring, const struct
     return PERF_FAILED;
 }
 
+/* The event's row in the table: its identifier, and what it was opened with. */
+static bool add_to_table(struct event_table *table, int fd, const struct perf_event_attr *attr, const char *name)
+{
+    uint64_t identifier;
+    if (ioctl(fd, PERF_EVENT_IOC_ID, &identifier) != 0)
+        return false;
+    table->names[table->count] = name;
+    table->events[table->count++] = (struct ollskuvan_event){
+        .identifier = identifier, .sample_type = attr->sample_type, .read_format = attr->read_format,
+        .branch_sample_type = attr->branch_sample_type, .sample_id_all = 1,
+    };
+    return true;
+}
+
+static enum perf_answer open_counter(struct perf_ring *ring, int cpu, size_t number, char why[WHY_ROOM])
+{
+    struct perf_event_attr attr;
+    common(&attr);
+    attr.config = counters[number].config;
+    attr.sample_period = counters[number].period;
+    attr.sample_type |= counters[number].bits;
+    int fd = ring->counter_fds[number] = open_event(&attr, -1, cpu);
+    if (fd < 0)
+        return refuse_open(why, counter_names[number], errno);
+    if (ioctl(fd, PERF_EVENT_IOC_SET_OUTPUT, ring->fd) == 0 && add_to_table(&ring->table, fd, &attr, counter_names[number]))
+        return PERF_OPEN;
+    refuse(why, "the samples of %s do not go into the cpu's ring: %s", counter_names[number], strerror(errno));
+    return PERF_FAILED;
+}
+
+/* All events of the ring go into the table, the first with the attributes of the ring, the program's as it was opened. */
+static enum perf_answer open_counters(struct perf_ring *ring, const struct perf_want *want, char why[WHY_ROOM])
+{
+    const struct ring_attributes *a = &ring->attributes;
+    struct perf_event_attr first = { .sample_type = a->sample_type, .branch_sample_type = a->branch_sample_type };
+    struct perf_event_attr program = { .sample_type = a->sample_type & ~OLLSKUVAN_BIT_BRANCHES };
+    enum perf_answer answer = PERF_OPEN;
+    if (!add_to_table(&ring->table, ring->fd, &first, "switches") ||
+        (ring->program_fd >= 0 && !add_to_table(&ring->table, ring->program_fd, &program, "mappings of the program"))) {
+        refuse(why, "the kernel does not tell an event's identifier: %s", strerror(errno));
+        return PERF_FAILED;
+    }
+    for (size_t i = 0; i < COUNTERS && answer == PERF_OPEN; i++)
+        if ((want->counters >> i & 1) != 0)
+            answer = open_counter(ring, want->cpu, i, why);
+    return answer;
+}
+
 static enum perf_answer open_events(struct perf_ring *ring, const struct perf_want *want, char why[WHY_ROOM])
 {
     struct perf_event_attr attr;
@@ -185,12 +244,17 @@ static enum perf_answer open_events(struct perf_ring *ring, const struct perf_wa
         .sample_id_all = 1, .edition = want->edition,
     };
     enum perf_answer answer = map_ring(ring, want->pages, why);
-    return answer == PERF_OPEN && want->program != 0 ? open_program_events(ring, want, why) : answer;
+    if (answer == PERF_OPEN && want->program != 0)
+        answer = open_program_events(ring, want, why);
+    return answer == PERF_OPEN && want->counters != 0 ? open_counters(ring, want, why) : answer;
 }
+
+static const struct perf_ring CLOSED = { .fd = -1, .program_fd = -1, .counter_fds = { -1, -1, -1, -1 } };
 
 enum perf_answer perf_ring_open(struct perf_ring *ring, const struct perf_want *want, char why[WHY_ROOM])
 {
-    *ring = (struct perf_ring){ .cpu = want->cpu, .fd = -1, .program_fd = -1 };
+    *ring = CLOSED;
+    ring->cpu = want->cpu;
     enum perf_answer answer = open_events(ring, want, why);
     if (answer != PERF_OPEN)
         perf_ring_close(ring);
@@ -199,9 +263,10 @@ enum perf_answer perf_ring_open(struct perf_ring *ring, const struct perf_want *
 
 static bool switch_events(const struct perf_ring *ring, unsigned long request, const char *what, char why[WHY_ROOM])
 {
-    if (ioctl(ring->fd, request, 0) != 0 || (ring->program_fd >= 0 && ioctl(ring->program_fd, request, 0) != 0))
-        return refuse(why, "the events of cpu %d cannot be %s: %s", ring->cpu, what, strerror(errno));
-    return true;
+    bool done = ioctl(ring->fd, request, 0) == 0 && (ring->program_fd < 0 || ioctl(ring->program_fd, request, 0) == 0);
+    for (size_t i = 0; i < COUNTERS && done; i++)
+        done = ring->counter_fds[i] < 0 || ioctl(ring->counter_fds[i], request, 0) == 0;
+    return done || refuse(why, "the events of cpu %d cannot be %s: %s", ring->cpu, what, strerror(errno));
 }
 
 bool perf_ring_start(const struct perf_ring *ring, char why[WHY_ROOM])
@@ -218,11 +283,14 @@ void perf_ring_close(struct perf_ring *ring)
 {
     if (ring->mapped != NULL)
         munmap(ring->mapped, ring->mapped_length);
+    for (size_t i = 0; i < COUNTERS; i++)
+        if (ring->counter_fds[i] >= 0)
+            close(ring->counter_fds[i]);
     if (ring->program_fd >= 0)
         close(ring->program_fd);
     if (ring->fd >= 0)
         close(ring->fd);
-    *ring = (struct perf_ring){ .fd = -1, .program_fd = -1 };
+    *ring = CLOSED;
 }
 
 /* ---- head and tail ---- */

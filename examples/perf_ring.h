@@ -10,13 +10,28 @@
 #include <stdint.h>
 #include <sys/types.h>
 
-/* One attribute set serves a whole ring. */
+#include "ollskuvan.h"
+
+/* One attribute set serves a whole ring, or a table of events does. */
 struct ring_attributes {
     uint64_t sample_type, read_format, user_mask, interrupt_mask, branch_sample_type;
     uint32_t sample_id_all, edition;
 };
 
+/* The events that write into one ring; none: the attributes serve. */
+struct event_table {
+    struct ollskuvan_event events[OLLSKUVAN_EVENTS_MAX];
+    const char *names[OLLSKUVAN_EVENTS_MAX]; /* of live ones */
+    size_t count;
+};
+
 /* ---- a live ring ---- */
+
+/* What can be sampled beside the switches, each by an event of its own in the
+ * same ring. No two of them share a software counter: of two that do, the second
+ * one's samples carry the first one's identifier. */
+enum { COUNTERS = 4 };
+extern const char *const counter_names[COUNTERS];
 
 /* What is wanted of the kernel, for one cpu. */
 struct perf_want {
@@ -25,16 +40,18 @@ struct perf_want {
     pid_t program; /* mappings of this process and its children alone; 0: of everyone. Names, forks and ends are everyone's */
     bool clock;    /* samples of the cpu clock, 1,000 a second, beside the switches */
     uint64_t branch; /* not 0: samples of the cpu's cycles with the branches before them, by this branch sample type */
+    uint32_t counters; /* a bit for each of counter_names; not cpu-clock if clock is set */
     uint32_t edition;
 };
 
 struct perf_ring {
     struct ring_attributes attributes;
+    struct event_table table; /* if counters are sampled */
     int cpu;
     const uint8_t *bytes; /* the data area alone */
     size_t length;
     /* from here on perf_ring.c's own */
-    int fd, program_fd;
+    int fd, program_fd, counter_fds[COUNTERS];
     void *mapped;
     size_t mapped_length;
 };
@@ -48,8 +65,8 @@ enum perf_answer {
     PERF_FAILED,
 };
 
-/* Opens the events, disabled, and maps the ring. The switches of the whole cpu
- * and the program's mappings go into one ring. If it is not open, nothing
+/* Opens the events, disabled, and maps the ring. The switches of the whole cpu,
+ * the program's mappings and the samples go into one ring. If it is not open, nothing
  * is, and why says in words what the kernel refused. */
 enum perf_answer perf_ring_open(struct perf_ring *ring, const struct perf_want *want, char why[WHY_ROOM]);
 bool perf_ring_start(const struct perf_ring *ring, char why[WHY_ROOM]);

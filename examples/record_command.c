@@ -5,7 +5,8 @@
  * It opens the switches, names, forks and exits of each cpu (and mappings with
  * build ids: of everyone, or of PROGRAM and its children), drains the rings through
  * libollskuvan.a, handles every stop, hands back each tail, and names what is
- * refused. With --save nothing is drained until the end; the rings are then
+ * refused. With --events more events write into the same ring, and it is drained
+ * with a table of all of them. With --save nothing is drained until the end; the rings are then
  * written as images that the report takes.
  */
 #define _GNU_SOURCE
@@ -17,13 +18,14 @@
 #include "arguments.h"
 #include "bytes.h"
 #include "commands.h"
+#include "events.h"
 #include "live.h"
 #include "memory.h"
 #include "messages.h"
 #include "names.h"
 #include "ollskuvan.h"
 
-enum { BUDGET_MAX = 4096, REFUSALS_SHOWN = 20, PATH_ROOM = 512, STOPS = 10, REFUSALS = 64, TURNS = 64 };
+enum { BUDGET_MAX = 4096, REFUSALS_SHOWN = 20, PATH_ROOM = 512, STOPS = 12, REFUSALS = 64, TURNS = 64 };
 
 struct options {
     struct live_want want;
@@ -42,6 +44,7 @@ struct controller {
     /* what it saw */
     uint64_t taken, bytes, drains, skipped, longest_ns, refused;
     uint64_t by_kind[OLLSKUVAN_KIND_OTHER + 1u], by_refusal[REFUSALS], by_stop[STOPS];
+    uint64_t by_event[OLLSKUVAN_EVENTS_MAX]; /* the tables of all rings have the same order */
 };
 
 /* ---- the loop ---- */
@@ -59,6 +62,19 @@ static void look_at_entry(struct controller *c, const struct perf_ring *ring, co
             (unsigned long long)little(entry + OLLSKUVAN_JOURNAL_TAIL, 8), answer, ollskuvan_refusal_text(answer));
     else if (c->refused == REFUSALS_SHOWN + 1)
         printf("further refusals are counted only\n");
+}
+
+/* Which event wrote a record: by the identifier in its value. */
+static void count_event(struct controller *c, const struct perf_ring *ring, uint64_t head, const uint8_t *entry)
+{
+    uint64_t fields[OLLSKUVAN_FIELDS];
+    if (little(entry + OLLSKUVAN_JOURNAL_ANSWER, 2) != OLLSKUVAN_OK)
+        return;
+    ollskuvan_read_one_events(ring->bytes, ring->length, head, little(entry + OLLSKUVAN_JOURNAL_TAIL, 8), ring->table.events,
+        ring->table.count, ring->attributes.edition, c->scratch, sizeof c->scratch, fields, OLLSKUVAN_FIELDS);
+    size_t event = event_of(&ring->table, fields);
+    if (event < ring->table.count)
+        c->by_event[event]++;
 }
 
 /* The tail to hand back. A stop that no later call can get past would hold the
@@ -79,21 +95,29 @@ static uint64_t tail_after(struct controller *c, const struct perf_ring *ring, u
             (unsigned long long)done->tail, ollskuvan_stop_text(done->stop), (unsigned long long)(head - done->tail));
         c->skipped += head - done->tail;
         return head;
-    default: /* 1, 2, 3: this program is set up wrongly, and no ring can mend it */
+    default: /* 1, 2, 3, 11: this program is set up wrongly, and no ring can mend it */
         complain("cpu %d: stop %u: %s", ring->cpu, done->stop, ollskuvan_stop_text(done->stop));
         c->broken = true;
         return done->tail;
     }
 }
 
+static struct ollskuvan_drained drain(struct controller *c, const struct perf_ring *ring, uint64_t head, uint64_t tail)
+{
+    const struct ring_attributes *a = &ring->attributes;
+    if (ring->table.count != 0)
+        return ollskuvan_drain_events(ring->bytes, ring->length, head, tail, ring->table.events, ring->table.count, a->edition,
+            c->options.budget, c->scratch, sizeof c->scratch, c->journal, sizeof c->journal);
+    return ollskuvan_drain(ring->bytes, ring->length, head, tail, a->sample_type, a->read_format,
+        a->sample_id_all, a->user_mask, a->interrupt_mask, a->branch_sample_type, a->edition, c->options.budget, c->scratch,
+        sizeof c->scratch, c->journal, sizeof c->journal);
+}
+
 /* One drain. True if there may be more. */
 static bool drain_some(struct controller *c, const struct perf_ring *ring)
 {
-    const struct ring_attributes *a = &ring->attributes;
     uint64_t head = perf_ring_head(ring), tail = perf_ring_tail(ring), began = now_ns();
-    struct ollskuvan_drained done = ollskuvan_drain(ring->bytes, ring->length, head, tail, a->sample_type, a->read_format,
-        a->sample_id_all, a->user_mask, a->interrupt_mask, a->branch_sample_type, a->edition, c->options.budget, c->scratch,
-        sizeof c->scratch, c->journal, sizeof c->journal);
+    struct ollskuvan_drained done = drain(c, ring, head, tail);
     uint64_t took = now_ns() - began;
     c->longest_ns = took > c->longest_ns ? took : c->longest_ns;
     c->drains++;
@@ -101,8 +125,11 @@ static bool drain_some(struct controller *c, const struct perf_ring *ring)
     c->bytes += done.bytes;
     if (done.stop < STOPS) /* there is no other */
         c->by_stop[done.stop]++;
-    for (uint64_t i = 0; i < done.taken; i++)
+    for (uint64_t i = 0; i < done.taken; i++) {
         look_at_entry(c, ring, c->journal + i * OLLSKUVAN_JOURNAL_ENTRY);
+        if (ring->table.count != 0)
+            count_event(c, ring, head, c->journal + i * OLLSKUVAN_JOURNAL_ENTRY);
+    }
     perf_ring_give_back(ring, tail_after(c, ring, head, &done));
     return !c->broken && (done.stop == OLLSKUVAN_STOP_BUDGET || done.stop == OLLSKUVAN_STOP_JOURNAL);
 }
@@ -178,7 +205,8 @@ static bool save_ring(const struct controller *c, size_t number)
     if (!path_for(path, c->options.save, end))
         return false;
     uint64_t head = perf_ring_head(ring), tail = perf_ring_tail(ring);
-    if (!ring_image_save(path, &ring->attributes, head, tail, ring->bytes, ring->length, why)) {
+    if (!ring_image_save(path, &ring->attributes, head, tail, ring->bytes, ring->length, why) ||
+        !event_table_save(&ring->table, path, why)) {
         complain("%s: %s", path, why);
         return false;
     }
@@ -211,6 +239,13 @@ static void print_kinds(const struct controller *c)
             printf("  %-16s %11llu\n", ollskuvan_type_name(kind), (unsigned long long)c->by_kind[kind]);
 }
 
+static void print_events(const struct controller *c)
+{
+    const struct event_table *table = c->live.count != 0 ? &c->live.rings[0].table : NULL;
+    for (size_t i = 0; table != NULL && i < table->count; i++)
+        printf("  of event %-24s %11llu\n", table->names[i], (unsigned long long)c->by_event[i]);
+}
+
 static void print_counts(const char *what, const uint64_t *counts, unsigned most, const char *(*words)(uint32_t number))
 {
     for (unsigned number = 0; number < most; number++)
@@ -225,6 +260,7 @@ static void summary(const struct controller *c)
         (unsigned long long)c->drains, plural(c->drains, "drain", "drains"), (unsigned long long)c->options.budget,
         plural(c->options.budget, "record", "records"), (double)c->longest_ns / 1000);
     print_kinds(c);
+    print_events(c);
     print_counts("stop", c->by_stop, STOPS, ollskuvan_stop_text);
     print_counts("refused with", c->by_refusal, REFUSALS, ollskuvan_refusal_text);
     if (c->skipped != 0)
@@ -246,9 +282,11 @@ static void usage(FILE *out)
         "  --branch N    samples of the cpu's cycles too, with the branches before each, by\n"
         "                this branch sample type (0x9: any of user code; 0x20000 more: the\n"
         "                hardware index, see the manual page); not with --clock\n"
+        "  --events LIST events that sample too, in the same ring: cpu-clock, page-faults,\n"
+        "                context-switches, cpu-migrations; with commas, each once\n"
         "  --edition N   what the reader knows: 1, 2 or 3 (3)\n"
         "  --save NAME   drain nothing until the end, then write NAME-cpuN.img for each\n"
-        "                ring, and NAME-names.txt\n"
+        "                ring, and NAME-names.txt; with --events NAME-cpuN.table too\n"
         "  --help        this\n"
         "Exit status: 0 done; 1 something failed; 2 wrong arguments; 3 the kernel does\n"
         "not allow perf events.\n",
@@ -277,6 +315,8 @@ static bool take_option(struct options *o, int letter)
         return o->want.clock = true;
     case 'r':
         return bits_argument(optarg, "--branch", &o->want.branch);
+    case 'v':
+        return counters_argument(optarg, &o->want.counters);
     case 'e':
         if (!whole_argument(optarg, "--edition", 1, 3, &n))
             return false;
@@ -295,8 +335,8 @@ static bool read_options(struct options *o, int argc, char **argv, bool *help)
 {
     static const struct option names[] = {
         { "seconds", 1, NULL, 's' }, { "budget", 1, NULL, 'b' }, { "pages", 1, NULL, 'p' }, { "cpu", 1, NULL, 'c' },
-        { "clock", 0, NULL, 'k' }, { "branch", 1, NULL, 'r' }, { "edition", 1, NULL, 'e' }, { "save", 1, NULL, 'w' },
-        { "help", 0, NULL, 'h' }, { NULL, 0, NULL, 0 },
+        { "clock", 0, NULL, 'k' }, { "branch", 1, NULL, 'r' }, { "events", 1, NULL, 'v' }, { "edition", 1, NULL, 'e' },
+        { "save", 1, NULL, 'w' }, { "help", 0, NULL, 'h' }, { NULL, 0, NULL, 0 },
     };
     int letter;
     optind = 0; /* a program of several commands has looked at its own arguments before */
@@ -307,7 +347,11 @@ static bool read_options(struct options *o, int argc, char **argv, bool *help)
             return false;
     }
     if (o->want.clock && o->want.branch != 0) {
-        complain("--branch and --clock: a ring has samples of one kind");
+        complain("--branch and --clock are one event: choose --branch and --events %s", counter_names[0]);
+        return false;
+    }
+    if (o->want.clock && (o->want.counters & 1) != 0) { /* one software counter twice in a table */
+        complain("--clock and --events %s are the same counter: choose one", counter_names[0]);
         return false;
     }
     o->want.program = optind < argc ? argv + optind : NULL;

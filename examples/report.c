@@ -193,8 +193,10 @@ static void print_table(const struct page *p)
 
 static void print_source(const struct page *p, const struct source *s)
 {
-    char text[200];
-    snprintf(text, sizeof text, "%s: ring of %zu %s, edition %u", s->label, s->length, plural(s->length, "byte", "bytes"), s->attributes.edition);
+    char text[200], events[32] = "";
+    if (s->table.count != 0)
+        snprintf(events, sizeof events, ", a table of %zu %s", s->table.count, plural(s->table.count, "event", "events"));
+    snprintf(text, sizeof text, "%s: ring of %zu %s, edition %u%s", s->label, s->length, plural(s->length, "byte", "bytes"), s->attributes.edition, events);
     print_sentence(p->out, p->columns, 0, text);
     snprintf(text, sizeof text, "%llu %s in %llu %s, %llu refused, %llu lost by the kernel", (unsigned long long)s->records,
         plural(s->records, "record", "records"), (unsigned long long)s->bytes, plural(s->bytes, "byte", "bytes"),

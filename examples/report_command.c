@@ -14,6 +14,7 @@
 
 #include "arguments.h"
 #include "commands.h"
+#include "events.h"
 #include "live.h"
 #include "messages.h"
 #include "names.h"
@@ -41,7 +42,7 @@ static void usage(FILE *out)
         "usage: %s [OPTION..] IMAGE..\n"
         "       %s [OPTION..] --live [-- PROGRAM ARG..]\n"
         "Why a thread ran late: from saved rings of one recording ('-': standard\n"
-        "input), or recorded now.\n"
+        "input), or recorded now. X.table beside X.img is its table of events.\n"
         "  --watch W     the thread: its number or its name (else the one that waited\n"
         "                longest)\n"
         "  --period MS   how often it shall run: late is what comes after that (with\n"
@@ -79,13 +80,15 @@ static int tell_names(struct story *story, const char *path)
 static int tell_image(struct story *story, const char *path)
 {
     struct ring_image image;
+    struct event_table table;
     char why[WHY_ROOM];
-    if (!ring_image_load(path, &image, why)) {
+    if (!event_table_load(&table, path, why) || !ring_image_load(path, &image, why)) {
         complain("%s: %s", path, why);
         return STATUS_FAILED;
     }
     const char *slash = strrchr(path, '/');
     unsigned source = story_add_source(story, slash != NULL ? slash + 1 : path, &image.attributes, image.length);
+    story->sources[source].table = table;
     story_take(story, source, image.bytes, image.head, image.tail);
     story->sources[source].full = ring_is_full(image.length, image.head, image.tail);
     free(image.bytes);

@@ -97,6 +97,7 @@ struct thread {
 struct source {
     char label[64];
     struct ring_attributes attributes;
+    struct event_table table; /* count 0: the attributes serve */
     size_t length;
     uint64_t records, refused, bytes, lost, switches;
     uint64_t stale;       /* records that have stale bytes after their name */

@@ -4,6 +4,7 @@
 #include <string.h>
 
 #include "bytes.h"
+#include "events.h"
 #include "memory.h"
 #include "messages.h"
 #include "story.h"
@@ -14,6 +15,8 @@ struct reading {
     const uint8_t *record;
     size_t size;
     uint64_t fields[OLLSKUVAN_FIELDS];
+    uint64_t bits; /* the sample type that the record was written with */
+    bool id_all;
     struct event *event;
 };
 
@@ -55,7 +58,7 @@ static void take_cpu(struct event *e, uint64_t cpu)
 
 static void take_sample(struct reading *r)
 {
-    const uint64_t *f = r->fields, bits = r->source->attributes.sample_type;
+    const uint64_t *f = r->fields, bits = r->bits;
     struct event *e = r->event;
     e->kind = EVENT_SAMPLE;
     e->number = f[OLLSKUVAN_SAMPLE_IP];
@@ -71,9 +74,9 @@ static void take_sample(struct reading *r)
 /* Who, when and where, as far as the trailer says it. */
 static void take_trailer(struct reading *r)
 {
-    const uint64_t *f = r->fields, bits = r->source->attributes.sample_type;
+    const uint64_t *f = r->fields, bits = r->bits;
     struct event *e = r->event;
-    if (r->source->attributes.sample_id_all == 0)
+    if (!r->id_all)
         return;
     if ((bits & OLLSKUVAN_BIT_TID) != 0)
         e->who = whom(f[OLLSKUVAN_TRAILER_PID], f[OLLSKUVAN_TRAILER_TID]);
@@ -86,10 +89,10 @@ static void take_trailer(struct reading *r)
 /* Which event wrote the record, where the trailer tells. */
 static bool trailer_id(const struct reading *r, uint64_t *id)
 {
-    uint64_t bits = r->source->attributes.sample_type;
+    uint64_t bits = r->bits;
     bool identifier = (bits & OLLSKUVAN_BIT_IDENTIFIER) != 0;
     *id = r->fields[identifier ? OLLSKUVAN_TRAILER_IDENTIFIER : OLLSKUVAN_TRAILER_ID];
-    return r->source->attributes.sample_id_all != 0 && (identifier || (bits & OLLSKUVAN_BIT_ID) != 0);
+    return r->id_all && (identifier || (bits & OLLSKUVAN_BIT_ID) != 0);
 }
 
 /* ---- by type ---- */
@@ -302,15 +305,31 @@ static void add_event(struct reading *r, unsigned number, uint32_t answer)
     progress("reading", story->event_count, 0);
 }
 
+/* The record at a tail, with the ring's one attribute set or its table of events. */
+static struct ollskuvan_one read_one(struct reading *r, const struct source *source, const uint8_t *ring, uint64_t head,
+    uint64_t tail)
+{
+    const struct ring_attributes *a = &source->attributes;
+    r->bits = a->sample_type;
+    r->id_all = a->sample_id_all != 0;
+    if (source->table.count == 0)
+        return ollskuvan_read_one(ring, source->length, head, tail, a->sample_type, a->read_format,
+            a->sample_id_all, a->user_mask, a->interrupt_mask, a->branch_sample_type, a->edition, r->story->scratch,
+            OLLSKUVAN_RECORD_MAX, r->fields, OLLSKUVAN_FIELDS);
+    struct ollskuvan_one one = ollskuvan_read_one_events(ring, source->length, head, tail, source->table.events,
+        source->table.count, a->edition, r->story->scratch, OLLSKUVAN_RECORD_MAX, r->fields, OLLSKUVAN_FIELDS);
+    if (one.size != 0 && one.answer == OLLSKUVAN_OK) /* it has an event, which selects what it holds */
+        r->bits = source->table.events[event_of(&source->table, r->fields)].sample_type;
+    r->id_all = true;
+    return one;
+}
+
 uint64_t story_take(struct story *story, unsigned number, const uint8_t *ring, uint64_t head, uint64_t tail)
 {
     struct source *source = &story->sources[number];
-    const struct ring_attributes *a = &source->attributes;
     struct reading r = { .story = story };
     for (;;) {
-        struct ollskuvan_one one = ollskuvan_read_one(ring, source->length, head, tail, a->sample_type, a->read_format,
-            a->sample_id_all, a->user_mask, a->interrupt_mask, a->branch_sample_type, a->edition, story->scratch,
-            OLLSKUVAN_RECORD_MAX, r.fields, OLLSKUVAN_FIELDS);
+        struct ollskuvan_one one = read_one(&r, source, ring, head, tail);
         if (one.size == 0) {
             if (source->stop == OLLSKUVAN_STOP_NOTHING) { /* the first fault is kept, also when a live ring goes on */
                 source->stop = one.stop;

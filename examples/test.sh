@@ -71,6 +71,43 @@ done
 try kiln 0 examples/rings/kiln-cpu0.img examples/rings/kiln-cpu1.img
 grep -q "^late: waited 41\.2 ms: cpu 1 ran 'backup' 18805/18805\$" "$out/kiln.txt" || wrong "kiln: another verdict"
 
+# rings of several events, each read with the table beside it: no record is refused
+for image in rings/events/*.img; do
+  name=events-$(basename "$image" .img)
+  try "$name" 0 "$image"
+  grep -q 'a table of 4 events$' "$out/$name.txt" || wrong "$name: read without its table"
+  grep -q ', 0 refused, ' "$out/$name.txt" || wrong "$name: records of an event are refused"
+done
+# the same without one of the events, with no table, and with tables that are none
+alter() { # NAME SED-EXPRESSION
+  cp rings/events/counters.img "$out/$1.img" && sed "$2" rings/events/counters.table >"$out/$1.table"
+}
+told() { # NAME STATUS WORDS
+  "$late" --short "$out/$1.img" >"$out/$1.txt" 2>"$out/$1.err"
+  [ $? -eq "$2" ] || wrong "$1: another status than $2"
+  cat "$out/$1.txt" "$out/$1.err" | grep -q -e "$3" || wrong "$1: it does not say '$3'"
+  bad=$((bad + 1))
+}
+cp rings/events/counters.img "$out/tableless.img"
+told tableless 0 'edition 3$'
+alter fewer '5d'
+told fewer 0 ', 10 refused, '
+alter unsound 's/0x10086/0x86/'
+told unsound 1 'NOT READ TO ITS END: stop 11 at tail'
+alter twice '5p'
+told twice 1 'NOT READ TO ITS END: stop 11 at tail'
+alter six-words '3s/ 1 #/ #/'
+told six-words 1 'no table of events: line 3 has other than the seven words'
+alter letters '3s/0x0/zero/'
+told letters 1 'no table of events: line 3'
+alter too-great '3s/0x0/0x10000000000000000/'
+told too-great 1 'no table of events: line 3'
+alter eventless '2,$d'
+told eventless 1 'no table of events'
+alter many '2,$d'
+seq 1 33 | sed 's/$/ 0x10000 0 0 0 0 1/' >>"$out/many.table"
+told many 1 'line 34 has one more event than a table may have'
+
 # ---- scenes: rings that are made of what is written down
 tell() { sed -n "s/^# $2: //p" "examples/scenes/$1.txt"; }
 for scene in examples/scenes/*.txt; do
@@ -156,7 +193,11 @@ refuses 2 '--edition: a number from 1 to 3' controller --edition 4
 for bits in 0 0x '' -1 9x 0xg 0x10000000000000000; do
   refuses 2 "--branch: bits are wanted, as a number or as 0x.. and not 0, not '$bits'" controller --branch "$bits"
 done
-refuses 2 '--branch and --clock: a ring has samples of one kind' controller --clock --branch 0x9
+refuses 2 '--branch and --clock are one event' controller --clock --branch 0x9
+for list in '' faults page-faults, page-faults,page-faults 'page-faults cpu-clock'; do
+  refuses 2 '--events: some of cpu-clock, page-faults, context-switches and cpu-migrations are wanted' controller --events "$list"
+done
+refuses 2 '--clock and --events cpu-clock are the same counter' controller --clock --events page-faults,cpu-clock
 refuses 1 'No such file' controller --save "$out/none/saved"
 "$late" --help | grep -q '^usage: late ' || wrong "late --help"
 (exec -a 'x/two words' "$late" --help) | grep -q '^usage: two words ' || wrong "the usage does not take its name from argv[0]"

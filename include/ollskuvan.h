@@ -42,7 +42,8 @@
  *    sample_id_all, user_mask (sample_regs_user), interrupt_mask
  *    (sample_regs_intr) and branch_sample_type are those the event was opened
  *    with. sample_id_all is set if it is not zero; it and the edition are not
- *    narrowed (edition 257 is not edition 1).
+ *    narrowed (edition 257 is not edition 1). A ring with several events is read
+ *    with a table of them: struct ollskuvan_event, below.
  */
 #ifndef OLLSKUVAN_H
 #define OLLSKUVAN_H
@@ -77,6 +78,9 @@ extern "C" {
 /* The greatest size of a record: the greatest u16 that is a multiple of 8. */
 #define OLLSKUVAN_RECORD_MAX 65528u
 
+/* The most events of a table; the fewest is 1. */
+#define OLLSKUVAN_EVENTS_MAX 32u
+
 /* The bytes of one journal entry. */
 #define OLLSKUVAN_JOURNAL_ENTRY 16u
 /* Where the parts of an entry lie in it. */
@@ -92,7 +96,7 @@ extern "C" {
  *
  * Stops: the drain ends (read_one takes nothing), and tail, scratch and journal
  * are as they stood before that record. Tested at every record in this order:
- * 1, 2, 4, 5, 0, 8, 9, 6, 7, 3.
+ * 1, 2, 4, 5, 0, 8, 9, 6, 7, 3; with a table of events 11 stands after 5.
  */
 #define OLLSKUVAN_OK 0u                  /* a record: accepted; a copy or a writing: done */
 #define OLLSKUVAN_STOP_NOTHING 0u        /* head equals tail: nothing to take */
@@ -106,6 +110,7 @@ extern "C" {
 #define OLLSKUVAN_STOP_BUDGET 8u         /* the budget is used up */
 #define OLLSKUVAN_STOP_JOURNAL 9u        /* fewer than 16 journal bytes are left */
 /* 10 is never used again. It was kept for a header that crosses the ring's end, which cannot be once 1 and 5 pass. */
+#define OLLSKUVAN_STOP_TABLE 11u         /* the table of events is not allowed */
 
 /* The same numbers as answers of check, read and write, where nothing stops. */
 #define OLLSKUVAN_REFUSED_EDITION 2u /* check, read, write: the edition is not 1, 2 or 3 */
@@ -117,13 +122,16 @@ extern "C" {
 
 /* Refusals of a record: it is taken, the tail moves by its size, and it has no
  * value. 20, 21, 22, 23, 25 and 24 are tested in this order, before the bytes of
- * the body are looked at; of 30 to 33 the first in field order is given. */
+ * the body are looked at; of 30 to 33 the first in field order is given. With
+ * a table of events 27 and 26 come between 20 and 21. */
 #define OLLSKUVAN_REFUSED_TYPE 20u        /* type 0, or above the edition's */
 #define OLLSKUVAN_REFUSED_SAMPLE_TYPE 21u /* a sample bit the edition doesn't know; a SAMPLE, or sample_id_all is set */
 #define OLLSKUVAN_REFUSED_READ_FORMAT 22u /* read-format bit 4 or higher; READ, or a SAMPLE with sample bit 4 */
 #define OLLSKUVAN_REFUSED_BUILD_ID 23u    /* MMAP2 with misc bit 14, edition below 3 */
 #define OLLSKUVAN_REFUSED_BRANCH_TYPE 25u /* a SAMPLE with sample bit 11: branch bit 17, edition below 3; or 19 or higher */
 #define OLLSKUVAN_REFUSED_WEIGHTS 24u     /* a SAMPLE with sample bits 14 and 24 both selected */
+#define OLLSKUVAN_REFUSED_IDENTIFIER 26u  /* with a table: the record's identifier is not in it */
+#define OLLSKUVAN_REFUSED_NO_IDENTIFIER 27u /* with a table: the size is below 16, so that no identifier is there */
 #define OLLSKUVAN_REFUSED_SHORT 30u       /* a field or the trailer would pass the record's end */
 #define OLLSKUVAN_REFUSED_LEFT_OVER 31u   /* bytes are left over after the last field */
 #define OLLSKUVAN_REFUSED_INNER 32u       /* raw size + 4, stack size or aux size no multiple of 8; filled above stack size; build id above 20 */
@@ -522,6 +530,56 @@ struct ollskuvan_drained ollskuvan_drain(const uint8_t *ring, size_t ring_len, u
     uint8_t *journal, size_t journal_len);
 
 /*
+ * An event of a table: its identifier (ioctl PERF_EVENT_IOC_ID tells it) and
+ * the attributes it was opened with. sample_id_all is set if it is not zero.
+ *
+ * A table is a lent slice of 1 to OLLSKUVAN_EVENTS_MAX events, aligned to 8
+ * bytes. It is refused with 11 if it has none or more, if two identifiers are
+ * equal (0 is an identifier too), or if an event lacks sample bit 16
+ * (OLLSKUVAN_BIT_IDENTIFIER) or sample_id_all; nothing else is asked of it.
+ *
+ * Do not put the same software counter into one table twice. Where two events
+ * of one ring share a software counter, a kernel hands one sample buffer to
+ * both, and the second record carries the first one's identifier: it is then
+ * read with the attributes of the other event, and no reader can tell.
+ */
+struct ollskuvan_event {
+    uint64_t identifier;
+    uint64_t sample_type;
+    uint64_t read_format;
+    uint64_t user_mask;      /* sample_regs_user */
+    uint64_t interrupt_mask; /* sample_regs_intr */
+    uint64_t branch_sample_type;
+    uint64_t sample_id_all;
+};
+
+/*
+ * ollskuvan_drain_events is ollskuvan_drain for a ring into which several events
+ * write (ioctl PERF_EVENT_IOC_SET_OUTPUT).
+ *
+ * The stops are tested in the order 1, 2, 4, 5, 11, 0, 8, 9, 6, 7, 3: a
+ * table that is not allowed is 11 even where the ring is empty.
+ *
+ * A record's identifier is the first word after the header in a SAMPLE, and the
+ * last eight bytes in any other record, whatever else stands there. A record is
+ * answered in this order: 20; edition 1, which does not know identifiers,
+ * answers 21 to everything else; 27 if its size is below 16; 26 if its
+ * identifier is not in the table; then as ollskuvan_check does from 21 on, with
+ * the attributes of its event. 26 and 27 are refusals of a record: it is taken
+ * and passed over. All else is as ollskuvan_drain does it.
+ */
+struct ollskuvan_drained ollskuvan_drain_events(const uint8_t *ring, size_t ring_len, uint64_t head, uint64_t tail,
+    const struct ollskuvan_event *events, size_t event_count, uint32_t edition, uint64_t budget,
+    uint8_t *scratch, size_t scratch_len, uint8_t *journal, size_t journal_len);
+
+/*
+ * ollskuvan_find_event gives the index of the first event with this identifier,
+ * or event_count where there is none. It refuses nothing: the table may have any
+ * length, and identifiers that are equal.
+ */
+size_t ollskuvan_find_event(const struct ollskuvan_event *events, size_t event_count, uint64_t identifier);
+
+/*
  * ollskuvan_check answers for one record, which is the whole slice: 2; 7 if the
  * slice is shorter than 8 bytes; 6; 7 if the record's size is not the slice's
  * length; 20 to 25; 30 to 33; 44 if the record has a name whose flag is set;
@@ -601,6 +659,18 @@ struct ollskuvan_one ollskuvan_read_one(const uint8_t *ring, size_t ring_len, ui
     uint64_t sample_type, uint64_t read_format, uint32_t sample_id_all, uint64_t user_mask, uint64_t interrupt_mask,
     uint64_t branch_sample_type, uint32_t edition, uint8_t *scratch, size_t scratch_len, uint64_t *fields,
     size_t fields_len);
+
+/*
+ * ollskuvan_read_one_events is ollskuvan_read_one with a table of events: it
+ * gives the record of an entry of ollskuvan_drain_events. Its stops are 1, 2, 4,
+ * 5, 11, 0, 6, 7, 3; answer is that of ollskuvan_drain_events, then 40. The
+ * value has the words that the record's event selects; ollskuvan_find_event
+ * tells the event by word OLLSKUVAN_SAMPLE_IDENTIFIER of a SAMPLE, and
+ * OLLSKUVAN_TRAILER_IDENTIFIER of any other record.
+ */
+struct ollskuvan_one ollskuvan_read_one_events(const uint8_t *ring, size_t ring_len, uint64_t head, uint64_t tail,
+    const struct ollskuvan_event *events, size_t event_count, uint32_t edition, uint8_t *scratch, size_t scratch_len,
+    uint64_t *fields, size_t fields_len);
 
 /*
  * ollskuvan_write writes the record of a value: the first OLLSKUVAN_FIELDS

@@ -1,7 +1,8 @@
 /*
  * Calls every export of libollskuvan.a from C, at the edges: empty slices, null
  * with length 0, edition 257, budget 0, journals of 15 and 16 bytes, scratch one
- * byte short, buffers one byte short, values one word short.
+ * byte short, buffers one byte short, values one word short, tables of 0, 32 and 33
+ * events.
  *
  * With WITHOUT_VALUES defined, ollskuvan_read, ollskuvan_read_one and ollskuvan_write are left out.
  *
@@ -466,6 +467,49 @@ static void test_dirty_names(void)
     free(other);
 }
 
+/* A table of one event, 5, with sample bits 2 and 16; then that of two, 5 and 0. */
+static const struct ollskuvan_event EVENTS[2] = {
+    {5, OLLSKUVAN_BIT_IDENTIFIER | OLLSKUVAN_BIT_TIME, 0, 0, 0, 0, 1},
+    {0, OLLSKUVAN_BIT_IDENTIFIER, 0, 0, 0, 0, UINT64_C(1) << 63},
+};
+
+/* So many events in a block of their own. */
+static struct ollskuvan_event *events(size_t count)
+{
+    struct ollskuvan_event *table = malloc(count * sizeof *table + 1);
+    size_t i;
+    if (!table)
+        abort();
+    for (i = 0; i < count; i++) {
+        table[i] = EVENTS[0];
+        table[i].identifier = 5 + i;
+    }
+    return table;
+}
+
+/* A switch out of event 5 at 0, a SAMPLE of event 5 at 24 that ends with 0, a switch of event 0 at 48. */
+static void lay_events(uint8_t *ring)
+{
+    memset(ring, 0, 64);
+    memcpy(ring, SWITCH, 8);
+    put16(ring + 6, 24);
+    put16(ring + 16, 5);
+    put16(ring + 24, OLLSKUVAN_TYPE_SAMPLE);
+    put16(ring + 30, 24);
+    put16(ring + 32, 5);
+    memcpy(ring + 48, SWITCH, 8);
+    put16(ring + 54, 16);
+}
+
+/* The entries' answers, as digits. */
+static uint64_t answers(const uint8_t *journal, uint64_t taken)
+{
+    uint64_t all = 0;
+    for (; taken; taken--, journal += 16)
+        all = 100 * all + get(journal + OLLSKUVAN_JOURNAL_ANSWER, 2);
+    return all;
+}
+
 #ifndef WITHOUT_VALUES
 /* The flag's word, read and written: 43 where it is not 0. */
 static void test_dirty_values(void)
@@ -789,7 +833,232 @@ static void test_read_one(void)
     free(one_words);
 }
 
+
+static struct ollskuvan_one read_one_events(uint64_t head, uint64_t tail, const struct ollskuvan_event *table,
+    size_t count, uint32_t edition, size_t scratch_len, size_t words)
+{
+    size_t i;
+
+    memset(one_scratch, 0xc3, 32);
+    for (i = 0; i < 57; i++)
+        one_words[i] = 99;
+    return ollskuvan_read_one_events(one_ring, 64, head, tail, table, count, edition, scratch_len ? one_scratch : NULL,
+        scratch_len, words ? one_words : NULL, words);
+}
+
+static void test_read_one_events(void)
+{
+    struct ollskuvan_event *two = events(2);
+    struct ollskuvan_one one;
+
+    two[1] = EVENTS[1];
+    one_ring = block(64);
+    one_scratch = block(32);
+    one_words = malloc(57 * sizeof *one_words);
+    if (!one_words)
+        abort();
+
+    /* null with length 0 everywhere; the rows in the order of the table */
+    one = ollskuvan_read_one_events(NULL, 0, 24, 5, NULL, 0, 257, NULL, 0, NULL, 0);
+    IS(one.stop, OLLSKUVAN_STOP_RING_LENGTH);
+    IS(one.tail, 5);
+    STOPS(read_one_events(72, 1, NULL, 0, 257, 24, 56), OLLSKUVAN_STOP_EDITION, 1);
+    STOPS(read_one_events(72, 1, NULL, 0, 3, 24, 56), OLLSKUVAN_STOP_DISTANCE, 1);
+    STOPS(read_one_events(64, 1, NULL, 0, 3, 24, 56), OLLSKUVAN_STOP_ALIGNMENT, 1);
+    STOPS(read_one_events(8, 8, NULL, 0, 3, 24, 56), OLLSKUVAN_STOP_TABLE, 8);
+    STOPS(read_one_events(8, 8, two, 2, 3, 24, 56), OLLSKUVAN_STOP_NOTHING, 8);
+
+    lay_events(one_ring);
+    put16(one_ring + 30, 12);
+    STOPS(read_one_events(64, 24, two, 2, 3, 24, 56), OLLSKUVAN_STOP_SIZE, 24);
+    put16(one_ring + 30, 48);
+    STOPS(read_one_events(64, 24, two, 2, 3, 24, 56), OLLSKUVAN_STOP_PAST_HEAD, 24);
+    put16(one_ring + 30, 24);
+
+    /* each with its own event's words; 26 and 27 come before 40, and the tail moves all the same */
+    TAKES(read_one_events(64, 0, two, 2, 3, 0, 56), 0, 24, OLLSKUVAN_OK);
+    IS(one_words[OLLSKUVAN_TRAILER_IDENTIFIER], 5);
+    IS(one_words[OLLSKUVAN_TRAILER_TIME], 0);
+    put16(one_ring + 40, 77);
+    TAKES(read_one_events(64, 24, two, 2, 3, 0, 57), 24, 48, OLLSKUVAN_OK);
+    IS(one_words[OLLSKUVAN_SAMPLE_IDENTIFIER], 5);
+    IS(one_words[OLLSKUVAN_SAMPLE_TIME], 77);
+    TAKES(read_one_events(64, 24, two, 2, 3, 0, 55), 24, 48, OLLSKUVAN_REFUSED_ROOM);
+    TAKES(read_one_events(64, 24, two + 1, 1, 3, 0, 0), 24, 48, OLLSKUVAN_REFUSED_IDENTIFIER);
+    two[0].sample_type |= OLLSKUVAN_BIT_BRANCHES;
+    two[0].branch_sample_type = UINT64_C(1) << 63;
+    TAKES(read_one_events(64, 24, two, 2, 3, 0, 0), 24, 48, OLLSKUVAN_REFUSED_BRANCH_TYPE);
+    two[0] = EVENTS[0];
+    TAKES(read_one_events(64, 24, two, 2, 1, 0, 56), 24, 48, OLLSKUVAN_REFUSED_SAMPLE_TYPE);
+    one = read_one_events(64, 48, two, 2, 3, 0, 56);
+    IS(one.answer, OLLSKUVAN_OK);
+    IS(one_words[OLLSKUVAN_TRAILER_TIME], 0);
+    put16(one_ring + 54, 8);
+    one = read_one_events(64, 48, two, 2, 3, 0, 0);
+    IS(one.answer, OLLSKUVAN_REFUSED_NO_IDENTIFIER);
+    IS(one.size, 8);
+
+    /* across the end */
+    memcpy(one_ring + 56, SWITCH, 8);
+    put16(one_ring + 62, 24);
+    memset(one_ring, 0, 16);
+    put16(one_ring + 8, 5);
+    STOPS(read_one_events(16, UINT64_MAX - 7, two, 2, 3, 23, 56), OLLSKUVAN_STOP_SCRATCH, UINT64_MAX - 7);
+    one = read_one_events(16, UINT64_MAX - 7, two, 2, 3, 24, 56);
+    TAKES(one, 0, 16, OLLSKUVAN_OK);
+    IS(one.in_scratch, 1);
+    OK(memcmp(one_scratch + 8, one_ring, 16) == 0 && untouched(one_scratch + 24, 8));
+
+    free(two);
+    free(one_ring);
+    free(one_scratch);
+    free(one_words);
+}
 #endif
+
+static void test_drain_events(void)
+{
+    uint8_t *ring = block(64), *journal = block(48), *scratch = block(24), *before = block(64);
+    struct ollskuvan_event *one = events(1), *two = events(2), *most = events(32), *more = events(33);
+    struct ollskuvan_drained d;
+
+    two[1] = EVENTS[1];
+    lay_events(ring);
+    memcpy(before, ring, 64);
+
+    /* null with length 0 everywhere; 11 after 1, 2, 4 and 5, and before 0, 8 and 9 */
+    d = ollskuvan_drain_events(NULL, 0, 24, 5, NULL, 0, 257, 0, NULL, 0, NULL, 0);
+    IS(d.stop, OLLSKUVAN_STOP_RING_LENGTH);
+    IS(d.taken | d.bytes, 0);
+    IS(d.tail, 5);
+    IS(ollskuvan_drain_events(ring, 64, 72, 1, NULL, 0, 257, 0, NULL, 0, NULL, 0).stop, OLLSKUVAN_STOP_EDITION);
+    IS(ollskuvan_drain_events(ring, 64, 72, 1, NULL, 0, 3, 0, NULL, 0, NULL, 0).stop, OLLSKUVAN_STOP_DISTANCE);
+    IS(ollskuvan_drain_events(ring, 64, 64, 1, NULL, 0, 3, 0, NULL, 0, NULL, 0).stop, OLLSKUVAN_STOP_ALIGNMENT);
+    IS(ollskuvan_drain_events(ring, 64, 8, 8, NULL, 0, 3, 0, NULL, 0, NULL, 0).stop, OLLSKUVAN_STOP_TABLE);
+    IS(ollskuvan_drain_events(ring, 64, 8, 8, one, 0, 3, 0, NULL, 0, NULL, 0).stop, OLLSKUVAN_STOP_TABLE);
+    IS(ollskuvan_drain_events(ring, 64, 8, 8, one, 1, 3, 0, NULL, 0, NULL, 0).stop, OLLSKUVAN_STOP_NOTHING);
+    IS(ollskuvan_drain_events(ring, 64, 8, 0, one, 1, 3, 0, NULL, 0, NULL, 0).stop, OLLSKUVAN_STOP_BUDGET);
+    IS(ollskuvan_drain_events(ring, 64, 8, 0, one, 1, 3, 1, NULL, 0, NULL, 0).stop, OLLSKUVAN_STOP_JOURNAL);
+
+    /* 32 events and 33; equal identifiers; no bit 16; no sample_id_all, which is any of its 64 bits */
+    IS(ollskuvan_drain_events(ring, 64, 8, 8, most, 32, 3, 1, NULL, 0, NULL, 0).stop, OLLSKUVAN_STOP_NOTHING);
+    IS(ollskuvan_drain_events(ring, 64, 8, 8, more, 33, 3, 1, NULL, 0, NULL, 0).stop, OLLSKUVAN_STOP_TABLE);
+    IS(ollskuvan_drain_events(ring, 64, 8, 8, more, 32, 3, 1, NULL, 0, NULL, 0).stop, OLLSKUVAN_STOP_NOTHING);
+    most[31].identifier = 5;
+    d = ollskuvan_drain_events(ring, 64, 64, 0, most, 32, 3, 9, scratch, 24, journal, 48);
+    IS(d.stop, OLLSKUVAN_STOP_TABLE);
+    IS(d.taken | d.bytes | d.tail, 0);
+    OK(untouched(journal, 48) && untouched(scratch, 24));
+    IS(ollskuvan_drain_events(ring, 64, 8, 8, most, 31, 3, 1, NULL, 0, NULL, 0).stop, OLLSKUVAN_STOP_NOTHING);
+    one[0].sample_type = ~OLLSKUVAN_BIT_IDENTIFIER;
+    IS(ollskuvan_drain_events(ring, 64, 8, 8, one, 1, 1, 1, NULL, 0, NULL, 0).stop, OLLSKUVAN_STOP_TABLE);
+    one[0] = EVENTS[0];
+    one[0].sample_id_all = 0;
+    IS(ollskuvan_drain_events(ring, 64, 8, 8, one, 1, 3, 1, NULL, 0, NULL, 0).stop, OLLSKUVAN_STOP_TABLE);
+    one[0].sample_id_all = UINT64_C(1) << 32;
+    IS(ollskuvan_drain_events(ring, 64, 8, 8, one, 1, 3, 1, NULL, 0, NULL, 0).stop, OLLSKUVAN_STOP_NOTHING);
+
+    /* the identifier of a SAMPLE is its first word, of a switch its last */
+    d = ollskuvan_drain_events(ring, 64, 64, 0, two, 2, 3, 9, NULL, 0, journal, 48);
+    IS(d.stop, OLLSKUVAN_STOP_NOTHING);
+    IS(d.taken, 3);
+    IS(answers(journal, 3), 0);
+    IS(get(journal + 32 + OLLSKUVAN_JOURNAL_TAIL, 8), 48);
+    ollskuvan_drain_events(ring, 64, 64, 0, two, 1, 3, 9, NULL, 0, journal, 48);
+    IS(answers(journal, 3), OLLSKUVAN_REFUSED_IDENTIFIER);
+    ollskuvan_drain_events(ring, 64, 64, 0, two + 1, 1, 3, 9, NULL, 0, journal, 48);
+    IS(answers(journal, 3), 262600);
+    /* edition 1: 20 to a switch, 21 to the rest; edition 2 reads all of them */
+    ollskuvan_drain_events(ring, 64, 64, 0, two, 2, 1, 9, NULL, 0, journal, 48);
+    IS(answers(journal, 3), 202120);
+    ollskuvan_drain_events(ring, 64, 64, 0, two, 2, 2, 9, NULL, 0, journal, 48);
+    IS(answers(journal, 3), 0);
+    /* the event's own: a bit that the edition doesn't know, for its records alone */
+    two[1].sample_type |= OLLSKUVAN_BIT_CGROUP;
+    ollskuvan_drain_events(ring, 64, 64, 0, two, 2, 2, 9, NULL, 0, journal, 48);
+    IS(answers(journal, 3), OLLSKUVAN_REFUSED_SAMPLE_TYPE);
+    two[1] = EVENTS[1];
+    /* and its branch sample type: the index is a word more in edition 3, 25 in edition 2; bit 19 is 25; another's is not looked at */
+    two[0].sample_type = OLLSKUVAN_BIT_IDENTIFIER | OLLSKUVAN_BIT_BRANCHES;
+    two[1].branch_sample_type = UINT64_MAX;
+    ollskuvan_drain_events(ring, 64, 48, 24, two, 2, 3, 9, NULL, 0, journal, 48);
+    IS(answers(journal, 1), 0);
+    two[0].branch_sample_type = OLLSKUVAN_BRANCH_HW_INDEX;
+    ollskuvan_drain_events(ring, 64, 48, 24, two, 2, 3, 9, NULL, 0, journal, 48);
+    IS(answers(journal, 1), OLLSKUVAN_REFUSED_SHORT);
+    ollskuvan_drain_events(ring, 64, 48, 24, two, 2, 2, 9, NULL, 0, journal, 48);
+    IS(answers(journal, 1), OLLSKUVAN_REFUSED_BRANCH_TYPE);
+    two[0].branch_sample_type = UINT64_C(1) << 19;
+    ollskuvan_drain_events(ring, 64, 48, 24, two, 2, 3, 9, NULL, 0, journal, 48);
+    IS(answers(journal, 1), OLLSKUVAN_REFUSED_BRANCH_TYPE);
+    two[0] = EVENTS[0];
+    two[1] = EVENTS[1];
+    OK(memcmp(ring, before, 64) == 0);
+
+    /* a size of 8 is 27, after 20 and edition 1's 21; one of 16 is looked up */
+    memcpy(ring + 48, SWITCH, 8);
+    memcpy(ring + 56, SWITCH, 8);
+    IS(ollskuvan_drain_events(ring, 64, 64, 48, two, 2, 3, 9, NULL, 0, journal, 48).taken, 2);
+    IS(answers(journal, 2), 2727);
+    ollskuvan_drain_events(ring, 64, 64, 48, two, 2, 1, 9, NULL, 0, journal, 48);
+    IS(answers(journal, 2), 2020);
+    put16(ring + 48, OLLSKUVAN_TYPE_COMM);
+    ollskuvan_drain_events(ring, 64, 64, 48, two, 2, 1, 9, NULL, 0, journal, 48);
+    IS(answers(journal, 2), 2120);
+    put16(ring + 48, OLLSKUVAN_TYPE_SAMPLE);
+    put16(ring + 54, 16);
+    memset(ring + 56, 0, 8);
+    ollskuvan_drain_events(ring, 64, 64, 48, two, 2, 3, 9, NULL, 0, journal, 48);
+    IS(answers(journal, 1), 0);
+    put16(ring + 56, 5);
+    ollskuvan_drain_events(ring, 64, 64, 48, two, 2, 3, 9, NULL, 0, journal, 48);
+    IS(answers(journal, 1), OLLSKUVAN_REFUSED_SHORT);
+
+    /* across the end at tail 2^64 - 8: scratch one byte short, then just long enough; the identifier lies in the scratch */
+    memcpy(ring + 56, SWITCH, 8);
+    put16(ring + 62, 24);
+    memset(ring, 0, 16);
+    put16(ring + 8, 5);
+    memset(journal, 0xc3, 48);
+    d = ollskuvan_drain_events(ring, 64, 16, UINT64_MAX - 7, two, 2, 3, 9, scratch, 23, journal, 48);
+    IS(d.stop, OLLSKUVAN_STOP_SCRATCH);
+    OK(untouched(scratch, 24) && untouched(journal, 48));
+    d = ollskuvan_drain_events(ring, 64, 16, UINT64_MAX - 7, two, 2, 3, 9, scratch, 24, journal, 48);
+    IS(d.stop, OLLSKUVAN_STOP_NOTHING);
+    IS(d.taken, 1);
+    IS(answers(journal, 1), 0);
+    OK(memcmp(scratch, ring + 56, 8) == 0 && memcmp(scratch + 8, ring, 16) == 0);
+    OK(untouched(journal + 16, 32));
+
+    free(ring);
+    free(journal);
+    free(scratch);
+    free(before);
+    free(one);
+    free(two);
+    free(most);
+    free(more);
+}
+
+static void test_find_event(void)
+{
+    struct ollskuvan_event *table = events(40);
+
+    IS(ollskuvan_find_event(NULL, 0, 0), 0);
+    IS(ollskuvan_find_event(NULL, 0, UINT64_MAX), 0);
+    IS(ollskuvan_find_event(table, 40, 5), 0);
+    IS(ollskuvan_find_event(table, 40, 44), 39);
+    IS(ollskuvan_find_event(table, 40, 45), 40);
+    IS(ollskuvan_find_event(table, 39, 44), 39);
+    IS(ollskuvan_find_event(table, 40, 5 + (UINT64_C(1) << 32)), 40);
+    /* the first of equal ones; what else an event has is not looked at */
+    table[39].identifier = 9;
+    table[4].sample_type = table[4].sample_id_all = 0;
+    IS(ollskuvan_find_event(table, 40, 9), 4);
+    IS(ollskuvan_find_event(table + 5, 35, 9), 34);
+
+    free(table);
+}
 
 int main(void)
 {
@@ -797,7 +1066,10 @@ int main(void)
     IS(OLLSKUVAN_FIELDS, 56);
     IS(sizeof(struct ollskuvan_drained), 32);
     IS(sizeof(struct ollskuvan_one), 40);
+    IS(sizeof(struct ollskuvan_event), 56);
     test_drain();
+    test_drain_events();
+    test_find_event();
     test_check();
     test_branches();
     test_misc_meaning();
@@ -808,6 +1080,7 @@ int main(void)
     test_read_write();
     test_index_word();
     test_read_one();
+    test_read_one_events();
 #endif
     printf("exports from C: %d calls and bytes as due, %d not\n", passed, failed);
     return failed ? 1 : 0;

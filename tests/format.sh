@@ -1,6 +1,6 @@
 #!/bin/sh
 # docs/FORMAT.md and include/ollskuvan.h tell the same numbers: the word of each field, the number of each type and of
-# each answer and meaning, the places in a journal entry. Every word, type, answer and meaning is on the page.
+# each answer and meaning, the places in a journal entry, bounds. Every word, type, answer and meaning is on the page.
 set -eu
 cd "$(dirname "$0")/.."
 
@@ -23,7 +23,7 @@ awk -F'|' '
             split(substr($0, RSTART, RLENGTH), part, " ")
             due[part[2]] = part[3] + 0
             if (area == "word" && part[2] != "OLLSKUVAN_FIELDS" ||
-                    part[2] ~ /^OLLSKUVAN_(TYPE_|STOP_|REFUSED_|DIRTY_|MEANS_|JOURNAL_[KLAT])/)
+                    part[2] ~ /^OLLSKUVAN_(TYPE_|STOP_|REFUSED_|DIRTY_|MEANS_|JOURNAL_[KLAT]|EVENTS_)/)
                 must[part[2]] = 1
         }
         next
@@ -54,6 +54,12 @@ awk -F'|' '
     # an answer in a row: a number, a comma, the constant
     match($0, /[0-9]+, `[A-Z_]+`/) {
         split(substr($0, RSTART, RLENGTH), part, /, /)
+        compare("OLLSKUVAN_" strip(part[2]), part[1])
+    }
+    # a bound: a number, the constant in brackets
+    match($0, /[0-9]+ \(`[A-Z_]+`\)/) {
+        split(substr($0, RSTART, RLENGTH), part, / \(/)
+        sub(/\)$/, "", part[2])
         compare("OLLSKUVAN_" strip(part[2]), part[1])
     }
     END {

@@ -55,7 +55,8 @@ enum kind {
     SAME_NUMBER,
     LEAST_WORDS_READ, OLDEST_EDITION, RING_SHORTEST, RING_LONGEST, RECORD_LONGEST,
     ENTRY_BYTES, ENTRY_OFFSET, ENTRY_KIND_GIVEN,
-    MEANING_GIVEN, STOP_GIVEN, CHECK_GIVEN, COPY_GIVEN, WRITE_GIVEN, DIRTY_CHECK_GIVEN, DIRTY_WRITE_GIVEN
+    MEANING_GIVEN, STOP_GIVEN, CHECK_GIVEN, COPY_GIVEN, WRITE_GIVEN, DIRTY_CHECK_GIVEN, DIRTY_WRITE_GIVEN,
+    EVENTS_MOST, TABLE_STOP_GIVEN, EVENT_ANSWER_GIVEN
 };
 
 struct row {
@@ -102,6 +103,9 @@ struct row {
 #define WRITTEN(w, ...) ROW(WRITE_GIVEN, #w, w, NULL, __VA_ARGS__)
 #define DIRTY(w, ...) ROW(DIRTY_CHECK_GIVEN, #w, w, NULL, __VA_ARGS__)
 #define DIRTY_WRITTEN(w, ...) ROW(DIRTY_WRITE_GIVEN, #w, w, NULL, __VA_ARGS__)
+#define MOST_EVENTS(w) ROW(EVENTS_MOST, #w, w, NULL, 0)
+#define TABLE_STOP(w, ...) ROW(TABLE_STOP_GIVEN, #w, w, NULL, __VA_ARGS__)
+#define EVENT_ANSWER(w, ...) ROW(EVENT_ANSWER_GIVEN, #w, w, NULL, __VA_ARGS__)
 
 /* The entry that ENTRY_PLACE looks at: a type that no edition knows, at this tail. */
 #define ENTRY_KIND 0x7766
@@ -217,6 +221,32 @@ static uint64_t stopped(const uint64_t n[8])
         journal, (size_t)n[5]).stop;
 }
 
+/* A table of so many events, identifiers 1, 2 and so on, with sample bit 16 and sample_id_all; over a ring whose one
+ * record has this type, this size and then zeros up to its last word. */
+enum { EVENTS = 99 };
+static uint64_t answered(uint64_t events, uint64_t type, uint64_t size, uint64_t last, uint8_t entry[16])
+{
+    static struct ollskuvan_event table[EVENTS];
+    uint8_t ring[64] = {0};
+    uint64_t i;
+    for (i = 0; i < events; i++)
+        table[i] = (struct ollskuvan_event){i + 1, 1 << 16, 0, 0, 0, 0, 1};
+    spell(ring, type, 4);
+    if (size > 8)
+        spell(ring + size - 8, last, 8);
+    spell(ring + 6, size, 2);
+    return ollskuvan_drain_events(ring, 64, size, 0, table, (size_t)events, 3, 1, NULL, 0, entry, 16).stop;
+}
+
+static uint64_t most_events(void)
+{
+    uint8_t entry[16];
+    uint64_t count = EVENTS;
+    while (count && answered(count, 14, 16, 1, entry) != 0)
+        count--;
+    return count;
+}
+
 /* A LOST with this size word, into a buffer of this length: words 0, 1 and 2 are type, misc and size. */
 static uint64_t written(uint64_t size, uint64_t length)
 {
@@ -264,6 +294,9 @@ static uint64_t shown(const struct row *row)
     case WRITE_GIVEN: return written(n[0], n[1]);
     case DIRTY_CHECK_GIVEN: return checked_dirty(n[0], n[1]);
     case DIRTY_WRITE_GIVEN: return written_dirty(n[0], n[1], n[2]);
+    case EVENTS_MOST: return most_events();
+    case TABLE_STOP_GIVEN: return answered(n[0], 14, 16, 1, buffer);
+    case EVENT_ANSWER_GIVEN: return answered(1, n[0], n[1], n[2], buffer) ? 999 : (uint64_t)buffer[6];
     default: return n[0]; /* SAME_NUMBER */
     }
 }

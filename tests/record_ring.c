@@ -6,6 +6,10 @@
  *     record_ring PLAN OUT.img      record one plan
  *     record_ring list              print the plans
  *
+ * A plan of several events writes their table beside the image, OUT.table: an
+ * event a line, the words of struct ollskuvan_event. The image's own attributes
+ * are then those of its first event.
+ *
  * Needs the right to open perf events (root, or a low perf_event_paranoid).
  * Only software events are used. What the records hold comes from small
  * workloads of this program alone; where stacks are recorded it runs on one of
@@ -570,6 +574,144 @@ static void plan_kernel(const char *out)
     save(&r, out);
 }
 
+/* ---- several events in one ring ---- */
+
+enum { EVENTS = 4 };
+
+struct several {
+    struct recording r; /* the first event, and the ring of all */
+    struct perf_event_attr attrs[EVENTS];
+    int fds[EVENTS];
+    const char *names[EVENTS];
+    uint64_t identifiers[EVENTS];
+};
+
+/* All write into the ring of the first. Each has a counter of its own: where two share a software counter, the second
+ * one's samples carry the first one's identifier. */
+static void open_several(struct several *s, pid_t pid, int cpu, size_t pages)
+{
+    int i;
+    s->r.attr = s->attrs[0];
+    open_ring(&s->r, pid, cpu, pages);
+    s->fds[0] = s->r.fd;
+    for (i = 1; i < EVENTS; i++) {
+        s->attrs[i].disabled = 1;
+        s->fds[i] = open_event(&s->attrs[i], pid, cpu, -1);
+        if (s->fds[i] < 0)
+            die("perf_event_open of another event");
+        if (ioctl(s->fds[i], PERF_EVENT_IOC_SET_OUTPUT, s->fds[0]))
+            die("one ring for several events");
+    }
+    for (i = 0; i < EVENTS; i++)
+        if (ioctl(s->fds[i], PERF_EVENT_IOC_ID, &s->identifiers[i]))
+            die("an event's identifier");
+}
+
+static void switch_several(struct several *s, unsigned long request)
+{
+    int i;
+    for (i = 0; i < EVENTS; i++)
+        if (ioctl(s->fds[i], request, 0))
+            die("several events on or off");
+}
+
+static void save_several(struct several *s, const char *path)
+{
+    char table[4096];
+    FILE *file;
+    int i;
+    save(&s->r, path);
+    snprintf(table, sizeof table, "%.*s.table", (int)(strlen(path) - strlen(".img")), path);
+    file = fopen(table, "w");
+    if (!file)
+        die(table);
+    fprintf(file, "# identifier sample_type read_format user_mask interrupt_mask branch_sample_type sample_id_all\n");
+    for (i = 0; i < EVENTS; i++)
+        fprintf(file, "%llu 0x%llx 0x%llx 0x%llx 0x%llx 0x0 %d # %s\n", (unsigned long long)s->identifiers[i],
+            (unsigned long long)s->attrs[i].sample_type, (unsigned long long)s->attrs[i].read_format,
+            (unsigned long long)s->attrs[i].sample_regs_user, (unsigned long long)s->attrs[i].sample_regs_intr,
+            (int)s->attrs[i].sample_id_all, s->names[i]);
+    if (fclose(file))
+        die(table);
+}
+
+/* Names, mappings and switches; page faults; the cpu clock with what it can tell; switches as a counter of its own. */
+static void choose_several(struct several *s)
+{
+    const uint64_t every = IDENTITY | PERF_SAMPLE_IDENTIFIER;
+    s->names[0] = "names, mappings and switches";
+    software(&s->attrs[0], PERF_COUNT_SW_DUMMY, every, 1);
+    s->attrs[0].context_switch = s->attrs[0].comm = s->attrs[0].task = 1;
+    s->attrs[0].mmap = s->attrs[0].mmap2 = s->attrs[0].build_id = 1;
+    s->names[1] = "page faults";
+    software(&s->attrs[1], PERF_COUNT_SW_PAGE_FAULTS, every | PERF_SAMPLE_ADDR | PERF_SAMPLE_PERIOD, 1);
+    s->attrs[1].sample_period = 3;
+    s->names[2] = "cpu clock";
+    software(&s->attrs[2], PERF_COUNT_SW_CPU_CLOCK,
+        every | PERF_SAMPLE_IP | PERF_SAMPLE_CALLCHAIN | PERF_SAMPLE_REGS_USER | PERF_SAMPLE_REGS_INTR, 1);
+    s->attrs[2].sample_period = 500000;
+    s->attrs[2].exclude_kernel = 1;
+    s->attrs[2].sample_regs_user = REGISTERS;
+    s->attrs[2].sample_regs_intr = FEW_REGISTERS;
+    s->names[3] = "context switches, counted";
+    software(&s->attrs[3], PERF_COUNT_SW_CONTEXT_SWITCHES,
+        PERF_SAMPLE_IDENTIFIER | PERF_SAMPLE_TIME | PERF_SAMPLE_ID | PERF_SAMPLE_STREAM_ID | PERF_SAMPLE_READ, 1);
+    s->attrs[3].sample_period = 2;
+    s->attrs[3].read_format = PERF_FORMAT_TOTAL_TIME_ENABLED | PERF_FORMAT_TOTAL_TIME_RUNNING | PERF_FORMAT_ID;
+}
+
+static struct several several;
+
+static void several_part(void)
+{
+    int i;
+    for (i = 0; i < 30; i++) {
+        deeper((unsigned)i % 9, 60000);
+        touch_pages(4);
+        naps(2);
+        if (i % 8 == 0)
+            prctl(PR_SET_NAME, i % 16 ? "kiln-1" : "kiln");
+        if (i == 25)
+            munmap(mmap(NULL, 4096, PROT_READ | PROT_EXEC, MAP_PRIVATE | MAP_ANONYMOUS, -1, 0), 4096);
+        read_on(&several.r, several.r.length - 900);
+    }
+}
+
+/* One thread; the ring goes round, and the reader falls behind at its end. */
+static void plan_events_counters(const char *out)
+{
+    choose_several(&several);
+    open_several(&several, 0, -1, 2);
+    switch_several(&several, PERF_EVENT_IOC_ENABLE);
+    on_own_stack(several_part);
+    touch_pages(400);
+    read_on(&several.r, several.r.length - 900);
+    touch_pages(6);
+    switch_several(&several, PERF_EVENT_IOC_DISABLE);
+    save_several(&several, out);
+}
+
+/* A process with children, whose records carry the identifiers of the events that they have from it. */
+static void plan_events_children(const char *out)
+{
+    pid_t pid = child(rename_and_fork);
+    int i;
+    choose_several(&several);
+    several.attrs[2].sample_period = 40000;
+    several.attrs[3].read_format = 0;
+    several.attrs[3].sample_type &= ~(uint64_t)PERF_SAMPLE_READ;
+    several.attrs[3].sample_type |= PERF_SAMPLE_CPU;
+    several.attrs[1].sample_period = 60;
+    several.attrs[3].sample_period = 1;
+    for (i = 0; i < EVENTS; i++)
+        several.attrs[i].inherit = 1;
+    open_several(&several, pid, 0, 4);
+    switch_several(&several, PERF_EVENT_IOC_ENABLE);
+    let_run(pid);
+    switch_several(&several, PERF_EVENT_IOC_DISABLE);
+    save_several(&several, out);
+}
+
 static const struct {
     const char *name;
     void (*run)(const char *out);
@@ -587,6 +729,8 @@ static const struct {
     {"many-bits", plan_many_bits, "cpu-clock samples with 22 of the 25 sample bits and the values of a group"},
     {"counts-at-exit", plan_counts_at_exit, "READ records of threads and children"},
     {"kernel", plan_kernel, "filters and their symbols"},
+    {"events/counters", plan_events_counters, "four events of different counters in one ring, with their table"},
+    {"events/children", plan_events_children, "the same of a process with children"},
 };
 
 int main(int argc, char **argv)

@@ -7,7 +7,7 @@
 #   tests/run.sh without-values  for an archive that has no ollskuvan_read and ollskuvan_write yet
 #   tests/run.sh standin         with the independent reader in the library's place: tries the tests
 #                                themselves and says nothing about the library
-#   tests/run.sh long COUNT SEED COUNT drains and COUNT values with this seed, and nothing else
+#   tests/run.sh long COUNT SEED COUNT drains, COUNT with a table and COUNT values with this seed, and nothing else
 #   tests/run.sh soak MINUTES [SEED]
 #                                random and damaged rings, records and images until the time is up, with
 #                                progress every ten seconds; stops at the first difference
@@ -73,7 +73,7 @@ case $mode in
         ringdump="$out/reader dump"
         ;;
     *)
-        [ -f "$archive" ] || stop "$archive is missing: run 'rt staticlib ollskuvan' first"
+        [ -f "$archive" ] || stop "$archive is missing: run 'make lib' first"
         [ $mode = long ] || [ -x "$ringdump" ] || stop "$ringdump is missing: run 'rt check ringdump' first"
         without= undefined=
         if [ $mode = soak ] && ! nm "$archive" 2>/dev/null | grep -q ' T ollskuvan_read$'; then
@@ -98,6 +98,8 @@ fi
 if [ $mode = long ]; then
     part "drains, checks and name copies: $drains cases, seed $seed" \
         "$out/reader" drains --count "$drains" --seed "$seed"
+    part "tables of events: $drains drains and their records, seed $seed" \
+        "$out/reader" tables --count "$drains" --seed "$seed"
     part "values: $values records, seed $seed" "$out/reader" values --count "$values" --seed "$seed"
     echo "long run: no difference"
     exit 0
@@ -121,8 +123,11 @@ if [ $mode != without-values ]; then
 fi
 part "drains, checks and name copies: $drains cases, seed $seed" \
     "$out/reader" drains --count "$drains" --seed "$seed"
+part "tables of events: $((drains / 2)) drains and their records, seed $seed" \
+    "$out/reader" tables --count $((drains / 2)) --seed "$seed"
 part "what misc means" "$out/reader" meanings --count "$values" --seed "$seed"
 part "real rings" "$out/reader" rings rings
+part "real rings of several events" "$out/reader" table-rings rings/events --seed "$seed"
 if [ $mode != without-values ]; then
     part "each sample bit, read format, type and trailer bit" "$out/reader" bits
     part "values: $values records, seed $seed" "$out/reader" values --count "$values" --seed "$seed"

@@ -22,19 +22,35 @@ static const struct takes takes = {
     flags, 1, 1,
 };
 
+static void print_attributes(uint64_t sample_type, uint64_t read_format, uint64_t user_mask, uint64_t interrupt_mask,
+    uint64_t branch_sample_type)
+{
+    fputs("sample type ", stdout);
+    show_sample_type(sample_type);
+    fputs("\nread format ", stdout);
+    show_read_format(read_format);
+    printf("\nmasks       user 0x%" PRIx64 ", interrupt 0x%" PRIx64 "\n", user_mask, interrupt_mask);
+    fputs("branch type ", stdout);
+    show_branch_type(branch_sample_type);
+    putchar('\n');
+}
+
 static void print_image(const struct image *image)
 {
     printf("ring        %zu bytes, head %" PRIu64 ", tail %" PRIu64 "\n", image->length, image->head, image->tail);
-    printf("edition     %" PRIu32 ", sample_id_all %s\n", image->edition,
-        image->sample_id_all != 0 ? "set" : "not set");
-    fputs("sample type ", stdout);
-    show_sample_type(image->sample_type);
-    fputs("\nread format ", stdout);
-    show_read_format(image->read_format);
-    printf("\nmasks       user 0x%" PRIx64 ", interrupt 0x%" PRIx64 "\n", image->user_mask, image->interrupt_mask);
-    fputs("branch type ", stdout);
-    show_branch_type(image->branch_sample_type);
-    putchar('\n');
+    if (image->table.count == 0) {
+        printf("edition     %" PRIu32 ", sample_id_all %s\n", image->edition,
+            image->sample_id_all != 0 ? "set" : "not set");
+        print_attributes(image->sample_type, image->read_format, image->user_mask, image->interrupt_mask,
+            image->branch_sample_type);
+        return;
+    }
+    printf("edition     %" PRIu32 ", a table of %zu events\n", image->edition, image->table.count);
+    for (size_t i = 0; i < image->table.count; i++) {
+        const struct ollskuvan_event *v = &image->table.events[i];
+        printf("event       %" PRIu64 ", sample_id_all %s\n", v->identifier, v->sample_id_all != 0 ? "set" : "not set");
+        print_attributes(v->sample_type, v->read_format, v->user_mask, v->interrupt_mask, v->branch_sample_type);
+    }
 }
 
 /* The header is told also of a record that is refused. */
@@ -52,9 +68,10 @@ static bool print_record(const struct image *image, uint64_t number, uint64_t ta
     const uint8_t *record;
     uint64_t fields[OLLSKUVAN_FIELDS];
     struct ollskuvan_one one = image_read_one(image, tail, fields, &record);
-    const struct value value = { image, record, fields, all };
     print_header(number, tail, record, (size_t)one.size);
     if (one.answer == OLLSKUVAN_OK) {
+        const struct image of = image_of_event(image, fields);
+        const struct value value = { &of, record, fields, all };
         show_fields(&value);
         return true;
     }

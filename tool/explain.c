@@ -35,6 +35,9 @@ static const struct {
     { OLLSKUVAN_STOP_PAST_HEAD, "A drain cannot go on from there. A record must be as long as its size says." },
     { OLLSKUVAN_STOP_BUDGET, "The next call goes on from the new tail." },
     { OLLSKUVAN_STOP_JOURNAL, "Fewer than 16 bytes are left. The next call goes on from the new tail." },
+    { OLLSKUVAN_STOP_TABLE,
+        "It has 1 to 32 events, no two with the same identifier, each with sample bit 16 and\n"
+        "    sample_id_all." },
     { OLLSKUVAN_REFUSED_NAME_ROOM, "The name and one zero are copied whole or not at all." },
     { OLLSKUVAN_REFUSED_TYPE, "Edition 1 knows types 1 to 9, edition 2 types 1 to 15, edition 3 types 1 to 20." },
     { OLLSKUVAN_REFUSED_SAMPLE_TYPE,
@@ -47,6 +50,9 @@ static const struct {
     { OLLSKUVAN_REFUSED_BRANCH_TYPE,
         "A SAMPLE with sample bit 11 where branch bit 17 is set, the hardware index, in edition 1 or 2;\n"
         "    or a branch bit from 19 up, in any." },
+    { OLLSKUVAN_REFUSED_IDENTIFIER,
+        "It is the first word after the header in a SAMPLE, the last word in any other record." },
+    { OLLSKUVAN_REFUSED_NO_IDENTIFIER, "Its size is below 16 where a table of events is given." },
     { OLLSKUVAN_REFUSED_SHORT,
         "Or the trailer does. A count is too great, or the attributes are not those of the event. With\n"
         "    branch bit 17 it may be a SAMPLE without a branch stack: the kernel writes no index there." },

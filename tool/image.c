@@ -57,6 +57,16 @@ static void split(struct image *image)
     }
 }
 
+static bool read_table(struct image *image, const char *path)
+{
+    char why[WHY_ROOM];
+    if (event_table_load(&image->table, path, why))
+        return true;
+    complain("%s: %s", image->name, why);
+    image_free(image);
+    return false;
+}
+
 bool image_read(struct image *image, const char *path)
 {
     bool standard_input = strcmp(path, "-") == 0;
@@ -72,7 +82,7 @@ bool image_read(struct image *image, const char *path)
         fclose(file);
     if (done)
         split(image);
-    return done;
+    return done && read_table(image, path);
 }
 
 void image_free(struct image *image)
@@ -125,19 +135,43 @@ uint8_t *image_drain(const struct image *image, struct ollskuvan_drained *done)
         complain("%s: no memory", image->name);
         return NULL;
     }
-    *done = ollskuvan_drain(image->ring, image->length, image->head, image->tail, image->sample_type,
-        image->read_format, image->sample_id_all, image->user_mask, image->interrupt_mask, image->branch_sample_type,
-        image->edition, UINT64_MAX, scratch, sizeof scratch, journal, room);
+    if (image->table.count != 0)
+        *done = ollskuvan_drain_events(image->ring, image->length, image->head, image->tail, image->table.events,
+            image->table.count, image->edition, UINT64_MAX, scratch, sizeof scratch, journal, room);
+    else
+        *done = ollskuvan_drain(image->ring, image->length, image->head, image->tail, image->sample_type,
+            image->read_format, image->sample_id_all, image->user_mask, image->interrupt_mask,
+            image->branch_sample_type, image->edition, UINT64_MAX, scratch, sizeof scratch, journal, room);
     return journal;
+}
+
+struct image image_of_event(const struct image *image, const uint64_t fields[OLLSKUVAN_FIELDS])
+{
+    struct image of = *image;
+    size_t event = image->table.count != 0 ? event_of(&image->table, fields) : 0;
+    if (event >= image->table.count)
+        return of;
+    const struct ollskuvan_event *v = &image->table.events[event];
+    of.sample_type = v->sample_type;
+    of.read_format = v->read_format;
+    of.user_mask = v->user_mask;
+    of.interrupt_mask = v->interrupt_mask;
+    of.sample_id_all = v->sample_id_all != 0;
+    return of;
 }
 
 struct ollskuvan_one image_read_one(const struct image *image, uint64_t tail, uint64_t fields[OLLSKUVAN_FIELDS],
     const uint8_t **record)
 {
     static uint8_t scratch[OLLSKUVAN_RECORD_MAX];
-    struct ollskuvan_one one = ollskuvan_read_one(image->ring, image->length, image->head, tail, image->sample_type,
-        image->read_format, image->sample_id_all, image->user_mask, image->interrupt_mask, image->branch_sample_type,
-        image->edition, scratch, sizeof scratch, fields, OLLSKUVAN_FIELDS);
+    struct ollskuvan_one one;
+    if (image->table.count != 0)
+        one = ollskuvan_read_one_events(image->ring, image->length, image->head, tail, image->table.events,
+            image->table.count, image->edition, scratch, sizeof scratch, fields, OLLSKUVAN_FIELDS);
+    else
+        one = ollskuvan_read_one(image->ring, image->length, image->head, tail, image->sample_type,
+            image->read_format, image->sample_id_all, image->user_mask, image->interrupt_mask,
+            image->branch_sample_type, image->edition, scratch, sizeof scratch, fields, OLLSKUVAN_FIELDS);
     *record = (one.in_scratch != 0 ? scratch : image->ring) + one.place;
     return one;
 }

@@ -1,11 +1,14 @@
 /*
  * A saved ring: document 01's input of the program, 50 bytes and the ring. Rings
  * are taken up to the greatest length that the library allows, and not only up
- * to ringdump's 16,384 bytes.
+ * to ringdump's 16,384 bytes. X.table beside X.img is the ring's table of events.
  *
  * Where the event had a branch sample type, its 8 bytes follow the ring. A ring's
  * length is a power of two from 64 on, so the bytes behind the first 50 tell
  * whether they are there: 8 more than a power of two. Without them it is 0.
+ *
+ * Where there is a table, what the image tells of attributes, the branch sample
+ * type too, is the first event's and not looked at: the table has every event's own.
  */
 #ifndef TOOL_IMAGE_H
 #define TOOL_IMAGE_H
@@ -14,6 +17,7 @@
 #include <stddef.h>
 #include <stdint.h>
 
+#include "events.h"
 #include "ollskuvan.h"
 
 enum { IMAGE_HEADER_BYTES = 50, IMAGE_BRANCH_BYTES = 8 };
@@ -22,6 +26,7 @@ struct image {
     const char *name; /* for messages */
     uint64_t head, tail, sample_type, read_format, user_mask, interrupt_mask, branch_sample_type;
     uint32_t edition, sample_id_all;
+    struct event_table table; /* count 0: the attributes above serve */
     const uint8_t *ring;
     size_t length;  /* of the ring; one more than is allowed stands for any longer one */
     size_t present; /* bytes of the input; below IMAGE_HEADER_BYTES all numbers above are 0 */
@@ -44,6 +49,10 @@ uint8_t *image_drain(const struct image *image, struct ollskuvan_drained *done);
 /* A ring that stopped with anything but 0 was not read to its end: says so.
  * Returns the exit status. */
 int image_end(const struct image *image, const struct ollskuvan_drained *done);
+
+/* The image with the attributes of the event that wrote a record, of whose value
+ * the words are; without a table it is the image itself. */
+struct image image_of_event(const struct image *image, const uint64_t fields[OLLSKUVAN_FIELDS]);
 
 /* The record at this tail, read. It lies in the ring, or in a scratch up to the
  * next call. */

@@ -24,7 +24,7 @@ build() { # NAME FLAGS.. FILES..: C99 with the tool's own files
   ${CC:-cc} -std=c99 -pedantic -Wall -Wextra -Werror -g -Iinclude -Iwords -Iexamples -Itool -o "$out/$name" "$@" \
     $archives || { echo "tool/test.sh: $name does not build"; exit 1; }
 }
-shared='tool/image.c tool/command.c examples/messages.c examples/text.c'
+shared='tool/image.c tool/command.c examples/events.c examples/messages.c examples/text.c'
 # shellcheck disable=SC2086
 {
   build values -O1 tool/tests/values.c tool/show.c $shared
@@ -69,7 +69,8 @@ mkdir -p $out/indexed && $out/values indexed $out/indexed || wrong "the images w
 $out/values dirty $out/made || wrong "the image of dirty names"
 $out/values check >$out/values.txt || { wrong "the header's sentences on values"; head $out/values.txt; }
 tail -n 1 $out/values.txt
-$out/stack rings/*.img examples/rings/*.img $out/made/*.img $out/indexed/*.img || wrong "a call uses more stack than the header says"
+$out/stack rings/*.img rings/events/*.img examples/rings/*.img $out/made/*.img $out/indexed/*.img ||
+  wrong "a call uses more stack than the header says"
 
 # ---- every ring: dump beside ringdump, from a file and from standard input
 records() { # what a dump says in ringdump's terms: type and answer of each record
@@ -116,6 +117,26 @@ $tool journal $out/not-indexed.img | cmp -s - <(target/bin/ringdump <$out/not-in
   wrong "journal of an image without a branch sample type is not ringdump's"
 { head -c -8 $out/indexed/indexed.img; head -c 8 /dev/zero; } >$out/indexed-0.img
 $tool dump $out/indexed-0.img | cmp -s - <($tool dump $out/not-indexed.img) || wrong "a branch sample type of 0 behind the ring"
+
+# ---- rings of several events: with the table beside them no record is refused; without it some are
+for image in rings/events/*.img; do
+  name=events-$(basename "$image" .img)
+  $tool dump "$image" >"$out/$name.txt" || wrong "dump $image failed"
+  grep -q '^edition     3, a table of 4 events$' "$out/$name.txt" || wrong "dump $image: without its table"
+  grep -q ' bytes, 0 refused$' "$out/$name.txt" || wrong "dump $image: records are refused"
+  [ "$(grep -c '^event ' "$out/$name.txt")" -eq 4 ] || wrong "dump $image: four events are due"
+  $tool journal "$image" >$out/journal.txt || wrong "journal $image failed"
+  cmp -s <(records <"$out/$name.txt") <(entries <$out/journal.txt) || wrong "journal $image: other answers than dump's"
+  $tool dump - <"$image" | grep -q 'refused: ' || wrong "standard input has no table, and no record is refused"
+  tried=$((tried + 1))
+done
+# each event's own fields: an address of page faults, read values of switches, registers of the clock
+for words in 'addr ' 'read value ' 'user registers ' 'trailer cpu '; do
+  grep -q "^    $words" $out/events-counters.txt || wrong "the dump of several events has no '$words'"
+done
+cp rings/events/counters.img $out/spoilt.img && sed 's/^/x/' rings/events/counters.table >$out/spoilt.table
+$tool dump $out/spoilt.img >/dev/null 2>$out/spoilt.err && wrong "a table that is none"
+grep -q 'spoilt.img: no table of events: line 1' $out/spoilt.err || wrong "a table that is none is not named"
 
 # ---- the dumps that are kept
 for name in tasks kernel every-type every-type-plain every-type-edition-2 indexed indexed-edition-2 dirty-names; do
@@ -251,6 +272,19 @@ case $? in
     ;;
   3) echo "record: not tried live: $(tail -n 1 $out/record.txt)" ;;
   *) wrong "record failed: $(tail -n 1 $out/record.txt)" ;;
+esac
+
+$tool record --seconds 0.2 --events page-faults,cpu-clock --save $out/several >$out/record.txt 2>&1
+case $? in
+  0)
+    for image in $out/several-cpu*.img; do
+      $tool dump "$image" >$out/live.txt || wrong "dump of $image, taken live"
+      grep -q 'a table of 3 events$' $out/live.txt || wrong "dump of $image, taken live: without its table"
+      grep -q ' bytes, 0 refused$' $out/live.txt || wrong "dump of $image, taken live: records are refused"
+    done
+    ;;
+  3) ;;
+  *) wrong "record --events failed: $(tail -n 1 $out/record.txt)" ;;
 esac
 
 # ---- examples/decode.c on this kernel: a program that starts on cpu 0 is named, mapped and switched to

@@ -37,7 +37,7 @@ part() {
   echo "   $name: $(($(date +%s) - start)) s"
 }
 part 'the tree itself' bash tools/selfcheck.sh
-part 'the library for C' bash -c 'rt staticlib ollskuvan >target/staticlib.log 2>&1 || { tail -n 20 target/staticlib.log; exit 1; }'
+part 'the library for C' sh tools/library.sh
 part 'tests from outside' bash tests/run.sh
 part 'careful C beside ours' bash bench/run.sh --short
 part 'the program for people' make -s tool-test

@@ -25,6 +25,7 @@ const struct ollskuvan_answer ollskuvan_answers[] = {
     { OLLSKUVAN_STOP_BUDGET, "the budget is used up", NULL },
     { OLLSKUVAN_STOP_JOURNAL, "the journal is full", NULL },
     /* 10 has no text: it is never used again */
+    { OLLSKUVAN_STOP_TABLE, "the table of events is not allowed", NULL },
     { OLLSKUVAN_REFUSED_NAME_ROOM, NULL, "the name is too long for its buffer" },
     { OLLSKUVAN_REFUSED_TYPE, NULL, "a record type that the edition doesn't know" },
     { OLLSKUVAN_REFUSED_SAMPLE_TYPE, NULL, "a sample bit that the edition doesn't know" },
@@ -32,6 +33,8 @@ const struct ollskuvan_answer ollskuvan_answers[] = {
     { OLLSKUVAN_REFUSED_BUILD_ID, NULL, "a build id, which the edition doesn't know" },
     { OLLSKUVAN_REFUSED_WEIGHTS, NULL, "both kinds of weight are selected" },
     { OLLSKUVAN_REFUSED_BRANCH_TYPE, NULL, "a branch bit that the edition doesn't know" },
+    { OLLSKUVAN_REFUSED_IDENTIFIER, NULL, "the record's identifier is not in the table of events" },
+    { OLLSKUVAN_REFUSED_NO_IDENTIFIER, NULL, "the record is too short to have an identifier" },
     { OLLSKUVAN_REFUSED_SHORT, NULL, "a field passes the record's end" },
     { OLLSKUVAN_REFUSED_LEFT_OVER, NULL, "bytes are left over after the last field" },
     { OLLSKUVAN_REFUSED_INNER, NULL, "a size or length inside breaks its rule" },

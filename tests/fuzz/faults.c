@@ -21,6 +21,12 @@ struct ollskuvan_one reader_read_one(const uint8_t *, size_t, uint64_t, uint64_t
 uint32_t reader_write(const uint64_t *, size_t, const uint8_t *, size_t, uint64_t, uint64_t, uint32_t, uint64_t,
     uint64_t, uint64_t, uint32_t, uint8_t *, size_t);
 
+struct ollskuvan_drained reader_drain_events(const uint8_t *, size_t, uint64_t, uint64_t, const struct ollskuvan_event *,
+    size_t, uint32_t, uint64_t, uint8_t *, size_t, uint8_t *, size_t);
+size_t reader_find_event(const struct ollskuvan_event *, size_t, uint64_t);
+struct ollskuvan_one reader_read_one_events(const uint8_t *, size_t, uint64_t, uint64_t, const struct ollskuvan_event *,
+    size_t, uint32_t, uint8_t *, size_t, uint64_t *, size_t);
+
 static int fault(int number) { return FAULT == number; }
 
 /* The word of a name's flag; 0 for a type that has no name. */
@@ -211,4 +217,56 @@ uint32_t ollskuvan_write(const uint64_t *fields, size_t fields_len, const uint8_
             answer = without;
     }
     return answer;
+}
+
+struct ollskuvan_drained ollskuvan_drain_events(const uint8_t *ring, size_t ring_len, uint64_t head, uint64_t tail,
+    const struct ollskuvan_event *events, size_t event_count, uint32_t edition, uint64_t budget,
+    uint8_t *scratch, size_t scratch_len, uint8_t *journal, size_t journal_len)
+{
+    struct ollskuvan_event marked[40];
+    struct ollskuvan_drained d;
+    uint64_t i;
+
+    if (fault(43)) /* one word past the table is read */
+        seen = *(const uint8_t *)(events + event_count);
+    if (fault(44) && event_count == OLLSKUVAN_EVENTS_MAX + 1) /* one event too many is let through */
+        event_count--;
+    if (fault(45) && event_count == 2 && events[0].identifier == events[1].identifier) /* equal identifiers are */
+        event_count--;
+    memcpy(marked, events, event_count * sizeof *events);
+    for (i = 0; fault(46) && i < event_count; i++) /* an event without sample_id_all is */
+        marked[i].sample_id_all = 1;
+    for (i = 0; fault(52) && i < event_count; i++) /* the event's branch sample type is not looked at */
+        marked[i].branch_sample_type = 0;
+    if (fault(47) && edition == 1) /* edition 1 looks events up */
+        edition = 2;
+    d = reader_drain_events(ring, ring_len, head, tail, marked, event_count, edition, budget, scratch, scratch_len,
+        journal, journal_len);
+    for (i = 0; fault(48) && i < d.taken; i++) /* no identifier told as one that is not there */
+        if (journal[16 * i + OLLSKUVAN_JOURNAL_ANSWER] == OLLSKUVAN_REFUSED_NO_IDENTIFIER)
+            journal[16 * i + OLLSKUVAN_JOURNAL_ANSWER] = OLLSKUVAN_REFUSED_IDENTIFIER;
+    if (fault(49) && head == tail && d.stop == OLLSKUVAN_STOP_TABLE) /* an empty ring before the table */
+        d.stop = OLLSKUVAN_STOP_NOTHING;
+    return d;
+}
+
+size_t ollskuvan_find_event(const struct ollskuvan_event *events, size_t event_count, uint64_t identifier)
+{
+    size_t i = reader_find_event(events, event_count, identifier);
+
+    while (fault(50) && i + 1 < event_count && events[i + 1].identifier == identifier) /* the last of equal ones */
+        i++;
+    return i;
+}
+
+struct ollskuvan_one ollskuvan_read_one_events(const uint8_t *ring, size_t ring_len, uint64_t head, uint64_t tail,
+    const struct ollskuvan_event *events, size_t event_count, uint32_t edition, uint8_t *scratch, size_t scratch_len,
+    uint64_t *fields, size_t fields_len)
+{
+    struct ollskuvan_one one = reader_read_one_events(ring, ring_len, head, tail, events, event_count, edition, scratch,
+        scratch_len, fields, fields_len);
+
+    if (fault(51) && one.answer == OLLSKUVAN_REFUSED_IDENTIFIER && fields_len) /* a word changed although refused */
+        fields[0] = 0;
+    return one;
 }

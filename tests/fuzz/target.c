@@ -12,7 +12,8 @@
  * tail, sample type, read format, user mask, interrupt mask (8 bytes each), edition, sample_id_all (1 byte
  * each), and bytes.
  * What is missing is zero. The control block:
- *   0  the call, modulo 4: drain (and read one), ringdump, record (check, misc, name copy, read, write again), write
+ *   0  the call, modulo 5: drain (and read one), ringdump, record (check, misc, name copy, read, write again), write,
+ *      drain with a table of events (and read one with it, and the lookup)
  *   1  flags, see below            2  LAID: the ring's length is 64 << (this modulo 9)
  *   3  what buffers hold before    4, 5  scratch: choice and number; ringdump: 4 cuts the input below 50
  *   6, 7  journal                  8  budget: 0 is without end, else this minus 1
@@ -21,6 +22,8 @@
  *   13  write: bytes cut from the source
  *   14  room for a written record  15  room for a name
  *   16 to 45  three changes of ten bytes: word, what to do, number
+ *   46, 47  with a table: its events, modulo 40, and how many of them are given (0: all): these are the first of the
+ *      bytes, 56 each, and the others copies of the last, with identifiers that count up
  * tests/reader/fuzz.rs makes seeds and mutations in this layout.
  */
 #include <inttypes.h>
@@ -59,6 +62,11 @@ struct ollskuvan_one reader_read_one(const uint8_t *, size_t, uint64_t, uint64_t
     uint64_t, uint64_t, uint64_t, uint32_t, uint8_t *, size_t, uint64_t *, size_t);
 uint32_t reader_write(const uint64_t *, size_t, const uint8_t *, size_t, uint64_t, uint64_t, uint32_t, uint64_t,
     uint64_t, uint64_t, uint32_t, uint8_t *, size_t);
+struct ollskuvan_drained reader_drain_events(const uint8_t *, size_t, uint64_t, uint64_t, const struct ollskuvan_event *,
+    size_t, uint32_t, uint64_t, uint8_t *, size_t, uint8_t *, size_t);
+size_t reader_find_event(const struct ollskuvan_event *, size_t, uint64_t);
+struct ollskuvan_one reader_read_one_events(const uint8_t *, size_t, uint64_t, uint64_t, const struct ollskuvan_event *,
+    size_t, uint32_t, uint8_t *, size_t, uint64_t *, size_t);
 size_t reader_print(const uint8_t *, size_t, uint8_t *, size_t);
 size_t reader_mutate(uint8_t *, size_t, size_t, uint32_t);
 int ringdump_main(void);
@@ -77,6 +85,9 @@ static struct {
     uint32_t edition, sample_id_all;
     uint8_t bytes[LONGEST];
     size_t count;
+    int tabled; /* this call has a table */
+    struct ollskuvan_event events[40];
+    size_t event_count;
 } in;
 
 #define ATTRIBUTES in.sample_type, in.read_format, in.sample_id_all, in.user_mask, in.interrupt_mask, \
@@ -84,9 +95,9 @@ static struct {
 
 /* ---- What was reached: told to libFuzzer as if it were coverage, and counted for the end's report. ---- */
 
-enum call { DRAIN, PROGRAM, CHECK, COPY, READ, WRITE, MEANING, ONE_STOP, ONE, CALLS };
+enum call { DRAIN, PROGRAM, CHECK, COPY, READ, WRITE, MEANING, ONE_STOP, ONE, TABLED, TABLED_RECORD, CALLS };
 static const char *const call_names[CALLS] = { "drain", "ringdump", "check", "name copy", "read", "write",
-    "misc meaning, without the CPU mode,", "read one, its stops:", "read one" };
+    "misc meaning, without the CPU mode,", "read one, its stops:", "read one", "drain with a table", "records under a table" };
 
 /* by call, type (0, or 21 for every other) and answer */
 enum { TYPES = 22, ANSWERS = 64 };
@@ -152,13 +163,15 @@ static void differs(const char *words, ...)
         "  sample_id_all %#" PRIx32 "  user mask %#" PRIx64 "  interrupt mask %#" PRIx64 "  branch %#" PRIx64 "\n",
         in.edition, in.sample_type, in.read_format, in.sample_id_all, in.user_mask, in.interrupt_mask,
         in.branch_sample_type);
+    if (in.tabled)
+        print_hex("table", in.events, in.event_count * sizeof in.events[0]);
     executions = 0;
     abort();
 }
 
 /* ---- Lent slices. ---- */
 
-enum slice { RING, SCRATCH, JOURNAL, RECORD, NAME, VALUE, SOURCE, BUFFER, SLICES };
+enum slice { RING, SCRATCH, JOURNAL, RECORD, NAME, VALUE, SOURCE, BUFFER, TABLE, SLICES };
 enum { AREA = 1 << 18, GUARD = 64 };
 static uint8_t *areas[SLICES];
 
@@ -428,6 +441,28 @@ static size_t journal_length(size_t ring_length)
     }
 }
 
+/* The table of the input, lent: seven words an event, and so aligned. */
+static const struct ollskuvan_event *lend_table(void)
+{
+    return (const struct ollskuvan_event *)(void *)lend(TABLE, in.events, in.event_count * sizeof in.events[0]);
+}
+
+static void table_is_kept(const struct ollskuvan_event *lent)
+{
+    is_kept(TABLE, (const uint8_t *)lent, in.events, in.event_count * sizeof in.events[0]);
+}
+
+static void find_event(uint64_t identifier)
+{
+    const struct ollskuvan_event *table = lend_table();
+    size_t library = ollskuvan_find_event(table, in.event_count, identifier);
+    size_t independent = reader_find_event(in.events, in.event_count, identifier);
+
+    table_is_kept(table);
+    if (library != independent)
+        differs("find event %#" PRIx64 ": library %zu, independent %zu", identifier, library, independent);
+}
+
 #ifndef WITHOUT_VALUES
 static void print_one(const char *who, const struct ollskuvan_one *one)
 {
@@ -457,10 +492,20 @@ static struct ollskuvan_one read_one(const struct ring *ring, uint64_t tail, siz
         value[i] = UINT64_C(0x0123456789abcdef);
     lent_scratch = lend(SCRATCH, scratch, scratch_len);
     lent_words = lend(VALUE, value, 8 * words);
-    library = ollskuvan_read_one(lent_ring, ring->length, ring->head, tail, ATTRIBUTES, lent_scratch, scratch_len,
-        (uint64_t *)(void *)lent_words, words);
-    independent = reader_read_one(ring->bytes, ring->length, ring->head, tail, ATTRIBUTES, scratch, scratch_len, value,
-        words);
+    if (in.tabled) {
+        const struct ollskuvan_event *table = lend_table();
+
+        library = ollskuvan_read_one_events(lent_ring, ring->length, ring->head, tail, table, in.event_count, in.edition,
+            lent_scratch, scratch_len, (uint64_t *)(void *)lent_words, words);
+        independent = reader_read_one_events(ring->bytes, ring->length, ring->head, tail, in.events, in.event_count,
+            in.edition, scratch, scratch_len, value, words);
+        table_is_kept(table);
+    } else {
+        library = ollskuvan_read_one(lent_ring, ring->length, ring->head, tail, ATTRIBUTES, lent_scratch, scratch_len,
+            (uint64_t *)(void *)lent_words, words);
+        independent = reader_read_one(ring->bytes, ring->length, ring->head, tail, ATTRIBUTES, scratch, scratch_len, value,
+            words);
+    }
     if (!same_one(&library, &independent)) {
         fprintf(stderr, "  read one: head %#" PRIx64 "  tail %#" PRIx64 "  scratch %zu  words %zu\n", ring->head, tail,
             scratch_len, words);
@@ -473,9 +518,9 @@ static struct ollskuvan_one read_one(const struct ring *ring, uint64_t tail, siz
     is_as(SCRATCH, lent_scratch, scratch, scratch_len, "read one: the scratch");
     is_as(VALUE, lent_words, value, 8 * words, "read one: the words of the value");
     if (library.size == 0)
-        reach(ONE_STOP, 0, library.stop);
+        reach(ONE_STOP, in.tabled, library.stop);
     else
-        reach(ONE, library.in_scratch, library.answer);
+        reach(ONE, library.in_scratch + 2u * (unsigned)in.tabled, library.answer);
     return library;
 }
 #endif
@@ -508,8 +553,10 @@ static void take_apart(const struct ring *ring, const uint8_t *journal, uint64_t
             continue;
         for (k = 0; k < size; k++)
             record[k] = ring->bytes[(at + k) % ring->length];
-        whole = check(record, size);
-        if ((whole == OLLSKUVAN_DIRTY_NAME ? OLLSKUVAN_OK : whole) != answer) {
+        whole = in.tabled ? answer : check(record, size);
+        if (in.tabled) {
+            reach(TABLED_RECORD, type_of(record, size), answer);
+        } else if ((whole == OLLSKUVAN_DIRTY_NAME ? OLLSKUVAN_OK : whole) != answer) {
             print_hex("record", record, size);
             differs("check does not answer as the journal does: %" PRIu32, answer);
         }
@@ -519,7 +566,7 @@ static void take_apart(const struct ring *ring, const uint8_t *journal, uint64_t
 
         if (one.answer != answer || one.size != size || one.in_scratch != (at + size > ring->length))
             differs("read one gives another record than the journal, whose answer is %" PRIu32, answer);
-        if (answer == 0)
+        if (answer == 0 && !in.tabled)
             read_value(record, size, value, FIELDS);
 #endif
     }
@@ -541,10 +588,20 @@ static void try_drain(void)
     lent_ring = lend(RING, ring.bytes, ring.length);
     lent_scratch = lend(SCRATCH, scratch, scratch_len);
     lent_journal = lend(JOURNAL, journal, journal_len);
-    library = ollskuvan_drain(lent_ring, ring.length, ring.head, in.tail, ATTRIBUTES, budget, lent_scratch,
-        scratch_len, lent_journal, journal_len);
-    independent = reader_drain(ring.bytes, ring.length, ring.head, in.tail, ATTRIBUTES, budget, scratch, scratch_len,
-        journal, journal_len);
+    if (in.tabled) {
+        const struct ollskuvan_event *table = lend_table();
+
+        library = ollskuvan_drain_events(lent_ring, ring.length, ring.head, in.tail, table, in.event_count, in.edition,
+            budget, lent_scratch, scratch_len, lent_journal, journal_len);
+        independent = reader_drain_events(ring.bytes, ring.length, ring.head, in.tail, in.events, in.event_count,
+            in.edition, budget, scratch, scratch_len, journal, journal_len);
+        table_is_kept(table);
+    } else {
+        library = ollskuvan_drain(lent_ring, ring.length, ring.head, in.tail, ATTRIBUTES, budget, lent_scratch,
+            scratch_len, lent_journal, journal_len);
+        independent = reader_drain(ring.bytes, ring.length, ring.head, in.tail, ATTRIBUTES, budget, scratch, scratch_len,
+            journal, journal_len);
+    }
     if (library.taken != independent.taken || library.bytes != independent.bytes || library.tail != independent.tail
         || library.stop != independent.stop || memcmp(lent_journal, journal, journal_len)
         || memcmp(lent_scratch, scratch, scratch_len)) {
@@ -562,12 +619,23 @@ static void try_drain(void)
         || library.stop != independent.stop)
         differs("drain: the results");
     is_kept(RING, lent_ring, ring.bytes, ring.length);
-    reach(DRAIN, library.taken < 4 ? library.taken : 4, library.stop);
+    reach(in.tabled ? TABLED : DRAIN, library.taken < 4 ? library.taken : 4, library.stop);
     take_apart(&ring, journal, library.taken);
 #ifndef WITHOUT_VALUES
     read_one(&ring, in.tail, scratch_len, some_words(in.control[11]));
     read_one(&ring, library.tail, scratch_len, some_words(in.control[11]));
 #endif
+}
+
+static void try_events(void)
+{
+    size_t i;
+
+    try_drain();
+    for (i = 0; i < in.event_count && i < 4; i++)
+        find_event(in.events[i].identifier);
+    find_event(in.head);
+    find_event(in.tail);
 }
 
 /* ---- The program ringdump. ---- */
@@ -751,6 +819,24 @@ static uint64_t get64(const uint8_t *at)
     return number;
 }
 
+static void take_table(const uint8_t **data)
+{
+    size_t given = in.control[in.control[47] ? 47 : 46] % 40, i;
+
+    if (given > in.count / sizeof in.events[0])
+        given = in.count / sizeof in.events[0];
+    if (!in.tabled)
+        given = 0;
+    memcpy(in.events, *data, given * sizeof in.events[0]);
+    *data += given * sizeof in.events[0];
+    in.count -= given * sizeof in.events[0];
+    in.event_count = in.control[47] && given ? in.control[46] % 40 : given;
+    for (i = given; i < in.event_count; i++) {
+        in.events[i] = in.events[i - 1];
+        in.events[i].identifier++;
+    }
+}
+
 static void take_input(const uint8_t *data, size_t size)
 {
     uint8_t head[CONTROL + BRANCH + HEADER] = { 0 };
@@ -772,7 +858,10 @@ static void take_input(const uint8_t *data, size_t size)
     if (in.control[1] & HIGH_ID_ALL)
         in.sample_id_all <<= 24;
     in.count = size > sizeof head ? size - sizeof head : 0;
-    memcpy(in.bytes, data + (size - in.count), in.count);
+    in.tabled = in.control[0] % 5 == 4;
+    data += size - in.count;
+    take_table(&data);
+    memcpy(in.bytes, data, in.count);
 }
 
 int LLVMFuzzerInitialize(int *count, char ***words)
@@ -801,9 +890,10 @@ int LLVMFuzzerTestOneInput(const uint8_t *data, size_t size)
         return 0;
     executions++;
     take_input(data, size);
-    switch (in.control[0] % 4) {
+    switch (in.control[0] % 5) {
     case 0: try_drain(); break;
     case 1: try_program(); break;
+    case 4: try_events(); break;
 #ifndef WITHOUT_VALUES
     case 3: try_write(); break;
 #endif

@@ -1,5 +1,6 @@
 //! The exports of libollskuvan.a, as include/ollskuvan.h declares them.
 
+use crate::events::Event;
 use crate::ring::{Drained, One};
 use crate::rules::Attributes;
 
@@ -23,6 +24,16 @@ pub struct COne {
 }
 
 extern "C" {
+    pub fn ollskuvan_drain_events(
+        ring: *const u8, ring_len: usize, head: u64, tail: u64, events: *const Event, event_count: usize, edition: u32,
+        budget: u64, scratch: *mut u8, scratch_len: usize, journal: *mut u8, journal_len: usize,
+    ) -> CDrained;
+    pub fn ollskuvan_find_event(events: *const Event, event_count: usize, identifier: u64) -> usize;
+    #[cfg(not(without_values))]
+    pub fn ollskuvan_read_one_events(
+        ring: *const u8, ring_len: usize, head: u64, tail: u64, events: *const Event, event_count: usize, edition: u32,
+        scratch: *mut u8, scratch_len: usize, fields: *mut u64, fields_len: usize,
+    ) -> COne;
     pub fn ollskuvan_drain(
         ring: *const u8, ring_len: usize, head: u64, tail: u64, sample_type: u64, read_format: u64,
         sample_id_all: u32, user_mask: u64, interrupt_mask: u64, branch_sample_type: u64, edition: u32, budget: u64,
@@ -102,15 +113,7 @@ pub fn read(record: &[u8], a: &Attributes, edition: u32, fields: &mut [u64]) -> 
 }
 
 #[cfg(not(without_values))]
-pub fn read_one(
-    ring: &[u8], head: u64, tail: u64, a: &Attributes, edition: u32, scratch: &mut [u8], fields: &mut [u64],
-) -> One {
-    let o = unsafe {
-        ollskuvan_read_one(
-            ring.as_ptr(), ring.len(), head, tail, a.sample_type, a.read_format, a.sample_id_all, a.user_mask,
-            a.interrupt_mask, a.branch_sample_type, edition, scratch.as_mut_ptr(), scratch.len(), fields.as_mut_ptr(), fields.len(),
-        )
-    };
+fn told_one(o: COne) -> One {
     One {
         place: o.place,
         size: o.size,
@@ -120,6 +123,51 @@ pub fn read_one(
         answer: o.answer,
         inspected: o.inspected,
     }
+}
+
+#[cfg(not(without_values))]
+pub fn read_one(
+    ring: &[u8], head: u64, tail: u64, a: &Attributes, edition: u32, scratch: &mut [u8], fields: &mut [u64],
+) -> One {
+    let o = unsafe {
+        ollskuvan_read_one(
+            ring.as_ptr(), ring.len(), head, tail, a.sample_type, a.read_format, a.sample_id_all, a.user_mask,
+            a.interrupt_mask, a.branch_sample_type, edition, scratch.as_mut_ptr(), scratch.len(), fields.as_mut_ptr(),
+            fields.len(),
+        )
+    };
+    told_one(o)
+}
+
+// With a table: seven words an event, lent as the events that they are.
+
+pub fn drain_events(
+    ring: &[u8], head: u64, tail: u64, words: &[u64], edition: u32, budget: u64, scratch: &mut [u8], journal: &mut [u8],
+) -> Drained {
+    let d = unsafe {
+        ollskuvan_drain_events(
+            ring.as_ptr(), ring.len(), head, tail, words.as_ptr().cast(), words.len() / 7, edition, budget,
+            scratch.as_mut_ptr(), scratch.len(), journal.as_mut_ptr(), journal.len(),
+        )
+    };
+    Drained { taken: d.taken, bytes: d.bytes, tail: d.tail, stop: d.stop }
+}
+
+pub fn find_event(words: &[u64], identifier: u64) -> usize {
+    unsafe { ollskuvan_find_event(words.as_ptr().cast(), words.len() / 7, identifier) }
+}
+
+#[cfg(not(without_values))]
+pub fn read_one_events(
+    ring: &[u8], head: u64, tail: u64, words: &[u64], edition: u32, scratch: &mut [u8], fields: &mut [u64],
+) -> One {
+    let o = unsafe {
+        ollskuvan_read_one_events(
+            ring.as_ptr(), ring.len(), head, tail, words.as_ptr().cast(), words.len() / 7, edition,
+            scratch.as_mut_ptr(), scratch.len(), fields.as_mut_ptr(), fields.len(),
+        )
+    };
+    told_one(o)
 }
 
 #[cfg(not(without_values))]
@@ -142,6 +190,11 @@ pub fn read(_: &[u8], _: &Attributes, _: u32, _: &mut [u64]) -> u32 {
 #[cfg(without_values)]
 pub fn read_one(_: &[u8], _: u64, _: u64, _: &Attributes, _: u32, _: &mut [u8], _: &mut [u64]) -> One {
     panic!("built without ollskuvan_read_one");
+}
+
+#[cfg(without_values)]
+pub fn read_one_events(_: &[u8], _: u64, _: u64, _: &[u64], _: u32, _: &mut [u8], _: &mut [u64]) -> One {
+    panic!("built without ollskuvan_read_one_events");
 }
 
 #[cfg(without_values)]

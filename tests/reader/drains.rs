@@ -1,6 +1,7 @@
 //! Drain, record check and name copy: libollskuvan.a against the independent reader.
 
 use crate::abi;
+use crate::events::Event;
 use crate::guard::*;
 use crate::made::*;
 use crate::record::{self, le32};
@@ -11,8 +12,14 @@ use crate::tally::Tally;
 /// What differed, in words; the caller adds seed and case.
 pub type Difference = String;
 
-/// One drain by both; all that is lent is compared.
 pub fn compare_drain(case: &DrainCase, r: &mut Random, tally: &mut Tally) -> Result<(Drained, Vec<u8>), Difference> {
+    compare_drain_with(case, None, r, tally)
+}
+
+/// One drain by both, with a table of events or without; all that is lent is compared.
+pub fn compare_drain_with(
+    case: &DrainCase, table: ring::Table, r: &mut Random, tally: &mut Tally,
+) -> Result<(Drained, Vec<u8>), Difference> {
     let mut scratch = vec![0; case.scratch];
     let mut journal = vec![0; case.journal];
     r.fill(&mut scratch);
@@ -23,18 +30,33 @@ pub fn compare_drain(case: &DrainCase, r: &mut Random, tally: &mut Tally) -> Res
     let mut lent_journal = Guarded::new(&journal, shift / 3);
     let a = &case.attributes;
 
-    let theirs = abi::drain(
-        lent_ring.slice(),
-        case.head,
-        case.tail,
-        a,
-        case.edition,
-        case.budget,
-        lent_scratch.slice_mut(),
-        lent_journal.slice_mut(),
-    );
+    let lent_table = GuardedWords::new(&table_words(table));
+
+    let theirs = if table.is_some() {
+        abi::drain_events(
+            lent_ring.slice(),
+            case.head,
+            case.tail,
+            lent_table.slice(),
+            case.edition,
+            case.budget,
+            lent_scratch.slice_mut(),
+            lent_journal.slice_mut(),
+        )
+    } else {
+        abi::drain(
+            lent_ring.slice(),
+            case.head,
+            case.tail,
+            a,
+            case.edition,
+            case.budget,
+            lent_scratch.slice_mut(),
+            lent_journal.slice_mut(),
+        )
+    };
     let ring = Ring { bytes: &case.ring, head: case.head, edition: case.edition, attributes: *a };
-    let ours = ring::drain(&ring, case.tail, case.budget, &mut scratch, &mut journal);
+    let ours = ring::drain_with(&ring, case.tail, table, case.budget, &mut scratch, &mut journal);
 
     let mut wrong = Vec::new();
     if theirs != ours {
@@ -59,13 +81,16 @@ pub fn compare_drain(case: &DrainCase, r: &mut Random, tally: &mut Tally) -> Res
     if lent_ring.slice() != case.ring {
         wrong.push("the ring was written to".to_string());
     }
+    if lent_table.slice() != table_words(table) || !lent_table.intact() {
+        wrong.push("the table, or words around it, were written to".to_string());
+    }
     for (name, lent) in [("ring", &lent_ring), ("scratch", &lent_scratch), ("journal", &lent_journal)] {
         if !lent.intact() {
             wrong.push(format!("bytes around the {name} were written to"));
         }
     }
     if wrong.is_empty() {
-        tally.answer("drain", ours.stop);
+        tally.answer(if table.is_some() { "drain with a table" } else { "drain" }, ours.stop);
         for entry in journal.chunks(16).take(ours.taken as usize) {
             let tail = record::number(&entry[8..16]);
             let place = (tail % case.ring.len() as u64) as usize;
@@ -75,7 +100,19 @@ pub fn compare_drain(case: &DrainCase, r: &mut Random, tally: &mut Tally) -> Res
         tally.note("records in journals", ours.taken);
         Ok((ours, journal))
     } else {
-        Err(format!("drain differs\n{}\n{}", describe(case), wrong.join("\n")))
+        Err(format!("drain differs\n{}\n{}{}", describe(case), describe_table(table), wrong.join("\n")))
+    }
+}
+
+/// A table as C lends it: seven words an event.
+pub fn table_words(table: ring::Table) -> Vec<u64> {
+    table.unwrap_or(&[]).iter().flat_map(Event::words).collect()
+}
+
+pub fn describe_table(table: ring::Table) -> String {
+    match table {
+        None => String::new(),
+        Some(events) => events.iter().map(|v| format!("  {v:x?}\n")).collect(),
     }
 }
 

@@ -6,8 +6,9 @@
 //! stands beside the library in one program: the fuzz target, tests/fuzz.
 
 use crate::abi::{CDrained, COne};
+use crate::events::{self, Event};
 use crate::record;
-use crate::ring::{self, Ring};
+use crate::ring::{self, One, Ring};
 use crate::rules::{self, Attributes};
 use crate::words::FIELDS;
 use crate::writer;
@@ -19,6 +20,18 @@ pub unsafe fn lent<'s, T>(pointer: *const T, length: usize) -> &'s [T] {
 
 pub unsafe fn lent_mut<'s, T>(pointer: *mut T, length: usize) -> &'s mut [T] {
     if length == 0 { &mut [] } else { std::slice::from_raw_parts_mut(pointer, length) }
+}
+
+fn one_for_c(o: &One) -> COne {
+    COne {
+        place: o.place,
+        size: o.size,
+        tail: o.tail,
+        in_scratch: o.in_scratch,
+        stop: o.stop,
+        answer: o.answer,
+        inspected: o.inspected,
+    }
 }
 
 #[cfg_attr(own_names, export_name = "reader_drain")]
@@ -84,16 +97,38 @@ pub unsafe extern "C" fn ollskuvan_read_one(
 ) -> COne {
     let attributes = Attributes { sample_type, read_format, sample_id_all, user_mask, interrupt_mask, branch_sample_type };
     let ring = Ring { bytes: lent(ring, ring_len), head, edition, attributes };
-    let o = ring::read_one(&ring, tail, lent_mut(scratch, scratch_len), lent_mut(fields, fields_len));
-    COne {
-        place: o.place,
-        size: o.size,
-        tail: o.tail,
-        in_scratch: o.in_scratch,
-        stop: o.stop,
-        answer: o.answer,
-        inspected: o.inspected,
-    }
+    let o = ring::read_one(&ring, tail, None, lent_mut(scratch, scratch_len), lent_mut(fields, fields_len));
+    one_for_c(&o)
+}
+
+#[cfg_attr(own_names, export_name = "reader_drain_events")]
+#[cfg_attr(not(own_names), no_mangle)]
+pub unsafe extern "C" fn ollskuvan_drain_events(
+    ring: *const u8, ring_len: usize, head: u64, tail: u64, table: *const Event, event_count: usize, edition: u32,
+    budget: u64, scratch: *mut u8, scratch_len: usize, journal: *mut u8, journal_len: usize,
+) -> CDrained {
+    let ring = Ring { bytes: lent(ring, ring_len), head, edition, attributes: Attributes::EMPTY };
+    let table = Some(lent(table, event_count));
+    let d = ring::drain_with(&ring, tail, table, budget, lent_mut(scratch, scratch_len), lent_mut(journal, journal_len));
+    CDrained { taken: d.taken, bytes: d.bytes, tail: d.tail, stop: d.stop }
+}
+
+#[cfg_attr(own_names, export_name = "reader_find_event")]
+#[cfg_attr(not(own_names), no_mangle)]
+pub unsafe extern "C" fn ollskuvan_find_event(table: *const Event, event_count: usize, identifier: u64) -> usize {
+    events::find(lent(table, event_count), identifier)
+}
+
+#[cfg_attr(own_names, export_name = "reader_read_one_events")]
+#[cfg_attr(not(own_names), no_mangle)]
+pub unsafe extern "C" fn ollskuvan_read_one_events(
+    ring: *const u8, ring_len: usize, head: u64, tail: u64, table: *const Event, event_count: usize, edition: u32,
+    scratch: *mut u8, scratch_len: usize, fields: *mut u64, fields_len: usize,
+) -> COne {
+    let ring = Ring { bytes: lent(ring, ring_len), head, edition, attributes: Attributes::EMPTY };
+    let table = Some(lent(table, event_count));
+    let o = ring::read_one(&ring, tail, table, lent_mut(scratch, scratch_len), lent_mut(fields, fields_len));
+    one_for_c(&o)
 }
 
 #[cfg_attr(own_names, export_name = "reader_write")]

@@ -3,14 +3,16 @@
 //!
 //! An input is a control block, the branch sample type, then what the program ringdump takes: head, tail, the
 //! other attributes and the ring's bytes. `LAID` in the flags says that the bytes are records, laid into a ring from the
-//! tail on; otherwise they are the ring as it is. The target's other two calls take them as one record.
+//! tail on; otherwise they are the ring as it is. The target's calls on records take them as one record; the
+//! call with a table takes the first of them as events.
 
 #![allow(dead_code)] // the program makes the seeds, the archive the mutations
 
+use crate::events::{Event, WORDS};
 use crate::made::*;
-use crate::record::{le16, number};
+use crate::record::{le16, le32, number};
 use crate::ring::Image;
-use crate::rules::edition;
+use crate::rules::{edition, Attributes};
 
 pub const CONTROL: usize = 48;
 const BRANCH: usize = 8;
@@ -24,11 +26,15 @@ const FLAGS: usize = 1;
 const LENGTH: usize = 2;
 const PATCHES: usize = 12;
 const NAME_ROOM: usize = 15;
+const EVENTS: usize = 46;
+const GIVEN: usize = 47;
 
 const DRAIN: u8 = 0;
 const PROGRAM: u8 = 1;
 const RECORD: u8 = 2;
 const WRITE: u8 = 3;
+const TABLED: u8 = 4;
+const CALLS: u8 = 5;
 
 // Flags.
 const LAID: u8 = 1;
@@ -39,6 +45,7 @@ const FLAG_KEPT: u8 = 128;
 struct Input {
     control: [u8; CONTROL],
     image: Image,
+    events: Vec<Event>,
 }
 
 impl Input {
@@ -52,16 +59,46 @@ impl Input {
         let (branch, rest) = rest.split_at(BRANCH);
         let mut image = Image::parse(rest).unwrap();
         image.attributes.branch_sample_type = number(branch);
-        Input { control: control.try_into().unwrap(), image }
+        let mut events = Vec::new();
+        if control[CALL] % CALLS == TABLED {
+            let given = if control[GIVEN] != 0 { control[GIVEN] } else { control[EVENTS] };
+            let count = usize::from(given % 40).min(image.ring.len() / (8 * WORDS));
+            let ring = image.ring.split_off(8 * WORDS * count);
+            let words: Vec<u64> = image.ring.chunks(8).map(number).collect();
+            events = words.chunks(WORDS).map(Event::of_words).collect();
+            image.ring = ring;
+        }
+        Input { control: control.try_into().unwrap(), image, events }
     }
 
     fn bytes(&self) -> Vec<u8> {
-        let branch = self.image.attributes.branch_sample_type.to_le_bytes();
-        [&self.control[..], &branch, &self.image.bytes()].concat()
+        let mut control = self.control;
+        let mut image = self.image.clone();
+        if self.call() == TABLED {
+            let at = if control[GIVEN] != 0 && !self.events.is_empty() { GIVEN } else { EVENTS };
+            control[at] = self.events.len() as u8;
+            let words = self.events.iter().flat_map(Event::words).flat_map(u64::to_le_bytes);
+            image.ring = words.chain(image.ring).collect();
+        }
+        let branch = image.attributes.branch_sample_type.to_le_bytes();
+        [&control[..], &branch, &image.bytes()].concat()
+    }
+
+    fn call(&self) -> u8 {
+        self.control[CALL] % CALLS
     }
 
     fn laid(&self) -> bool {
-        self.control[CALL] % 4 < RECORD && self.control[FLAGS] & LAID != 0
+        (self.call() < RECORD || self.call() == TABLED) && self.control[FLAGS] & LAID != 0
+    }
+
+    /// What records are made with: the attributes, or those of one of the events.
+    fn some_attributes(&self, r: &mut Random) -> (Option<u64>, Attributes) {
+        if self.events.is_empty() {
+            return (None, self.image.attributes);
+        }
+        let event = self.events[r.below(self.events.len() as u64) as usize];
+        (Some(event.identifier), event.attributes())
     }
 
     fn records(&self) -> Vec<Vec<u8>> {
@@ -101,12 +138,13 @@ pub fn mutated(bytes: &[u8], most: usize, seed: u64) -> Vec<u8> {
     }
     for _ in 0..1 + r.below(3) {
         match r.below(12) {
+            4 | 5 if input.call() == TABLED => mutate_events(&mut r, &mut input),
             0 => mutate_control(&mut r, &mut input.control),
             1 => mutate_attributes(&mut r, &mut input.image),
             2 => input.image.tail = some_tail(&mut r),
             3 => *input.image_words(&mut r) = r.next() >> r.below(64),
             _ if input.laid() => mutate_records(&mut r, &mut input, most),
-            _ if input.control[CALL] % 4 >= RECORD => mutate_record(&mut r, &mut input, most),
+            _ if input.call() == RECORD || input.call() == WRITE => mutate_record(&mut r, &mut input, most),
             _ => mutate_bytes(&mut r, &mut input.image.ring),
         }
     }
@@ -121,8 +159,72 @@ fn mend(r: &mut Random, input: &mut Input) {
     if edition(input.image.edition).is_none() {
         input.image.edition = r.pick(&[1, 2, 3]);
     }
-    if input.control[CALL] % 4 == RECORD && r.one_in(2) {
+    if input.call() == RECORD && r.one_in(2) {
         input.control[FLAGS] |= PLACE_NEAR;
+    }
+    mend_events(r, input);
+}
+
+/// A table that is refused hides all that comes after it, too; so does edition 1.
+fn mend_events(r: &mut Random, input: &mut Input) {
+    input.events.truncate(32);
+    for at in 0..input.events.len() {
+        let (before, event) = input.events.split_at_mut(at);
+        event[0].sample_type |= 1 << 16;
+        event[0].sample_id_all |= 1;
+        while before.iter().any(|v| v.identifier == event[0].identifier) {
+            event[0].identifier = r.below(100);
+        }
+    }
+    if input.call() == TABLED && input.image.edition == 1 {
+        input.image.edition = 3;
+    }
+}
+
+/// One event more or less, another identifier, other attributes, or a bit of a word.
+fn mutate_events(r: &mut Random, input: &mut Input) {
+    let count = input.events.len() as u64;
+    if count == 0 || (count < 36 && r.one_in(4)) {
+        let mut a = some_attributes(r, input.image.edition);
+        a.sample_type |= 1 << 16;
+        a.sample_id_all = 1;
+        input.events.push(Event::new(r.below(40), &a));
+        return;
+    }
+    if r.one_in(8) {
+        input.control[GIVEN] = r.pick(&[0, 1]);
+        input.control[EVENTS] = r.pick(&[2, 11, 31, 32, 33, 34, 39]);
+        return;
+    }
+    let at = r.below(count) as usize;
+    let event = &mut input.events[at];
+    match r.below(7) {
+        0 => event.identifier = r.next() >> r.below(64),
+        6 => event.branch_sample_type ^= 1 << r.pick(&[17, 17, 18, 19]),
+        1 => event.sample_type ^= 1 << r.below(26),
+        2 => event.read_format ^= 1 << r.below(5),
+        3 => {
+            let mut words = event.words();
+            words[r.below(WORDS as u64) as usize] ^= 1 << r.below(64);
+            *event = Event::of_words(&words);
+        }
+        4 => {
+            input.events.remove(at);
+        }
+        _ if count < 39 => {
+            let twin = *event;
+            input.events.push(twin);
+        }
+        _ => event.sample_id_all = 0,
+    }
+}
+
+/// Writes the identifier where it stands.
+fn put_identifier(record: &mut [u8], identifier: Option<u64>) {
+    let length = record.len();
+    if let (Some(identifier), true) = (identifier, length >= 16) {
+        let at = if le32(record, 0) == 9 { 8 } else { length - 8 };
+        record[at..at + 8].copy_from_slice(&identifier.to_le_bytes());
     }
 }
 
@@ -169,14 +271,19 @@ fn mutate_attributes(r: &mut Random, image: &mut Image) {
 /// Replace, insert, damage, double, drop or swap records of a laid ring.
 fn mutate_records(r: &mut Random, input: &mut Input, most: usize) {
     let mut records = input.records();
-    let (edition, a) = (input.image.edition, input.image.attributes);
+    let edition = input.image.edition;
+    let (identifier, a) = input.some_attributes(r);
     let room = most.saturating_sub(BEFORE).clamp(8, 8 * (1 + r.below(80)) as usize);
     let at = r.below(records.len() as u64 + 1) as usize;
     if at == records.len() || r.one_in(5) {
         records.insert(at, fitting_record(r, edition, &a, room));
+        put_identifier(&mut records[at], identifier);
     } else {
         match r.below(8) {
-            0 => records[at] = fitting_record(r, edition, &a, room),
+            0 => {
+                records[at] = fitting_record(r, edition, &a, room);
+                put_identifier(&mut records[at], identifier);
+            }
             1 if records[at].len() >= 8 => damage_size(r, &mut records[at]),
             2 => records.insert(at, records[at].clone()),
             3 => {
@@ -252,7 +359,11 @@ pub fn seeds(rings: &[(String, Vec<u8>)], seed: u64, count: u64) -> Vec<(String,
         let edition = r.pick(&[1, 2, 3]);
         let attributes = some_attributes(&mut r, edition);
         let image = Image { head: 0, tail: some_tail(&mut r), attributes, edition, ring: Vec::new() };
-        let call = (number % 4) as u8;
+        let call = (number % u64::from(CALLS)) as u8;
+        if call == TABLED {
+            seeds.push((format!("made-{number}"), tabled_seed(&mut r, image)));
+            continue;
+        }
         let records = if call < RECORD { 1 + r.below(5) } else { 1 };
         let ring: Vec<u8> = (0..records)
             .flat_map(|_| {
@@ -266,6 +377,26 @@ pub fn seeds(rings: &[(String, Vec<u8>)], seed: u64, count: u64) -> Vec<(String,
     seeds
 }
 
+/// A table of some events and a few records of theirs.
+fn tabled_seed(r: &mut Random, image: Image) -> Vec<u8> {
+    let edition = r.pick(&[2, 3]);
+    let mut input = Input { control: [0; CONTROL], image: Image { edition, ..image }, events: Vec::new() };
+    for _ in 0..1 + r.below(4) {
+        mutate_events(r, &mut input);
+    }
+    for _ in 0..1 + r.below(5) {
+        let (identifier, a) = input.some_attributes(r);
+        let room = 8 * (1 + r.below(40)) as usize;
+        let mut record = fitting_record(r, edition, &a, room);
+        put_identifier(&mut record, identifier);
+        input.image.ring.extend(record);
+    }
+    input.control[CALL] = TABLED;
+    input.control[FLAGS] = LAID;
+    input.control[LENGTH] = length_for(input.image.ring.len());
+    input.bytes()
+}
+
 fn input(call: u8, flags: u8, image: Image) -> Vec<u8> {
     let mut control = [0; CONTROL];
     control[CALL] = call;
@@ -273,7 +404,7 @@ fn input(call: u8, flags: u8, image: Image) -> Vec<u8> {
     control[LENGTH] = length_for(image.ring.len());
     control[PATCHES] = u8::from(call == WRITE);
     control[NAME_ROOM] = 64;
-    Input { control, image }.bytes()
+    Input { control, image, events: Vec::new() }.bytes()
 }
 
 /// The records of an image from tail to head, as far as their sizes go.

@@ -3,6 +3,7 @@
 #![allow(dead_code)]
 
 mod abi;
+mod events;
 mod exports;
 mod fuzz;
 mod made;

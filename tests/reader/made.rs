@@ -529,7 +529,7 @@ impl DrainCase {
     }
 }
 
-fn some_ring_length(r: &mut Random) -> usize {
+pub fn some_ring_length(r: &mut Random) -> usize {
     match r.below(400) {
         0 => 1 << 20,
         1 => 1 << (13 + r.below(7)),
@@ -625,7 +625,7 @@ pub fn drain_case(r: &mut Random) -> DrainCase {
 }
 
 /// Budget, scratch and journal: mostly enough, at times at an edge.
-fn choose_room(r: &mut Random, case: &mut DrainCase, sizes: &[usize]) {
+pub fn choose_room(r: &mut Random, case: &mut DrainCase, sizes: &[usize]) {
     let records = sizes.len() as u64;
     if r.one_in(8) {
         case.budget = r.pick(&[0, 1, 2, records, records.saturating_sub(1), records / 2, records + 1]);

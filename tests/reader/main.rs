@@ -6,6 +6,7 @@
 mod abi;
 mod cases;
 mod drains;
+mod events;
 mod examples;
 #[cfg(standin)]
 mod exports;
@@ -19,6 +20,7 @@ mod record;
 mod ring;
 mod rules;
 mod soak;
+mod tables;
 mod tally;
 mod values;
 mod words;
@@ -37,6 +39,8 @@ reader list IMAGE                     the records of an image with their values,
 reader rings FOLDER                   every record of the real rings is accepted in edition 3, and their drains compared
 reader drains [OPTIONS]               drain, record check and name copy: the library against the independent reader
 reader values [OPTIONS]               read and write: the library against the independent reader and writer
+reader tables [OPTIONS]               drain, reader of one record and lookup with a table of events, compared
+reader table-rings FOLDER [OPTIONS]   the real rings of several events, each with its NAME.table; then damaged
 reader ones [OPTIONS]                 the reader of one record: the library against the independent reader
 reader meanings [OPTIONS]             what misc means: the library against the independent reader
 reader bits                           each sample bit, read format, branch bit, type and trailer bit: written, read, compared
@@ -115,6 +119,11 @@ fn run(command: &str, o: &Options) -> Result<(), String> {
         "list" => list(Path::new(o.words.first().ok_or("list needs an image")?)),
         "rings" => rings(Path::new(o.words.first().ok_or("rings needs a folder")?)),
         "drains" => run_drains(o),
+        "tables" => run_tables(o),
+        "table-rings" => {
+            let folder = Path::new(o.words.first().ok_or("table-rings needs a folder")?);
+            tables::rings(folder, o.seed, o.count.unwrap_or(2000))
+        }
         "meanings" => run_meanings(o),
         "values" | "bits" | "ones" if cfg!(without_values) => Err("built without read and write".to_string()),
         "values" => run_values(o),
@@ -316,6 +325,30 @@ fn run_drains(o: &Options) -> Result<(), String> {
         "drains: seed {}, {count} drains with {} records, {crossings} crossings of the ring's end, no difference, {:.1} s",
         o.seed,
         tally.notes.get("records in journals").unwrap_or(&0),
+        start.elapsed().as_secs_f64()
+    );
+    Ok(())
+}
+
+fn run_tables(o: &Options) -> Result<(), String> {
+    let start = Instant::now();
+    let count = o.count.unwrap_or(100_000);
+    let mut tally = Tally::default();
+    let places = if o.from == 0 { fixed_part("places of an identifier", tables::places, &mut tally)? } else { 0 };
+    run_cases("tables", o, count, &mut tally, tables::one_case)?;
+    tally.print_records();
+    for call in ["drain with a table", "read one: stop", "read one"] {
+        tally.print_answers(call);
+    }
+    let mut missing = tally.missing(tables::MUST, tables::BODY, false);
+    missing.extend(tables::missing_types(&tally));
+    all_reached(missing, count, 20_000)?;
+    println!(
+        "tables: seed {}, {count} drains with {} records, {} of them under one event alone, {places} places by hand, no \
+         difference, {:.1} s",
+        o.seed,
+        tally.notes.get("records in journals").unwrap_or(&0),
+        tally.notes.get("records under one event").unwrap_or(&0),
         start.elapsed().as_secs_f64()
     );
     Ok(())

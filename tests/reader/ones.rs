@@ -1,7 +1,7 @@
 //! The reader of one record: libollskuvan.a against the independent reader, with guards around every slice.
 
 use crate::abi;
-use crate::drains::{describe, Difference};
+use crate::drains::{describe, describe_table, table_words, Difference};
 use crate::guard::*;
 use crate::made::*;
 use crate::record;
@@ -10,8 +10,14 @@ use crate::rules::Attributes;
 use crate::tally::Tally;
 use crate::words::FIELDS;
 
-/// One call by both at the case's tail; what is told, and every byte and word that is lent, is compared.
 pub fn compare_one(case: &DrainCase, length: usize, r: &mut Random, tally: &mut Tally) -> Result<One, Difference> {
+    compare_one_with(case, None, length, r, tally)
+}
+
+/// One call by both at the case's tail; what is told, and every byte and word that is lent, is compared.
+pub fn compare_one_with(
+    case: &DrainCase, table: ring::Table, length: usize, r: &mut Random, tally: &mut Tally,
+) -> Result<One, Difference> {
     let mut scratch = vec![0; case.scratch];
     r.fill(&mut scratch);
     let mut words: Vec<u64> = (0..length).map(|_| r.next()).collect();
@@ -19,17 +25,30 @@ pub fn compare_one(case: &DrainCase, length: usize, r: &mut Random, tally: &mut 
     let lent_ring = Guarded::new(&case.ring, shift);
     let mut lent_scratch = Guarded::new(&scratch, shift / 2);
     let mut lent_words = GuardedWords::new(&words);
-    let theirs = abi::read_one(
-        lent_ring.slice(),
-        case.head,
-        case.tail,
-        &case.attributes,
-        case.edition,
-        lent_scratch.slice_mut(),
-        lent_words.slice_mut(),
-    );
+    let lent_table = GuardedWords::new(&table_words(table));
+    let theirs = if table.is_some() {
+        abi::read_one_events(
+            lent_ring.slice(),
+            case.head,
+            case.tail,
+            lent_table.slice(),
+            case.edition,
+            lent_scratch.slice_mut(),
+            lent_words.slice_mut(),
+        )
+    } else {
+        abi::read_one(
+            lent_ring.slice(),
+            case.head,
+            case.tail,
+            &case.attributes,
+            case.edition,
+            lent_scratch.slice_mut(),
+            lent_words.slice_mut(),
+        )
+    };
     let ring = Ring { bytes: &case.ring, head: case.head, edition: case.edition, attributes: case.attributes };
-    let ours = ring::read_one(&ring, case.tail, &mut scratch, &mut words);
+    let ours = ring::read_one(&ring, case.tail, table, &mut scratch, &mut words);
 
     let mut wrong = Vec::new();
     if theirs != ours {
@@ -44,11 +63,15 @@ pub fn compare_one(case: &DrainCase, length: usize, r: &mut Random, tally: &mut 
     if lent_ring.slice() != case.ring {
         wrong.push("the ring was written to".to_string());
     }
+    if lent_table.slice() != table_words(table) || !lent_table.intact() {
+        wrong.push("the table, or words around it, were written to".to_string());
+    }
     if !lent_ring.intact() || !lent_scratch.intact() || !lent_words.intact() {
         wrong.push("bytes or words around a slice were written to".to_string());
     }
     if !wrong.is_empty() {
-        return Err(format!("read one differs, {length} words\n{}\n{}", describe(case), wrong.join("\n")));
+        let wrong = wrong.join("\n");
+        return Err(format!("read one differs, {length} words\n{}\n{}{wrong}", describe(case), describe_table(table)));
     }
     count(&ours, tally);
     Ok(ours)
@@ -64,7 +87,7 @@ fn count(one: &One, tally: &mut Tally) {
     }
 }
 
-fn some_length(r: &mut Random) -> usize {
+pub fn some_length(r: &mut Random) -> usize {
     match r.below(6) {
         0 => r.pick(&[0, 1, 3, 54, FIELDS - 1]),
         1 => FIELDS + 1 + r.below(4) as usize,

@@ -1,4 +1,4 @@
-//! The soak: drains, values, damaged real rings and printed images, until the time is up.
+//! The soak: drains, drains with a table, values, damaged real rings and printed images, until the time is up.
 //!
 //! Each case depends on the seed and its number alone. The first difference ends the soak and says how
 //! to run that case again.
@@ -8,6 +8,7 @@ use crate::images;
 use crate::made::*;
 use crate::ones;
 use crate::ring::Image;
+use crate::tables;
 use crate::tally::Tally;
 use crate::values;
 use crate::words::FIELDS;
@@ -17,6 +18,7 @@ use std::time::{Duration, Instant};
 
 /// Cases of each kind in one round, before the clock is looked at again.
 const DRAINS: u64 = 1000;
+const TABLES: u64 = 500;
 const VALUES: u64 = 500;
 const DAMAGED: u64 = 100;
 const PRINTED: u64 = 5;
@@ -95,6 +97,7 @@ pub fn damaged_case(
 #[derive(Default)]
 struct Done {
     drains: u64,
+    tables: u64,
     values: u64,
     damaged: u64,
     printed: u64,
@@ -104,10 +107,11 @@ impl Done {
     fn text(&self, seed: u64, since: Instant) -> String {
         let seconds = since.elapsed().as_secs();
         format!(
-            "soak: {} min {:02} s, seed {seed}: {} drains, {} values, {} damaged real rings, {} images printed",
+            "soak: {} min {:02} s, seed {seed}: {} drains, {} with a table, {} values, {} damaged real rings, {} images printed",
             seconds / 60,
             seconds % 60,
             self.drains,
+            self.tables,
             self.values,
             self.damaged,
             self.printed
@@ -140,6 +144,10 @@ pub fn run(
             caught(|| drains::one_case(seed, number, &mut tally)).map_err(|d| again("drains", seed, number, "", d))?;
         }
         done.drains += DRAINS;
+        for number in done.tables..done.tables + TABLES {
+            caught(|| tables::one_case(seed, number, &mut tally)).map_err(|d| again("tables", seed, number, "", d))?;
+        }
+        done.tables += TABLES;
         if !cfg!(without_values) {
             for number in done.values..done.values + VALUES {
                 caught(|| values::one_case(seed, number, &mut tally)).map_err(|d| again("values", seed, number, "", d))?;
@@ -162,7 +170,7 @@ pub fn run(
     }
     tally.print_records();
     tally.print_accepted();
-    for call in ["drain", "check", "name copy", "read", "write"] {
+    for call in ["drain", "drain with a table", "check", "name copy", "read", "write"] {
         tally.print_answers(call);
     }
     println!("{}; no difference", done.text(seed, start));

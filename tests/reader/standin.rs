@@ -2,6 +2,7 @@
 #![allow(dead_code)]
 
 mod abi;
+mod events;
 mod exports;
 mod record;
 mod ring;

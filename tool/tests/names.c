@@ -68,7 +68,8 @@ static bool samples_are_right(void)
         is("word 7 of COMM", ollskuvan_word_name(3, OLLSKUVAN_COMM_NAME_FLAG), "name flag") &
         is("refusal 43", ollskuvan_refusal_text(43), "the value has a name's flag set") &
         is("answer 44", ollskuvan_refusal_text(44), "accepted, with stale bytes after the name") &
-        is("stop 11", ollskuvan_stop_text(11), "unknown answer") &
+        is("stop 99", ollskuvan_stop_text(99), "unknown answer") &
+        is("stop 11", ollskuvan_stop_text(11), "the table of events is not allowed") &
         is("stop 20, which is none", ollskuvan_stop_text(20), ollskuvan_refusal_text(20)) &
         is("refusal 8, which is none", ollskuvan_refusal_text(8), ollskuvan_stop_text(8));
 }

@@ -20,10 +20,10 @@ use Rattle.meaning.specs.Records.{Layout, layout, kindOf, miscOf, sizeOf, room,
 use Rattle.meaning.specs.Schema.{schema}
 use Rattle.meaning.specs.Values.{bodyWords, slotsTold, anyBeyond, meant, flagged, writable, writeBy, writeAnswer}
 use Rattle.meaning.specs.Names.{nameAnswer}
-use Rattle.meaning.specs.Ring.{Asked, goAt, frame}
-use Rattle.laws.specs.Rows.{in-each, in-more, in-cond, first-in, stopped-in}
+use Rattle.meaning.specs.Ring.{Asked, asking, goAt, stopped, frame}
+use Rattle.laws.specs.Rows.{others, in-each, in-more, in-cond, first-in, stopped-in}
 use Rattle.laws.specs.Rings.{stopRows, frame-rows}
-use Rattle.editions.specs.Numbers.{fieldNumbers, recordNumbers, checkNumbers, recordCheckNumbers, stopNumbers, writeNumbers, nameNumbers}
+use Rattle.editions.specs.Numbers.{fieldNumbers, recordNumbers, checkNumbers, recordCheckNumbers, stopNumbers, tableStopNumbers, writeNumbers, nameNumbers}
 
 -- ---- the fields: by induction over items
 
@@ -125,10 +125,17 @@ record-check-in rows e a xs =
     (in-cond recordCheckNumbers (eqb (flagOf (layout (known rows e) a) xs) 0) 0 44 refl refl)
     (in-more checkNumbers recordCheckNumbers (check rows e a xs) refl (check-in rows e a xs))
 
-pub frame-in : (asked : Asked) (ring : List ℕ) (head tail left journal scratch : ℕ) → isIn (frame asked ring head tail left journal scratch .stop) stopNumbers ≡ true
-frame-in asked ring head tail left journal scratch =
+-- without a table row 11 does not hold
+pub frame-in : (ok : Bool) (ring : List ℕ) (head tail left journal scratch : ℕ) → isIn (frame (asking ok) ring head tail left journal scratch .stop) stopNumbers ≡ true
+unfolding stopped
+frame-in ok ring head tail left journal scratch =
+    rw (frame-rows (asking ok) ring head tail left journal scratch)
+    (stopped-in stopNumbers (others (11 ∷ []) (stopRows (asking ok) ring head tail left journal scratch)) (goAt (tail % length ring) (numberAt 2 ring (tail % length ring + 6))) refl refl)
+
+pub table-frame-in : (asked : Asked) (ring : List ℕ) (head tail left journal scratch : ℕ) → isIn (frame asked ring head tail left journal scratch .stop) tableStopNumbers ≡ true
+table-frame-in asked ring head tail left journal scratch =
     rw (frame-rows asked ring head tail left journal scratch)
-    (stopped-in stopNumbers (stopRows asked ring head tail left journal scratch) (goAt (tail % length ring) (numberAt 2 ring (tail % length ring + 6))) refl refl)
+    (stopped-in tableStopNumbers (stopRows asked ring head tail left journal scratch) (goAt (tail % length ring) (numberAt 2 ring (tail % length ring + 6))) refl refl)
 
 -- ---- the writer and the copier of names
 

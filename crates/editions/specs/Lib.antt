@@ -9,3 +9,7 @@ pub mod Drains
 pub mod Stops
 pub mod Demand3
 pub mod Readers
+pub mod EventPromise
+pub mod EventRecord
+pub mod EventDrains
+pub mod EventReaders

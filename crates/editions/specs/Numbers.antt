@@ -22,6 +22,13 @@ recordCheckNumbers = 44 ∷ checkNumbers
 abbrev pub stopNumbers : List ℕ
 stopNumbers = 1 ∷ 2 ∷ 4 ∷ 5 ∷ 0 ∷ 8 ∷ 9 ∷ 6 ∷ 7 ∷ 3 ∷ []
 
+-- with a table of events: 11 after 5; a record that is taken may be 26 and 27
+abbrev pub tableStopNumbers : List ℕ
+tableStopNumbers = 1 ∷ 2 ∷ 4 ∷ 5 ∷ 11 ∷ 0 ∷ 8 ∷ 9 ∷ 6 ∷ 7 ∷ 3 ∷ []
+
+abbrev pub eventNumbers : List ℕ
+eventNumbers = 0 ∷ 20 ∷ 21 ∷ 22 ∷ 23 ∷ 25 ∷ 24 ∷ 26 ∷ 27 ∷ 30 ∷ 31 ∷ 32 ∷ 33 ∷ []
+
 -- "Writer, in this order: 2; 20 to 24; 41 ..; 42 ..; 40 ..", with M-102's 25 between 23 and 24
 abbrev pub writeNumbers : List ℕ
 writeNumbers = 0 ∷ 2 ∷ 20 ∷ 21 ∷ 22 ∷ 23 ∷ 25 ∷ 24 ∷ 43 ∷ 41 ∷ 42 ∷ 40 ∷ []

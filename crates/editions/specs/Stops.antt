@@ -12,7 +12,7 @@ use Rattle.meaning.specs.declared.Frame.{Frame}
 use Rattle.meaning.specs.declared.Known.{Known}
 use Rattle.meaning.specs.declared.One.{One}
 use Rattle.meaning.specs.Bytes.{zeros}
-use Rattle.meaning.specs.Editions.{known, isIn}
+use Rattle.meaning.specs.Editions.{allowed, known, isIn}
 use Rattle.meaning.specs.Records.{layout, judge}
 use Rattle.meaning.specs.Values.{readAnswered}
 use Rattle.meaning.specs.Ring.{askedOf, frame, recordAt, scratchAfter, oneFrame, taken, notTaken, readOne, oneScratch}
@@ -48,7 +48,7 @@ drain-go rows e a ring head tail budget journal scratch g =
 pub drain-in : (rows : List Known) (e : ℕ) (a : Attributes) (ring : List ℕ) (head tail budget : ℕ) (journal scratch : List ℕ)
     → isIn (drain rows e a ring head tail budget journal scratch .stop) stopNumbers ≡ true
 drain-in rows e a ring head tail budget journal scratch =
-    run-in stopNumbers (frame (askedOf rows e) ring head) (judge (layout (known rows e) a)) ring (frame-in (askedOf rows e) ring head) budget (start tail journal scratch)
+    run-in stopNumbers (frame (askedOf rows e) ring head) (judge (layout (known rows e) a)) ring (frame-in (allowed rows e) ring head) budget (start tail journal scratch)
 
 -- ---- the reader of one record
 module _ (rows : List Known) (e : ℕ) (a : Attributes) (ring : List ℕ) (head tail : ℕ) (scratch : List ℕ) where
@@ -90,7 +90,7 @@ module _ (rows : List Known) (e : ℕ) (a : Attributes) (ring : List ℕ) (head 
 
   -- the stop is a number of the table, and so is the answer
   pub one-stop-in : isIn (readOne rows e a ring head tail scratch .frame .stop) stopNumbers ≡ true
-  one-stop-in = rw one-frame (frame-in (askedOf rows e) ring head tail 1 16 (length scratch))
+  one-stop-in = rw one-frame (frame-in (allowed rows e) ring head tail 1 16 (length scratch))
 
   pub one-in : isIn (readOne rows e a ring head tail scratch .answer) recordNumbers ≡ true
   unfolding readOne taken notTaken

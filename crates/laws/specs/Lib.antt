@@ -20,3 +20,5 @@ pub mod Shapes
 pub mod Walks
 pub mod Named
 pub mod Numbers
+pub mod Lookup
+pub mod Matched

@@ -11,3 +11,4 @@ pub mod Drain
 pub mod Names
 pub mod Misc
 pub mod WordNames
+pub mod Events

@@ -22,6 +22,19 @@ pub struct Attributes {
     pub branch: u64,
 }
 
+// An event: its identifier and its attributes, seven words of eight bytes, as C lends them; a row of seven words is the
+// same memory. `all` is sample_id_all: nonzero is set. `branch` is the branch sample type.
+#[repr(C)]
+pub struct Event {
+    pub identifier: u64,
+    pub sample: u64,
+    pub format: u64,
+    pub user: u64,
+    pub interrupt: u64,
+    pub branch: u64,
+    pub all: u64,
+}
+
 pub enum Width {
     W1,
     W2,

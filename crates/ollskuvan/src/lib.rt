@@ -7,9 +7,11 @@ ghost use Rattle.meaning.specs.Misc.{miscMeaning};
 ghost use Rattle.meaning.specs.Records.{recordCheck};
 ghost use Rattle.meaning.specs.Ring.{oneScratch};
 ghost use Rattle.meaning.specs.Drain.{told, drain};
+ghost use Rattle.meaning.specs.Events.{eventLimit, eventsOf, drainEvents, oneEventsScratch};
 ghost use Rattle.meaning.specs.Names.{nameAnswer, nameBuffer};
 ghost use Rattle.record.specs.Into.{readIntoAnswer, readIntoWords};
 ghost use Rattle.one.specs.Told.{oneTold, oneWords};
+ghost use Rattle.event_one.specs.Told.{oneEventsTold, oneEventsWords};
 ghost use Rattle.writer.specs.Writer.{writeWordsAnswer, writeWordsBuffer};
 ghost use Rattle.ollskuvan.specs.Given.{given};
 use meaning::Attributes;
@@ -84,6 +86,57 @@ pub extern "C" fn ollskuvan_read_one(
     let a = attributes(sample, format, all, user, interrupt, branch);
     let e = edition as u64;
     one::read_one_into(ring, head, tail, e, a, scratch, fields)
+}
+
+// "1 to 32 of them".
+pub const EVENTS: usize = 32;
+
+// With a table of events: C's array of structs of seven 64-bit words, lent as rows of seven words.
+#[no_mangle]
+pub extern "C" fn ollskuvan_drain_events(
+    ring: &[u8],
+    head: u64,
+    tail: u64,
+    events: &[[u64; 7]],
+    edition: u32,
+    budget: u64,
+    scratch: &mut [u8],
+    journal: &mut [u8],
+) -> Drained
+    ensures { λ r. ⌜ r ≡ told (drainEvents eventLimit editions edition (eventsOf (now (events .entry))) (now (ring .entry)) head tail budget (now (journal .entry)) (now (scratch .entry))) ⌝ }
+    ensures { λ _. ⌜ now (journal .exit) ≡ drainEvents eventLimit editions edition (eventsOf (now (events .entry))) (now (ring .entry)) head tail budget (now (journal .entry)) (now (scratch .entry)) .state .journal ⌝ }
+    ensures { λ _. ⌜ now (scratch .exit) ≡ drainEvents eventLimit editions edition (eventsOf (now (events .entry))) (now (ring .entry)) head tail budget (now (journal .entry)) (now (scratch .entry)) .state .scratch ⌝ }
+{
+    let e = edition as u64;
+    event_drain::drain_events(
+        ring,
+        head,
+        tail,
+        e,
+        events,
+        EVENTS,
+        budget,
+        scratch,
+        journal,
+    )
+}
+
+#[no_mangle]
+pub extern "C" fn ollskuvan_read_one_events(
+    ring: &[u8],
+    head: u64,
+    tail: u64,
+    events: &[[u64; 7]],
+    edition: u32,
+    scratch: &mut [u8],
+    fields: &mut [u64],
+) -> OneTold
+    ensures { λ r. ⌜ r ≡ oneEventsTold eventLimit editions edition (eventsOf (now (events .entry))) (now (ring .entry)) head tail (now (scratch .entry)) (now (fields .entry)) ⌝ }
+    ensures { λ _. ⌜ now (scratch .exit) ≡ oneEventsScratch eventLimit editions edition (eventsOf (now (events .entry))) (now (ring .entry)) head tail (now (scratch .entry)) ⌝ }
+    ensures { λ _. ⌜ now (fields .exit) ≡ oneEventsWords eventLimit editions edition (eventsOf (now (events .entry))) (now (ring .entry)) head tail (now (scratch .entry)) (now (fields .entry)) ⌝ }
+{
+    let e = edition as u64;
+    event_one::read_one_events(ring, head, tail, e, events, EVENTS, scratch, fields)
 }
 
 // The parameter is not named `record`, which is a word of the proofs' language.

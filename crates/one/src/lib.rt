@@ -27,7 +27,7 @@ pub fn read_one(ring: &[u8], head: u64, tail: u64, e: u64, a: Attributes, scratc
     ensures { λ _. ⌜ now (scratch .exit) ≡ oneScratch editions e (now (ring .entry)) head tail (now (scratch .entry)) ⌝ }
 {
     let ok = record::allowed(e);
-    let frame = ring::next_frame(ok, ring, head, tail, 1, 16, scratch.len());
+    let frame = ring::next_frame(ok, true, ring, head, tail, 1, 16, scratch.len());
     if !frame.go {
         return One {
             frame,
@@ -65,7 +65,7 @@ pub fn read_one_into(
     ensures { λ _. ⌜ now (words .exit) ≡ oneWords editions e a (now (ring .entry)) head tail (now (scratch .entry)) (now (words .entry)) ⌝ }
 {
     let ok = record::allowed(e);
-    let frame = ring::next_frame(ok, ring, head, tail, 1, 16, scratch.len());
+    let frame = ring::next_frame(ok, true, ring, head, tail, 1, 16, scratch.len());
     if !frame.go {
         return OneTold {
             place: 0,

@@ -111,7 +111,7 @@ module _ (e : ℕ) (a : Attributes) where
       where
         by : (b : Bool) → isIn (cond b (toldTaken ring next tail answer) (toldStop next tail) .stop) stopNumbers ≡ true
         by true = refl
-        by false = frame-in (askedOf editions e) ring head tail 1 16 (length scratch)
+        by false = frame-in (allowed editions e) ring head tail 1 16 (length scratch)
 
     told-answers : isIn (oneTold editions e a ring head tail scratch words .answer) readNumbers ≡ true
     unfolding oneTold

@@ -10,3 +10,5 @@ pub mod Exported
 pub mod Demand3
 pub mod Unique
 pub mod Counts
+pub mod Events
+pub mod EventExamples

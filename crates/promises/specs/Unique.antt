@@ -38,6 +38,8 @@ use Rattle.table.proofs as table
 use Rattle.rules.proofs as rules
 use Rattle.answers.proofs as answers
 use Rattle.record.proofs as records
+use Rattle.events.proofs as events
+use Rattle.event_list.proofs as list
 use Rattle.blocks.proofs as blocks
 use Rattle.exact.proofs as exact
 use Rattle.plan.proofs as plan
@@ -47,6 +49,8 @@ use Rattle.shown.proofs as shown
 use Rattle.one.proofs as one
 use Rattle.reader.proofs as reader
 use Rattle.drain.proofs as drains
+use Rattle.event_drain.proofs as eventful
+use Rattle.event_one.proofs as single
 use Rattle.fast_drain.proofs as fast
 use Rattle.ollskuvan.proofs as ollskuvan
 use Rattle.writer_words.proofs as words
@@ -465,6 +469,19 @@ module _ {M : Type 1} (𝓤 : URA M) (H : Heap 𝓤) (A : Atoms 𝓤) (mem : Mem
   pub shown-show-stop : Walked shown.show.ended (shown.show.clauses 𝓤 H A mem run) (λ κs x. x .stop)
   shown-show-stop κs a g x y s t P p q = both P p q (λ e f. same (e .1 .1 .1) (f .1 .1 .1))
 
+  -- events as a slice of structs
+  pub list-count : Walked list.count.ended (list.count.clauses 𝓤 H A mem run) (λ κs x. x)
+  list-count κs a g x y s t P p q = both P p q same
+
+  pub list-identifier-of : Walked list.identifier_of.ended (list.identifier_of.clauses 𝓤 H A mem run) (λ κs x. x)
+  list-identifier-of κs a g x y s t P p q = both P p q same
+
+  pub list-event-at : Walked list.event_at.ended (list.event_at.clauses 𝓤 H A mem run) (λ κs x. x)
+  list-event-at κs a g x y s t P p q = both P p q same
+
+  pub list-find-event : Walked list.ollskuvan_find_event.ended (list.ollskuvan_find_event.clauses 𝓤 H A mem run) (λ κs x. x)
+  list-find-event κs a g x y s t P p q = both P p q same
+
 -- ---- drain: the drain: what is told, and the journal and the scratch at exit
 
 pub drain-told : Result drains.drain.Kinds.ps drains.drain.Kinds.r drains.drain.Reads.Learnt
@@ -488,6 +505,61 @@ drain-take-one-scratch κs a x y s t p q = same (p .0) (q .0)
 
 pub drain-take-one-journal : Seen drains.take_one.Kinds.ps drains.take_one.Kinds.r drains.take_one.Reads.Learnt (λ κs x s. now (s .1 .1 .1 .1 .1 .1 .0))
 drain-take-one-journal κs a x y s t p q = same (p .1) (q .1)
+
+-- ---- a table of events: row 11, the lookup, the answer of a record
+
+pub events-find-id : Result events.find_id.Kinds.ps events.find_id.Kinds.r events.find_id.Reads.Learnt
+events-find-id κs a x y s t p q = same p q
+
+pub events-find : Result events.find.Kinds.ps events.find.Kinds.r events.find.Reads.Learnt
+events-find κs a x y s t p q = same p q
+
+pub events-event-of : Result events.event_of.Kinds.ps events.event_of.Kinds.r events.event_of.Reads.Learnt
+events-event-of κs a x y s t p q = same p q
+
+pub events-attributes-of : Result events.attributes_of.Kinds.ps events.attributes_of.Kinds.r events.attributes_of.Reads.Learnt
+events-attributes-of κs a x y s t p q = same p q
+
+pub events-attributes-at : Result events.attributes_at.Kinds.ps events.attributes_at.Kinds.r events.attributes_at.Reads.Learnt
+events-attributes-at κs a x y s t p q = same p q
+
+pub events-sound : Result events.sound.Kinds.ps events.sound.Kinds.r events.sound.Reads.Learnt
+events-sound κs a x y s t p q = same p q
+
+pub events-identifier-of : Result events.identifier_of.Kinds.ps events.identifier_of.Kinds.r events.identifier_of.Reads.Learnt
+events-identifier-of κs a x y s t p q = same p q
+
+pub events-match-event : Result events.match_event.Kinds.ps events.match_event.Kinds.r events.match_event.Reads.Learnt
+events-match-event κs a x y s t p q = same p q
+
+pub events-judge : Result events.judge.Kinds.ps events.judge.Kinds.r events.judge.Reads.Learnt
+events-judge κs a x y s t p q = same p q
+
+-- the drain with a table: what is told, and the journal and the scratch at exit
+pub event-drain-told : Result eventful.drain_events.Kinds.ps eventful.drain_events.Kinds.r eventful.drain_events.Reads.Learnt
+event-drain-told κs a x y s t p q = same (p .0) (q .0)
+
+pub event-drain-journal : Seen eventful.drain_events.Kinds.ps eventful.drain_events.Kinds.r eventful.drain_events.Reads.Learnt (λ κs x s. now (s .1 .1 .1 .1 .1 .1 .1 .1 .0))
+event-drain-journal κs a x y s t p q = same (p .1 .0) (q .1 .0)
+
+pub event-drain-scratch : Seen eventful.drain_events.Kinds.ps eventful.drain_events.Kinds.r eventful.drain_events.Reads.Learnt (λ κs x s. now (s .1 .1 .1 .1 .1 .1 .1 .0))
+event-drain-scratch κs a x y s t p q = same (p .1 .1) (q .1 .1)
+
+pub event-take-event-scratch : Seen eventful.take_event.Kinds.ps eventful.take_event.Kinds.r eventful.take_event.Reads.Learnt (λ κs x s. now (s .1 .1 .1 .1 .1 .0))
+event-take-event-scratch κs a x y s t p q = same (p .0) (q .0)
+
+pub event-take-event-journal : Seen eventful.take_event.Kinds.ps eventful.take_event.Kinds.r eventful.take_event.Reads.Learnt (λ κs x s. now (s .1 .1 .1 .1 .1 .1 .0))
+event-take-event-journal κs a x y s t p q = same (p .1) (q .1)
+
+-- the reader of one record with a table: what is told, and the scratch and the words at exit
+pub event-read-one : Result single.read_one_events.Kinds.ps single.read_one_events.Kinds.r single.read_one_events.Reads.Learnt
+event-read-one κs a x y s t p q = same (p .0) (q .0)
+
+pub event-read-one-scratch : Seen single.read_one_events.Kinds.ps single.read_one_events.Kinds.r single.read_one_events.Reads.Learnt (λ κs x s. now (s .1 .1 .1 .1 .1 .1 .0))
+event-read-one-scratch κs a x y s t p q = same (p .1 .0) (q .1 .0)
+
+pub event-read-one-words : Seen single.read_one_events.Kinds.ps single.read_one_events.Kinds.r single.read_one_events.Reads.Learnt (λ κs x s. now (s .1 .1 .1 .1 .1 .1 .1 .0))
+event-read-one-words κs a x y s t p q = same (p .1 .1) (q .1 .1)
 
 -- ---- fast_drain, under the same contract
 
@@ -519,6 +591,24 @@ ollskuvan-read-one-scratch κs a x y s t p q = same (p .1 .0) (q .1 .0)
 
 pub ollskuvan-read-one-words : Seen ollskuvan.ollskuvan_read_one.Kinds.ps ollskuvan.ollskuvan_read_one.Kinds.r ollskuvan.ollskuvan_read_one.Reads.Learnt (λ κs x s. now (s .1 .1 .1 .1 .1 .1 .1 .1 .1 .1 .1 .0))
 ollskuvan-read-one-words κs a x y s t p q = same (p .1 .1) (q .1 .1)
+
+pub ollskuvan-drain-events : Result ollskuvan.ollskuvan_drain_events.Kinds.ps ollskuvan.ollskuvan_drain_events.Kinds.r ollskuvan.ollskuvan_drain_events.Reads.Learnt
+ollskuvan-drain-events κs a x y s t p q = same (p .0) (q .0)
+
+pub ollskuvan-drain-events-journal : Seen ollskuvan.ollskuvan_drain_events.Kinds.ps ollskuvan.ollskuvan_drain_events.Kinds.r ollskuvan.ollskuvan_drain_events.Reads.Learnt (λ κs x s. now (s .1 .1 .1 .1 .1 .1 .1 .0))
+ollskuvan-drain-events-journal κs a x y s t p q = same (p .1 .0) (q .1 .0)
+
+pub ollskuvan-drain-events-scratch : Seen ollskuvan.ollskuvan_drain_events.Kinds.ps ollskuvan.ollskuvan_drain_events.Kinds.r ollskuvan.ollskuvan_drain_events.Reads.Learnt (λ κs x s. now (s .1 .1 .1 .1 .1 .1 .0))
+ollskuvan-drain-events-scratch κs a x y s t p q = same (p .1 .1) (q .1 .1)
+
+pub ollskuvan-read-one-events : Result ollskuvan.ollskuvan_read_one_events.Kinds.ps ollskuvan.ollskuvan_read_one_events.Kinds.r ollskuvan.ollskuvan_read_one_events.Reads.Learnt
+ollskuvan-read-one-events κs a x y s t p q = same (p .0) (q .0)
+
+pub ollskuvan-read-one-events-scratch : Seen ollskuvan.ollskuvan_read_one_events.Kinds.ps ollskuvan.ollskuvan_read_one_events.Kinds.r ollskuvan.ollskuvan_read_one_events.Reads.Learnt (λ κs x s. now (s .1 .1 .1 .1 .1 .0))
+ollskuvan-read-one-events-scratch κs a x y s t p q = same (p .1 .0) (q .1 .0)
+
+pub ollskuvan-read-one-events-words : Seen ollskuvan.ollskuvan_read_one_events.Kinds.ps ollskuvan.ollskuvan_read_one_events.Kinds.r ollskuvan.ollskuvan_read_one_events.Reads.Learnt (λ κs x s. now (s .1 .1 .1 .1 .1 .1 .0))
+ollskuvan-read-one-events-words κs a x y s t p q = same (p .1 .1) (q .1 .1)
 
 pub ollskuvan-check : Result ollskuvan.ollskuvan_check.Kinds.ps ollskuvan.ollskuvan_check.Kinds.r ollskuvan.ollskuvan_check.Reads.Learnt
 ollskuvan-check κs a x y s t p q = same p q

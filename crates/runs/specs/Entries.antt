@@ -1,5 +1,5 @@
 -- The journal of a run, entry by entry. Assumes nothing.
-use mathlib.Core.Path.{_≡_, refl, sym, ap, _∙_}
+use mathlib.Core.Path.{_≡_, refl, sym, ap, ap₂, _∙_}
 use mathlib.Core.List.{List, [], _∷_, _++_}
 use Prim.Native.Nat.{ℕ, zero, suc, _+_, _*_, _^_, _<_, _≤_}
 use native.Mathlib.Nat.{zero-add}
@@ -8,10 +8,10 @@ use lib.ListN.{length, getD, take, drop, length-drop}
 use lib.Seq.{take-append-le, drop-append-le, drop-append-seam, drop-append-add}
 use Rattle.meaning.specs.declared.Frame.{Frame}
 use Rattle.meaning.specs.Bytes.{numberAt, spell, put}
-use Rattle.meaning.specs.Drain.{End, start, run, entry, entryFor}
+use Rattle.meaning.specs.Drain.{End, start, run, journalKind, entry, entryFor}
 use Rattle.laws.specs.Bytes.{num-spell}
 use Rattle.laws.specs.Put.{put-start}
-use Rattle.runs.specs.Cutting.{Cut, Cuts, begin, cutBy, entries, All, nothingCut}
+use Rattle.runs.specs.Cutting.{Cut, Cuts, begin, cutBy, entries, All, endAt, nothingCut}
 use Rattle.runs.specs.Runs.{Roomy, length-entries, run-cut, cut-fits}
 
 -- entry i is that of record i
@@ -98,3 +98,21 @@ pub all-at : (P : Cut → Type 0) (cs : List Cut) (i : ℕ) → All P cs → i <
 all-at P [] i a h = absurd (omega arith)
 all-at P (c ∷ cs) zero a h = a .0
 all-at P (c ∷ cs) (suc i) a h = all-at P cs i (a .1) (omega arith)
+
+-- ---- judges that agree on the records of a ring
+entries-same : (j₁ j₂ : List ℕ → ℕ) (cs : List Cut) → All (λ (c : Cut). j₁ (c .record-bytes) ≡ j₂ (c .record-bytes)) cs → entries j₁ cs ≡ entries j₂ cs
+unfolding entries
+entries-same j₁ j₂ [] h = refl
+entries-same j₁ j₂ (c ∷ cs) h = ap₂ (λ (n : ℕ) (l : List ℕ). entry (journalKind (c .record-bytes)) n (c .tail) ++ l) (h .0) (entries-same j₁ j₂ cs (h .1))
+
+module _ (frame : ℕ → ℕ → ℕ → ℕ → Frame) (roomy : Roomy frame) (ring : List ℕ) (tail budget : ℕ) (journal scratch : List ℕ) where
+  abbrev found : Cuts
+  found = cutBy frame ring budget (begin tail (length journal) scratch)
+
+  -- end alike
+  pub runs-same : (j₁ j₂ : List ℕ → ℕ) → All (λ (c : Cut). j₁ (c .record-bytes) ≡ j₂ (c .record-bytes)) (found .records)
+      → run frame j₁ ring budget (start tail journal scratch) ≡ run frame j₂ ring budget (start tail journal scratch)
+  runs-same j₁ j₂ h =
+      run-cut frame roomy ring tail budget journal scratch j₁
+      ∙ ap (λ (l : List ℕ). endAt found (0 + length (found .records)) (put journal (16 * 0) l)) (entries-same j₁ j₂ (found .records) h)
+      ∙ sym (run-cut frame roomy ring tail budget journal scratch j₂)
