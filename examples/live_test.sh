@@ -118,6 +118,13 @@ for image in "$work"/saved-cpu*.img; do
   images=$((images + 1))
 done
 
+# ---- the same drains once more, as one: what a ring's drains gave is what one drain gives (M-113)
+"$programs/controller" --budget 3 --pages 1 --again -- "$programs/workload" kiln >"$work/again.out" 2>&1 ||
+  { cat "$work/again.out"; wrong "controller --again failed"; }
+grep -q -E '  once more: [1-9][0-9]* records? in [1-9][0-9]* drains?, .*; 0 gave something else$' "$work/again.out" ||
+  wrong "the drains of live rings once more, as one: $(grep 'once more' "$work/again.out")"
+grep 'once more' "$work/again.out"
+
 # ---- an old reader on new records: refuses, and goes on to the end
 "$programs/controller" --edition 1 -- "$programs/workload" kiln >"$work/edition1.out" 2>&1 || wrong "controller failed in edition 1"
 grep -q 'refused with 20 ' "$work/edition1.out" || wrong "edition 1 refused no record type"

@@ -15,6 +15,7 @@
 #include <stdlib.h>
 #include <string.h>
 
+#include "again.h"
 #include "arguments.h"
 #include "bytes.h"
 #include "commands.h"
@@ -31,6 +32,7 @@ struct options {
     struct live_want want;
     uint64_t budget;
     const char *save;
+    bool again; /* each ring's drains once more, as one */
 };
 
 struct controller {
@@ -39,6 +41,8 @@ struct controller {
     struct names names;
     bool broken; /* a stop that is this program's own fault */
     bool *full;  /* by ring: said already */
+    struct again *again; /* by ring */
+    struct again_sums compared;
     uint8_t scratch[OLLSKUVAN_RECORD_MAX]; /* so stop 3 cannot be */
     uint8_t journal[BUDGET_MAX * OLLSKUVAN_JOURNAL_ENTRY];
     /* what it saw */
@@ -130,6 +134,8 @@ static bool drain_some(struct controller *c, const struct perf_ring *ring)
         if (ring->table.count != 0)
             count_event(c, ring, head, c->journal + i * OLLSKUVAN_JOURNAL_ENTRY);
     }
+    if (c->options.again)
+        again_follow(&c->again[ring - c->live.rings], &c->compared, ring, head, tail, &done, c->journal);
     perf_ring_give_back(ring, tail_after(c, ring, head, &done));
     return !c->broken && (done.stop == OLLSKUVAN_STOP_BUDGET || done.stop == OLLSKUVAN_STOP_JOURNAL);
 }
@@ -139,6 +145,15 @@ static void drain_ring(struct controller *c, const struct perf_ring *ring, unsig
 {
     for (unsigned turn = 0; turn < turns && drain_some(c, ring); turn++)
         ;
+}
+
+/* What is kept of the drains, compared; and where they gave something else it is said. */
+static void compare_all(struct controller *c)
+{
+    for (size_t i = 0; i < c->live.count && c->options.again; i++) {
+        again_compare(&c->again[i], &c->compared, &c->live.rings[i]);
+        again_free(&c->again[i]);
+    }
 }
 
 static void drain_all(struct controller *c, unsigned turns)
@@ -263,6 +278,11 @@ static void summary(const struct controller *c)
     print_events(c);
     print_counts("stop", c->by_stop, STOPS, ollskuvan_stop_text);
     print_counts("refused with", c->by_refusal, REFUSALS, ollskuvan_refusal_text);
+    if (c->options.again)
+        printf("  once more: %llu %s in %llu %s, one for what fits the ring; %llu gave something else\n",
+            (unsigned long long)c->compared.records, plural(c->compared.records, "record", "records"),
+            (unsigned long long)c->compared.drains, plural(c->compared.drains, "drain", "drains"),
+            (unsigned long long)c->compared.differences);
     if (c->skipped != 0)
         printf("  given up at stops: %llu %s\n", (unsigned long long)c->skipped, plural(c->skipped, "byte", "bytes"));
 }
@@ -285,6 +305,7 @@ static void usage(FILE *out)
         "  --events LIST events that sample too, in the same ring: cpu-clock, page-faults,\n"
         "                context-switches, cpu-migrations; with commas, each once\n"
         "  --edition N   what the reader knows: 1, 2 or 3 (3)\n"
+        "  --again       drain what fits a ring once more, as one, and compare\n"
         "  --save NAME   drain nothing until the end, then write NAME-cpuN.img for each\n"
         "                ring, and NAME-names.txt; with --events NAME-cpuN.table too\n"
         "  --help        this\n"
@@ -325,6 +346,8 @@ static bool take_option(struct options *o, int letter)
     case 'w':
         o->save = optarg;
         return true;
+    case 'g':
+        return o->again = true;
     default:
         usage(stderr);
         return false;
@@ -336,7 +359,7 @@ static bool read_options(struct options *o, int argc, char **argv, bool *help)
     static const struct option names[] = {
         { "seconds", 1, NULL, 's' }, { "budget", 1, NULL, 'b' }, { "pages", 1, NULL, 'p' }, { "cpu", 1, NULL, 'c' },
         { "clock", 0, NULL, 'k' }, { "branch", 1, NULL, 'r' }, { "events", 1, NULL, 'v' }, { "edition", 1, NULL, 'e' },
-        { "save", 1, NULL, 'w' }, { "help", 0, NULL, 'h' }, { NULL, 0, NULL, 0 },
+        { "save", 1, NULL, 'w' }, { "again", 0, NULL, 'g' }, { "help", 0, NULL, 'h' }, { NULL, 0, NULL, 0 },
     };
     int letter;
     optind = 0; /* a program of several commands has looked at its own arguments before */
@@ -372,6 +395,7 @@ static int control(struct controller *c)
     if (c->options.save != NULL)
         names_from_proc(&c->names, false);
     c->full = must(calloc(c->live.count + 1, sizeof *c->full));
+    c->again = must(calloc(c->live.count + 1, sizeof *c->again));
     progress_begin();
     status = live_start(&c->live);
     if (status == STATUS_DONE)
@@ -382,8 +406,9 @@ static int control(struct controller *c)
     if (c->options.save != NULL && !save_all(c))
         status = STATUS_FAILED;
     drain_all(c, UINT32_MAX); /* the events are stopped: this comes to an end */
+    compare_all(c);
     summary(c);
-    return c->broken || c->skipped != 0 ? STATUS_FAILED : status;
+    return c->broken || c->skipped != 0 || c->compared.differences != 0 ? STATUS_FAILED : status;
 }
 
 int record_command(int argc, char **argv)
@@ -403,6 +428,7 @@ int record_command(int argc, char **argv)
     live_close(&c->live);
     names_free(&c->names);
     free(c->full);
+    free(c->again);
     free(c);
     return status;
 }

@@ -125,6 +125,8 @@ part "drains, checks and name copies: $drains cases, seed $seed" \
     "$out/reader" drains --count "$drains" --seed "$seed"
 part "tables of events: $((drains / 2)) drains and their records, seed $seed" \
     "$out/reader" tables --count $((drains / 2)) --seed "$seed"
+part "drains cut anywhere: $((drains / 10)) series, seed $seed" \
+    "$out/reader" series --count $((drains / 10)) --seed "$seed" --rings rings
 part "what misc means" "$out/reader" meanings --count "$values" --seed "$seed"
 part "real rings" "$out/reader" rings rings
 part "real rings of several events" "$out/reader" table-rings rings/events --seed "$seed"

@@ -19,6 +19,7 @@ mod ones;
 mod record;
 mod ring;
 mod rules;
+mod series;
 mod soak;
 mod tables;
 mod tally;
@@ -42,6 +43,7 @@ reader values [OPTIONS]               read and write: the library against the in
 reader tables [OPTIONS]               drain, reader of one record and lookup with a table of events, compared
 reader table-rings FOLDER [OPTIONS]   the real rings of several events, each with its NAME.table; then damaged
 reader ones [OPTIONS]                 the reader of one record: the library against the independent reader
+reader series [OPTIONS]               drains cut anywhere against one drain, by the library; --rings FOLDER: real rings too
 reader meanings [OPTIONS]             what misc means: the library against the independent reader
 reader bits                           each sample bit, read format, branch bit, type and trailer bit: written, read, compared
 reader images PROGRAM [WORDS...] [OPTIONS]
@@ -125,6 +127,7 @@ fn run(command: &str, o: &Options) -> Result<(), String> {
             tables::rings(folder, o.seed, o.count.unwrap_or(2000))
         }
         "meanings" => run_meanings(o),
+        "series" => run_series(o),
         "values" | "bits" | "ones" if cfg!(without_values) => Err("built without read and write".to_string()),
         "values" => run_values(o),
         "ones" => run_ones(o),
@@ -361,6 +364,33 @@ fn run_meanings(o: &Options) -> Result<(), String> {
     run_cases("meanings", o, count, &mut tally, meanings::one_case)?;
     all_reached(tally.missing(meanings::MUST, &[], false), every, 71 << 16)?;
     println!("meanings: every misc of types 0 to 70, and {count} wider types and miscs with seed {}, no difference", o.seed);
+    Ok(())
+}
+
+fn run_series(o: &Options) -> Result<(), String> {
+    let start = Instant::now();
+    let count = o.count.unwrap_or(20_000);
+    let mut tally = Tally::default();
+    if o.from == 0 {
+        fixed_part("an overwritten record", series::planted, &mut tally)?;
+    }
+    run_cases("series", o, count, &mut tally, series::one_case)?;
+    let mut real = 0;
+    if o.rings.is_some() {
+        let (rings, _) = real_rings(o)?;
+        real = count / 10;
+        run_cases("series --rings rings", o, real, &mut tally, |seed, number, tally| series::real_case(&rings, seed, number, tally))?;
+    }
+    for call in ["series", "series ended", "stopped in the middle"] {
+        tally.print_answers(call);
+    }
+    all_reached(tally.missing(series::MUST, &[], false), count, 10_000)?;
+    println!(
+        "series: seed {}, {count} series over made rings and {real} over real ones with {} records, no difference, {:.1} s",
+        o.seed,
+        tally.notes.get("records in series").unwrap_or(&0),
+        start.elapsed().as_secs_f64()
+    );
     Ok(())
 }
 

@@ -12,3 +12,4 @@ pub mod Unique
 pub mod Counts
 pub mod Events
 pub mod EventExamples
+pub mod Series

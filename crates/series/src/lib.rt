@@ -1,0 +1,2 @@
+// Holds specs/ alone: drains cut anywhere (M-113).
+pub fn nothing() {}
