@@ -6,6 +6,16 @@
 #   examples/live_test.sh [FOLDER]     FOLDER holds the built programs (target/examples)
 set -u
 cd "$(dirname "$0")/.." || exit 2
+
+# A machine that is shared may disturb any of it once. What errs errs every time: a run that was wrong is made again, whole, at most
+# twice, and what was wrong in it stays in the output.
+if [ "${LIVE_RUN:-}" = "" ]; then
+  for run in 1 2 3; do
+    LIVE_RUN=$run bash examples/live_test.sh "$@" && exit 0
+    [ $run -eq 3 ] || echo "live tests: run $run was wrong; made again"
+  done
+  exit 1
+fi
 programs=${1:-target/examples}
 work=target/examples/live
 failures=0
@@ -278,7 +288,8 @@ sleep 0.3
 kill -TERM "$pid"; wait "$pid" || wrong "SIGTERM while recording: the report fails ($?)"
 [ -s "$work/signal.txt" ] || wrong "SIGTERM while recording: no report"
 mkfifo "$work/nobody-reads" && exec 9<>"$work/nobody-reads"
-"$programs/late" --live --seconds 60 -- "$programs/load_test" 20000 1 >"$work/nobody-reads" 2>"$work/signal.err" & pid=$!
+# the program takes long enough that the catching is seen from outside
+"$programs/late" --live --seconds 60 -- sh -c 'sleep 0.4; exec "$0" 20000 1' "$programs/load_test" >"$work/nobody-reads" 2>"$work/signal.err" & pid=$!
 until_it yes "$pid" && until_it no "$pid" || wrong "late does not give the signals back after recording"
 kill -TERM "$pid"; wait "$pid" 2>/dev/null
 [ $? -eq 143 ] || wrong "SIGTERM does not end late after the recording"
@@ -307,6 +318,7 @@ fails() { # STATUS WORDS COMMAND..
 fails 1 "$work/none did not start: No such file" "$programs/late" --live -- "$work/none"
 fails 1 "$work/none did not start: No such file" "$programs/controller" -- "$work/none"
 fails 1 'did not start: Permission denied' "$programs/controller" -- /etc/passwd
+fails 2 '--report goes with neither' "$programs/controller" --report 2 --save "$work/none"
 fails 0 'the program ended with 7' "$programs/controller" -- sh -c 'exit 7'
 fails 0 'the program was ended by signal 9' "$programs/controller" -- sh -c 'kill -KILL $$'
 for p in "late --live --short --seconds 0.05" "controller --seconds 0.05" "load_test 100"; do
@@ -350,6 +362,30 @@ grep -q -E ' [1-9][0-9]* refused' "$work/several.txt" && wrong "a saved ring of 
 for budget in 1 16 40; do
   "$programs/load_test" 100000 "$budget" || wrong "records do not add up with a budget of $budget"
 done
+
+# ---- two readers of one ring under load: a slow report holds the kernel's tail back and delays nobody; nothing is lost untold
+# How much is lost depends on the machine; that it adds up for each of the two does not, and is never tried again.
+slow_report() { # RECORDS A TURN
+  "$programs/load_test" 20000 16 "$1" >"$work/two.out" 2>&1 || { cat "$work/two.out"; wrong "two readers, a report of $1 records a turn"; return 0; }
+  why="the ring never held more than the report takes"
+  grep -q -E "held the kernel's tail back after [1-9]" "$work/two.out" || return 2
+  cat "$work/two.out"
+}
+report_of_one() { slow_report 1; }
+report_of_five() { slow_report 5; }
+undisturbed report_of_one
+undisturbed report_of_five
+report_behind() { # WORDS.. more options
+  "$programs/controller" --budget 8 --pages 1 --report 1 "$@" -- "$programs/load_test" 5000 16 >"$work/report.out" 2>&1 ||
+    { cat "$work/report.out"; wrong "controller --report $* failed"; }
+  grep -q -E '^logger: ([0-9]+) records?, ([0-9]+) told as lost; report: \1 records?, \2 told as lost; told the same$' "$work/report.out" ||
+    wrong "the controller's two readers $*: $(grep '^logger' "$work/report.out")"
+  grep -q -E "^the report held the kernel's tail back [1-9][0-9]* times?, .*; the logger waited for it 0 times\$" "$work/report.out" ||
+    wrong "the controller's report $*: $(grep '^the report' "$work/report.out")"
+  grep -E '^(logger|the report)' "$work/report.out"
+}
+report_behind
+report_behind --events page-faults,cpu-clock # one ring and one table
 
 [ "$failures" -eq 0 ] || { echo "live tests: $failures wrong"; exit 1; }
 echo "live tests: all right"

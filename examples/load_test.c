@@ -1,12 +1,16 @@
 /*
  * A ring under load: a writer that is faster than the reader.
  *
- *   load_test [RECORDS [BUDGET]]
+ *   load_test [RECORDS [BUDGET [REPORT]]]
  *
  * A thread changes its name again and again; each change is one COMM record in
  * a ring of one page. The reader drains in small budgets and naps between them,
  * so the kernel must drop records, which it counts in LOST records. In the end
  * every record taken and every count of LOST must add up to the changes made.
+ * With REPORT two readers share the ring: a logger that takes all it finds, in
+ * such budgets, and behind it a report that takes at most REPORT records a turn.
+ * Then it must add up for each of them, both must be told the same, and the logger
+ * may never wait for the report.
  * Ends with 3 where the kernel does not allow perf events.
  */
 #define _GNU_SOURCE
@@ -29,12 +33,14 @@
 #include "bytes.h"
 #include "messages.h"
 #include "ollskuvan.h"
+#include "perf_ring.h"
+#include "readers.h"
 #include "text.h"
 
-enum { BUDGET_MAX = 1024, HANG_SECONDS = 120, KERNEL_SAYS_NO = 3 };
+enum { TURNS = 1000000, BUDGET_MAX = 1024, HANG_SECONDS = 120, KERNEL_SAYS_NO = 3 };
 
 struct test {
-    uint64_t changes, budget; /* asked for */
+    uint64_t changes, budget, slow; /* asked for; slow: what the report takes a turn, 0 for one reader alone */
     /* the writer */
     pthread_t thread;
     pid_t tid;
@@ -50,6 +56,9 @@ struct test {
     /* the reader */
     uint8_t scratch[OLLSKUVAN_RECORD_MAX], journal[BUDGET_MAX * OLLSKUVAN_JOURNAL_ENTRY];
     uint64_t names, losts, lost, others, drains, longest_ns, fullest;
+    /* or two of them */
+    struct perf_ring shared;
+    struct readers two;
 };
 
 static void die(const char *what)
@@ -216,6 +225,79 @@ static int judge(const struct test *t)
     return sum && t->others == 0 && bounded && (!known || own == t->lost) ? 0 : 1;
 }
 
+/* ---- two readers ---- */
+
+static void share(struct test *t)
+{
+    t->shared = (struct perf_ring){ .fd = -1, .program_fd = -1, .bytes = t->ring, .length = t->length, .mapped = t->page,
+        .attributes = { .sample_type = t->attr.sample_type, .read_format = t->attr.read_format, .sample_id_all = 1,
+            .edition = OLLSKUVAN_EDITION_3 } };
+    readers_begin(&t->two, &t->shared);
+}
+
+static void turn(struct test *t, uint64_t slow)
+{
+    if (readers_turn(&t->two, &t->shared, TURNS, t->budget, slow))
+        return;
+    fprintf(stderr, "load_test: the logger stopped with %u, the report with %u, and the kernel's tail is refused with %u\n",
+        t->two.logger.stop, t->two.report.stop, t->two.refused);
+    exit(1);
+}
+
+/* The report comes no faster: the ring is full by now, so it holds the kernel's tail back. */
+static void even(struct test *t)
+{
+    while (!readers_even(&t->two, &t->shared))
+        turn(t, t->slow);
+}
+
+static bool adds_up(const struct test *t, const char *who, const struct reader *reader)
+{
+    bool sum = reader->names + reader->lost == t->produced && reader->names + reader->losts == reader->taken && reader->refused == 0;
+    printf("the %s: %llu taken in %llu drains, %llu lost (told by %llu LOST): %s\n", who, (unsigned long long)reader->names,
+        (unsigned long long)reader->drains, (unsigned long long)reader->lost, (unsigned long long)reader->losts,
+        sum ? "they add up" : "THEY DO NOT ADD UP");
+    return sum;
+}
+
+static int judge_two(const struct test *t)
+{
+    const struct readers *r = &t->two;
+    uint64_t own;
+    bool known = kernel_lost(t, &own);
+    printf("%llu name changes, a logger and a report that takes %llu %s a turn\n", (unsigned long long)t->produced,
+        (unsigned long long)t->slow, plural(t->slow, "record", "records"));
+    bool sums = adds_up(t, "logger", &r->logger) & adds_up(t, "report", &r->report);
+    bool alike = r->logger.sum == r->report.sum && r->logger.lost == r->report.lost;
+    printf("both were told %s; the report held the kernel's tail back after %llu of %llu turns, by up to %llu of %zu bytes\n",
+        alike ? "the same" : "SOMETHING ELSE", (unsigned long long)r->held, (unsigned long long)r->turns,
+        (unsigned long long)r->furthest, t->length);
+    printf("the logger waited for the report %llu times\n", (unsigned long long)r->delayed);
+    if (known)
+        printf("the kernel's own count of lost records: %llu%s\n", (unsigned long long)own, own == r->logger.lost ? ", the same" : ", ANOTHER");
+    return sums && alike && r->delayed == 0 && (!known || own == r->logger.lost) ? 0 : 1;
+}
+
+static void read_until_done(struct test *t)
+{
+    const struct timespec nap = { 0, 1000000 };
+    while (!atomic_load(&t->done)) {
+        if (t->slow != 0)
+            turn(t, t->slow);
+        else
+            drain_some(t);
+        nanosleep(&nap, NULL);
+    }
+}
+
+static void read_the_rest(struct test *t)
+{
+    if (t->slow != 0)
+        even(t);
+    else
+        empty(t);
+}
+
 static uint64_t argument(const char *text, uint64_t most)
 {
     char *end;
@@ -232,13 +314,13 @@ int main(int argc, char **argv)
 {
     static struct test t;
     called_as(argv[0]);
-    const struct timespec nap = { 0, 1000000 };
-    if (argc > 3) {
-        fprintf(stderr, "usage: load_test [RECORDS [BUDGET]]\n");
+    if (argc > 4) {
+        fprintf(stderr, "usage: load_test [RECORDS [BUDGET [REPORT]]]\n");
         return 2;
     }
     t.changes = argc > 1 ? argument(argv[1], 1000000000) : 100000;
     t.budget = argc > 2 ? argument(argv[2], 40) : 16; /* 40 COMM records are less than a page */
+    t.slow = argc > 3 ? argument(argv[3], 40) : 0;
     alarm(HANG_SECONDS); /* a hang ends the test by a signal */
     sem_init(&t.ready, 0, 0);
     sem_init(&t.go, 0, 0);
@@ -250,18 +332,16 @@ int main(int argc, char **argv)
         die("pthread_create");
     sem_wait(&t.ready);
     open_ring(&t);
+    share(&t);
     sem_post(&t.go);
-    while (!atomic_load(&t.done)) {
-        drain_some(&t);
-        nanosleep(&nap, NULL);
-    }
+    read_until_done(&t);
     sem_wait(&t.finished);
-    empty(&t);
+    read_the_rest(&t);
     sem_post(&t.flush);
     sem_wait(&t.flushed);
-    empty(&t);
+    read_the_rest(&t);
     sem_post(&t.leave);
     pthread_join(t.thread, NULL);
-    int status = judge(&t);
+    int status = t.slow != 0 ? judge_two(&t) : judge(&t);
     return output_written() ? status : 1;
 }

@@ -25,6 +25,7 @@
 #include "messages.h"
 #include "names.h"
 #include "ollskuvan.h"
+#include "readers.h"
 
 enum { BUDGET_MAX = 4096, REFUSALS_SHOWN = 20, PATH_ROOM = 512, STOPS = 12, REFUSALS = 64, TURNS = 64 };
 
@@ -33,6 +34,7 @@ struct options {
     uint64_t budget;
     const char *save;
     bool again; /* each ring's drains once more, as one */
+    uint64_t report; /* records that a second reader takes a look; 0: there is none */
 };
 
 struct controller {
@@ -43,6 +45,7 @@ struct controller {
     bool *full;  /* by ring: said already */
     struct again *again; /* by ring */
     struct again_sums compared;
+    struct readers *readers; /* by ring: with --report */
     uint8_t scratch[OLLSKUVAN_RECORD_MAX]; /* so stop 3 cannot be */
     uint8_t journal[BUDGET_MAX * OLLSKUVAN_JOURNAL_ENTRY];
     /* what it saw */
@@ -147,6 +150,54 @@ static void drain_ring(struct controller *c, const struct perf_ring *ring, unsig
         ;
 }
 
+/* ---- two readers of each ring: the logger, then the report ---- */
+
+static void serve_ring(struct controller *c, size_t i, unsigned turns, uint64_t report)
+{
+    struct readers *r = &c->readers[i];
+    if (readers_turn(r, &c->live.rings[i], turns, c->options.budget, report))
+        return;
+    complain("cpu %d: the logger stopped with %u, the report with %u; the kernel's tail: %u, %s", c->live.rings[i].cpu, r->logger.stop,
+        r->report.stop, r->refused, ollskuvan_stop_text(r->refused));
+    c->broken = true;
+}
+
+static void serve_all(struct controller *c, unsigned turns)
+{
+    for (size_t i = 0; i < c->live.count && !c->broken; i++)
+        serve_ring(c, i, turns, c->options.report);
+}
+
+/* The events are stopped: both take the rest. */
+static void serve_the_rest(struct controller *c)
+{
+    for (size_t i = 0; i < c->live.count; i++)
+        while (!c->broken && !readers_even(&c->readers[i], &c->live.rings[i]))
+            serve_ring(c, i, UINT32_MAX, READER_BUDGET_MAX);
+}
+
+static void print_readers(const struct controller *c)
+{
+    uint64_t logger = 0, report = 0, lost[2] = { 0, 0 }, held = 0, furthest = 0, delayed = 0;
+    bool alike = true;
+    for (size_t i = 0; i < c->live.count; i++) {
+        const struct readers *r = &c->readers[i];
+        logger += r->logger.taken;
+        report += r->report.taken;
+        lost[0] += r->logger.lost;
+        lost[1] += r->report.lost;
+        held += r->held;
+        furthest = r->furthest > furthest ? r->furthest : furthest;
+        delayed += r->delayed;
+        alike = alike && r->logger.sum == r->report.sum;
+    }
+    printf("logger: %llu %s, %llu told as lost; report: %llu %s, %llu told as lost; told %s\n", (unsigned long long)logger, plural(logger, "record", "records"),
+        (unsigned long long)lost[0], (unsigned long long)report, plural(report, "record", "records"), (unsigned long long)lost[1],
+        alike ? "the same" : "something else");
+    printf("the report held the kernel's tail back %llu %s, by up to %llu bytes; the logger waited for it %llu times\n",
+        (unsigned long long)held, plural(held, "time", "times"), (unsigned long long)furthest, (unsigned long long)delayed);
+}
+
 /* What is kept of the drains, compared; and where they gave something else it is said. */
 static void compare_all(struct controller *c)
 {
@@ -184,6 +235,8 @@ static void look(void *context)
     struct controller *c = context;
     if (c->options.save != NULL) {
         look_at_room(c);
+    } else if (c->options.report != 0) {
+        serve_all(c, TURNS);
     } else {
         drain_all(c, TURNS);
         progress_in("recording", c->taken, "record", "records");
@@ -305,6 +358,8 @@ static void usage(FILE *out)
         "  --events LIST events that sample too, in the same ring: cpu-clock, page-faults,\n"
         "                context-switches, cpu-migrations; with commas, each once\n"
         "  --edition N   what the reader knows: 1, 2 or 3 (3)\n"
+        "  --report N    two readers of each ring: a logger that is served first, in\n"
+        "                drains of --budget, and a report that takes N records a look\n"
         "  --again       drain what fits a ring once more, as one, and compare\n"
         "  --save NAME   drain nothing until the end, then write NAME-cpuN.img for each\n"
         "                ring, and NAME-names.txt; with --events NAME-cpuN.table too\n"
@@ -348,6 +403,11 @@ static bool take_option(struct options *o, int letter)
         return true;
     case 'g':
         return o->again = true;
+    case 'o':
+        if (!whole_argument(optarg, "--report", 1, READER_BUDGET_MAX, &n))
+            return false;
+        o->report = n;
+        return true;
     default:
         usage(stderr);
         return false;
@@ -359,7 +419,8 @@ static bool read_options(struct options *o, int argc, char **argv, bool *help)
     static const struct option names[] = {
         { "seconds", 1, NULL, 's' }, { "budget", 1, NULL, 'b' }, { "pages", 1, NULL, 'p' }, { "cpu", 1, NULL, 'c' },
         { "clock", 0, NULL, 'k' }, { "branch", 1, NULL, 'r' }, { "events", 1, NULL, 'v' }, { "edition", 1, NULL, 'e' },
-        { "save", 1, NULL, 'w' }, { "again", 0, NULL, 'g' }, { "help", 0, NULL, 'h' }, { NULL, 0, NULL, 0 },
+        { "save", 1, NULL, 'w' }, { "again", 0, NULL, 'g' }, { "report", 1, NULL, 'o' }, { "help", 0, NULL, 'h' },
+        { NULL, 0, NULL, 0 },
     };
     int letter;
     optind = 0; /* a program of several commands has looked at its own arguments before */
@@ -375,6 +436,10 @@ static bool read_options(struct options *o, int argc, char **argv, bool *help)
     }
     if (o->want.clock && (o->want.counters & 1) != 0) { /* one software counter twice in a table */
         complain("--clock and --events %s are the same counter: choose one", counter_names[0]);
+        return false;
+    }
+    if (o->report != 0 && (o->save != NULL || o->again)) {
+        complain("--report goes with neither --save nor --again: each of the two readers drains by its own tail");
         return false;
     }
     o->want.program = optind < argc ? argv + optind : NULL;
@@ -396,6 +461,9 @@ static int control(struct controller *c)
         names_from_proc(&c->names, false);
     c->full = must(calloc(c->live.count + 1, sizeof *c->full));
     c->again = must(calloc(c->live.count + 1, sizeof *c->again));
+    c->readers = must(calloc(c->options.report != 0 ? c->live.count + 1 : 1, sizeof *c->readers));
+    for (size_t i = 0; i < c->live.count && c->options.report != 0; i++)
+        readers_begin(&c->readers[i], &c->live.rings[i]);
     progress_begin();
     status = live_start(&c->live);
     if (status == STATUS_DONE)
@@ -403,6 +471,11 @@ static int control(struct controller *c)
     int stopped = live_stop(&c->live);
     if (status != STATUS_DONE || stopped != STATUS_DONE)
         return status != STATUS_DONE ? status : stopped;
+    if (c->options.report != 0) {
+        serve_the_rest(c);
+        print_readers(c);
+        return c->broken ? STATUS_FAILED : status;
+    }
     if (c->options.save != NULL && !save_all(c))
         status = STATUS_FAILED;
     drain_all(c, UINT32_MAX); /* the events are stopped: this comes to an end */
@@ -429,6 +502,7 @@ int record_command(int argc, char **argv)
     names_free(&c->names);
     free(c->full);
     free(c->again);
+    free(c->readers);
     free(c);
     return status;
 }

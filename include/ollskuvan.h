@@ -13,8 +13,9 @@
  *
  * Threads: the library has no data of its own that is ever written, and takes
  * no lock. Any number of threads may call at the same time, also from a signal
- * handler, as long as no slice that one call writes is lent to another. A ring
- * has one reader: two threads that drain it from one tail take the same records.
+ * handler, as long as no slice that one call writes is lent to another. Two
+ * that drain a ring from one tail take the same records; two readers of one ring
+ * keep a tail each, and ollskuvan_publish tells which one the kernel gets.
  *
  * Stack: no call needs more than 2,560 bytes, its return address and what it
  * calls included (measured on a painted stack); besides its own code it calls
@@ -705,6 +706,29 @@ struct ollskuvan_one ollskuvan_read_one_events(const uint8_t *ring, size_t ring_
 uint32_t ollskuvan_write(const uint64_t *fields, size_t fields_len, const uint8_t *source, size_t source_len,
     uint64_t sample_type, uint64_t read_format, uint32_t sample_id_all, uint64_t user_mask, uint64_t interrupt_mask,
     uint64_t branch_sample_type, uint32_t edition, uint8_t *buffer, size_t buffer_len);
+
+/* ------------------------------------------------------------------------
+ * Two readers of one ring, each with its own tail.
+ */
+
+struct ollskuvan_published {
+    uint64_t tail;   /* for data_tail; 0 and not to be handed out if answer is not 0 */
+    uint32_t answer; /* 0; or 1, 4 or 5: the first reader's refusal, else the second's */
+};
+
+/*
+ * ollskuvan_publish tells the tail for the kernel where two readers drain one
+ * ring: that of the two which is at the greater distance from head, so that no
+ * byte is given back which one of them has not taken. first and second are the
+ * tails of the two, as their drains told them last; each drains from its own
+ * tail alone, with its own scratch, budget and journal, and is told what it would
+ * be told if the other were not there.
+ *
+ * The answer is the first reader's refusal, tested in the order 1, 4, 5; then the
+ * second's in the same order; otherwise 0. A tail is handed out with 0 alone:
+ * store it in data_tail after your own full barrier, as after a drain.
+ */
+struct ollskuvan_published ollskuvan_publish(uint64_t ring_length, uint64_t head, uint64_t first, uint64_t second);
 
 /* ------------------------------------------------------------------------
  * The numbers in words, for messages. These four are plain C and stand in

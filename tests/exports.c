@@ -1060,6 +1060,53 @@ static void test_find_event(void)
     free(table);
 }
 
+/* Two readers of one ring: the tail for the kernel, or the refusal and no tail. */
+static void publishes(int line, uint64_t length, uint64_t head, uint64_t first, uint64_t second, uint64_t tail, uint32_t answer)
+{
+    struct ollskuvan_published p = ollskuvan_publish(length, head, first, second);
+    is(line, "the published tail", p.tail, tail);
+    is(line, "the answer beside it", p.answer, answer);
+}
+#define PUBLISHES(length, head, first, second, tail, answer) publishes(__LINE__, length, head, first, second, tail, answer)
+
+static void test_publish(void)
+{
+    const uint64_t before = UINT64_MAX - 7; /* 2^64 - 8 */
+    uint64_t length;
+
+    IS(sizeof(struct ollskuvan_published), 16);
+    /* the one that is further from head, whichever it is; one count twice; a reader that has taken all */
+    PUBLISHES(64, 64, 8, 16, 8, OLLSKUVAN_OK);
+    PUBLISHES(64, 64, 16, 8, 8, OLLSKUVAN_OK);
+    PUBLISHES(64, 64, 24, 24, 24, OLLSKUVAN_OK);
+    PUBLISHES(64, 64, 64, 0, 0, OLLSKUVAN_OK);
+    PUBLISHES(64, 0, 0, 0, 0, OLLSKUVAN_OK);
+    /* across 2^64 the larger number is further from head */
+    PUBLISHES(64, 16, before, 8, before, OLLSKUVAN_OK);
+    PUBLISHES(64, 16, 8, before, before, OLLSKUVAN_OK);
+    PUBLISHES(64, before, before - 8, before, before - 8, OLLSKUVAN_OK);
+    /* 1: every length but the powers of two from 64 to 1,048,576; one whose low 32 bits are such a length too */
+    for (length = 0; length < 200; length++)
+        PUBLISHES(length, 64, 56, 48, length == 64 || length == 128 ? 48 : 0,
+            length == 64 || length == 128 ? OLLSKUVAN_OK : OLLSKUVAN_STOP_RING_LENGTH);
+    PUBLISHES(OLLSKUVAN_RING_MAX, 64, 56, 48, 48, OLLSKUVAN_OK);
+    PUBLISHES(2 * (uint64_t)OLLSKUVAN_RING_MAX, 64, 56, 48, 0, OLLSKUVAN_STOP_RING_LENGTH);
+    PUBLISHES((UINT64_C(1) << 32) + 64, 64, 56, 48, 0, OLLSKUVAN_STOP_RING_LENGTH);
+    /* 4: just a ring length is none */
+    PUBLISHES(64, 72, 8, 8, 8, OLLSKUVAN_OK);
+    PUBLISHES(64, 72, 0, 8, 0, OLLSKUVAN_STOP_DISTANCE);
+    PUBLISHES(64, 72, 8, 0, 0, OLLSKUVAN_STOP_DISTANCE);
+    PUBLISHES(64, 72, 80, 8, 0, OLLSKUVAN_STOP_DISTANCE);
+    /* 5: head, then either tail */
+    PUBLISHES(64, 63, 8, 16, 0, OLLSKUVAN_STOP_ALIGNMENT);
+    PUBLISHES(64, 64, 9, 16, 0, OLLSKUVAN_STOP_ALIGNMENT);
+    PUBLISHES(64, 64, 8, 17, 0, OLLSKUVAN_STOP_ALIGNMENT);
+    /* the first reader's whole answer before the second's */
+    PUBLISHES(64, 72, 9, 0, 0, OLLSKUVAN_STOP_ALIGNMENT);
+    PUBLISHES(64, 72, 0, 9, 0, OLLSKUVAN_STOP_DISTANCE);
+    PUBLISHES(65, 72, 0, 9, 0, OLLSKUVAN_STOP_RING_LENGTH);
+}
+
 int main(void)
 {
     IS(OLLSKUVAN_TRAILER_BITS, 66246);
@@ -1075,6 +1122,7 @@ int main(void)
     test_misc_meaning();
     test_copy_name();
     test_dirty_names();
+    test_publish();
 #ifndef WITHOUT_VALUES
     test_dirty_values();
     test_read_write();

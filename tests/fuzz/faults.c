@@ -13,6 +13,7 @@ struct ollskuvan_drained reader_drain(const uint8_t *, size_t, uint64_t, uint64_
     uint64_t, uint64_t, uint64_t, uint32_t, uint64_t, uint8_t *, size_t, uint8_t *, size_t);
 uint32_t reader_check(const uint8_t *, size_t, uint64_t, uint64_t, uint32_t, uint64_t, uint64_t, uint64_t, uint32_t);
 uint32_t reader_misc_meaning(uint64_t, uint64_t);
+struct ollskuvan_published reader_publish(uint64_t, uint64_t, uint64_t, uint64_t);
 uint32_t reader_copy_name(const uint8_t *, size_t, uint64_t, uint64_t, uint8_t *, size_t);
 uint32_t reader_read(const uint8_t *, size_t, uint64_t, uint64_t, uint32_t, uint64_t, uint64_t, uint64_t, uint32_t,
     uint64_t *, size_t);
@@ -129,6 +130,11 @@ uint32_t ollskuvan_misc_meaning(uint64_t type, uint64_t misc)
     if (fault(27)) /* a bit of misc above 15 that means something */
         misc |= misc >> 16;
     return reader_misc_meaning(type, misc);
+}
+
+struct ollskuvan_published ollskuvan_publish(uint64_t ring_length, uint64_t head, uint64_t first, uint64_t second)
+{
+    return reader_publish(ring_length, head, first, second);
 }
 
 uint32_t ollskuvan_copy_name(const uint8_t *record, size_t record_len, uint64_t place, uint64_t count,

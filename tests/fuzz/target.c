@@ -55,6 +55,7 @@ struct ollskuvan_drained reader_drain(const uint8_t *, size_t, uint64_t, uint64_
     uint64_t, uint64_t, uint64_t, uint32_t, uint64_t, uint8_t *, size_t, uint8_t *, size_t);
 uint32_t reader_check(const uint8_t *, size_t, uint64_t, uint64_t, uint32_t, uint64_t, uint64_t, uint64_t, uint32_t);
 uint32_t reader_misc_meaning(uint64_t, uint64_t);
+struct ollskuvan_published reader_publish(uint64_t, uint64_t, uint64_t, uint64_t);
 uint32_t reader_copy_name(const uint8_t *, size_t, uint64_t, uint64_t, uint8_t *, size_t);
 uint32_t reader_read(const uint8_t *, size_t, uint64_t, uint64_t, uint32_t, uint64_t, uint64_t, uint64_t, uint32_t,
     uint64_t *, size_t);
@@ -267,6 +268,29 @@ static void misc_meanings(const uint8_t *record, size_t count)
     misc_meaning(type, misc | in.head << 16);
     misc_meaning(type | in.head << 32, misc);
     misc_meaning(in.head, in.tail);
+}
+
+static void publish(uint64_t length, uint64_t head, uint64_t first, uint64_t second)
+{
+    struct ollskuvan_published library = ollskuvan_publish(length, head, first, second);
+    struct ollskuvan_published independent = reader_publish(length, head, first, second);
+
+    if (library.tail != independent.tail || library.answer != independent.answer)
+        differs("publish of length %" PRIu64 ", head %" PRIu64 ", tails %" PRIu64 " and %" PRIu64 ": library %" PRIu64 " and %" PRIu32
+            ", independent %" PRIu64 " and %" PRIu32, length, head, first, second, library.tail, library.answer, independent.tail,
+            independent.answer);
+}
+
+/* Two readers' tails: any, and such as lie before the head by about a ring length at most. */
+static void publish_tails(void)
+{
+    uint64_t length = UINT64_C(64) << (in.control[15] & 15);
+
+    publish(in.read_format, in.head, in.tail, in.sample_type);
+    publish(length, in.head, in.tail, in.sample_type);
+    publish(length, in.head, in.head - in.tail % (length + 16), in.head - in.sample_type % (length + 16));
+    publish(length, in.head & ~UINT64_C(7), (in.head - in.tail % (length + 16)) & ~UINT64_C(7),
+        (in.head - in.sample_type % (length + 16)) & ~UINT64_C(7));
 }
 
 static void copy_name(const uint8_t *record, size_t count, uint64_t place, uint64_t bytes, size_t room)
@@ -740,6 +764,7 @@ static void try_record(void)
 
     check(in.bytes, count);
     misc_meanings(in.bytes, count);
+    publish_tails();
     if (in.control[1] & PLACE_NEAR) {
         place = near(place, count);
         bytes = near(bytes, count);

@@ -1,7 +1,7 @@
 //! The exports of libollskuvan.a, as include/ollskuvan.h declares them.
 
 use crate::events::Event;
-use crate::ring::{Drained, One};
+use crate::ring::{Drained, One, Published};
 use crate::rules::Attributes;
 
 #[repr(C)]
@@ -21,6 +21,16 @@ pub struct COne {
     pub stop: u32,
     pub answer: u32,
     pub inspected: u32,
+}
+
+#[repr(C)]
+pub struct CPublished {
+    pub tail: u64,
+    pub answer: u32,
+}
+
+extern "C" {
+    pub fn ollskuvan_publish(ring_length: u64, head: u64, first: u64, second: u64) -> CPublished;
 }
 
 extern "C" {
@@ -81,6 +91,11 @@ pub fn drain(
         )
     };
     Drained { taken: d.taken, bytes: d.bytes, tail: d.tail, stop: d.stop }
+}
+
+pub fn publish(length: u64, head: u64, first: u64, second: u64) -> Published {
+    let p = unsafe { ollskuvan_publish(length, head, first, second) };
+    Published { tail: p.tail, answer: p.answer }
 }
 
 pub fn check(record: &[u8], a: &Attributes, edition: u32) -> u32 {

@@ -5,7 +5,7 @@
 //! and says nothing about the library. Under names of its own (`own_names`: reader_drain and so on) it
 //! stands beside the library in one program: the fuzz target, tests/fuzz.
 
-use crate::abi::{CDrained, COne};
+use crate::abi::{CDrained, COne, CPublished};
 use crate::events::{self, Event};
 use crate::record;
 use crate::ring::{self, One, Ring};
@@ -140,4 +140,11 @@ pub unsafe extern "C" fn ollskuvan_write(
 ) -> u32 {
     let a = Attributes { sample_type, read_format, sample_id_all, user_mask, interrupt_mask, branch_sample_type };
     writer::write(lent(fields, fields_len), lent(source, source_len), edition, &a, lent_mut(buffer, buffer_len))
+}
+
+#[cfg_attr(own_names, export_name = "reader_publish")]
+#[cfg_attr(not(own_names), no_mangle)]
+pub extern "C" fn ollskuvan_publish(ring_length: u64, head: u64, first: u64, second: u64) -> CPublished {
+    let p = ring::publish(ring_length, head, first, second);
+    CPublished { tail: p.tail, answer: p.answer }
 }

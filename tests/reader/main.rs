@@ -16,6 +16,7 @@ mod images;
 mod made;
 mod meanings;
 mod ones;
+mod readers;
 mod record;
 mod ring;
 mod rules;
@@ -44,6 +45,7 @@ reader tables [OPTIONS]               drain, reader of one record and lookup wit
 reader table-rings FOLDER [OPTIONS]   the real rings of several events, each with its NAME.table; then damaged
 reader ones [OPTIONS]                 the reader of one record: the library against the independent reader
 reader series [OPTIONS]               drains cut anywhere against one drain, by the library; --rings FOLDER: real rings too
+reader readers [OPTIONS]              two readers of one ring: the tail for the kernel, and each beside itself alone
 reader meanings [OPTIONS]             what misc means: the library against the independent reader
 reader bits                           each sample bit, read format, branch bit, type and trailer bit: written, read, compared
 reader images PROGRAM [WORDS...] [OPTIONS]
@@ -128,6 +130,7 @@ fn run(command: &str, o: &Options) -> Result<(), String> {
         }
         "meanings" => run_meanings(o),
         "series" => run_series(o),
+        "readers" => run_readers(o),
         "values" | "bits" | "ones" if cfg!(without_values) => Err("built without read and write".to_string()),
         "values" => run_values(o),
         "ones" => run_ones(o),
@@ -391,6 +394,19 @@ fn run_series(o: &Options) -> Result<(), String> {
         tally.notes.get("records in series").unwrap_or(&0),
         start.elapsed().as_secs_f64()
     );
+    Ok(())
+}
+
+fn run_readers(o: &Options) -> Result<(), String> {
+    let count = o.count.unwrap_or(100_000);
+    let mut tally = Tally::default();
+    if o.from == 0 {
+        fixed_part("by hand", readers::by_hand, &mut tally)?;
+    }
+    run_cases("readers", o, count, &mut tally, readers::one_case)?;
+    tally.print_answers("publish");
+    all_reached(tally.missing(readers::MUST, &[], false), count, 1_000)?;
+    println!("readers: seed {}, {count} pairs of tails, {} rings read by two in turn, no difference", o.seed, count.div_euclid(16));
     Ok(())
 }
 

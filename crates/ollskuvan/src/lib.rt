@@ -12,11 +12,14 @@ ghost use Rattle.meaning.specs.Names.{nameAnswer, nameBuffer};
 ghost use Rattle.record.specs.Into.{readIntoAnswer, readIntoWords};
 ghost use Rattle.one.specs.Told.{oneTold, oneWords};
 ghost use Rattle.event_one.specs.Told.{oneEventsTold, oneEventsWords};
+ghost use Rattle.readers.specs.Readers.{published, readersAt};
 ghost use Rattle.writer.specs.Writer.{writeWordsAnswer, writeWordsBuffer};
 ghost use Rattle.ollskuvan.specs.Given.{given};
 use meaning::Attributes;
 use meaning::Drained;
 use one::OneTold;
+use readers::Published;
+use readers::Readers;
 
 fn attributes(
     sample: u64,
@@ -221,4 +224,12 @@ pub extern "C" fn ollskuvan_write(
     let a = attributes(sample, format, all, user, interrupt, branch);
     let e = edition as u64;
     writer::write(words, source, e, a, buffer) as u32
+}
+
+// Two readers of one ring, each with its own tail: the tail for the kernel.
+#[no_mangle]
+pub extern "C" fn ollskuvan_publish(len: u64, head: u64, first: u64, second: u64) -> Published
+    ensures { λ r. ⌜ r ≡ published len head (readersAt first second) ⌝ }
+{
+    Readers::new(first, second).publish(len, head)
 }

@@ -13,3 +13,4 @@ pub mod Counts
 pub mod Events
 pub mod EventExamples
 pub mod Series
+pub mod Readers

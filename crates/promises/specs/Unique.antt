@@ -45,6 +45,7 @@ use Rattle.exact.proofs as exact
 use Rattle.plan.proofs as plan
 use Rattle.names.proofs as names
 use Rattle.ring.proofs as ring
+use Rattle.readers.proofs as readers
 use Rattle.shown.proofs as shown
 use Rattle.one.proofs as one
 use Rattle.reader.proofs as reader
@@ -371,6 +372,9 @@ ring-distance κs a x y s t p q = same p q
 pub ring-lies-whole : Result ring.lies_whole.Kinds.ps ring.lies_whole.Kinds.r ring.lies_whole.Reads.Learnt
 ring-lies-whole κs a x y s t p q = same p q
 
+pub ring-call-refusal : Result ring.call_refusal.Kinds.ps ring.call_refusal.Kinds.r ring.call_refusal.Reads.Learnt
+ring-call-refusal κs a x y s t p q = same p q
+
 pub ring-next-frame : Result ring.next_frame.Kinds.ps ring.next_frame.Kinds.r ring.next_frame.Reads.Learnt
 ring-next-frame κs a x y s t p q = same p q
 
@@ -572,6 +576,20 @@ fast-journal κs a x y s t p q = same (p .1 .0) (q .1 .0)
 pub fast-scratch : Seen fast.drain.Kinds.ps fast.drain.Kinds.r fast.drain.Reads.Learnt (λ κs x s. now (s .1 .1 .1 .1 .1 .1 .0))
 fast-scratch κs a x y s t p q = same (p .1 .1) (q .1 .1)
 
+-- ---- readers: two of one ring
+
+pub readers-new : Result readers.Readers.new.Kinds.ps readers.Readers.new.Kinds.r readers.Readers.new.Reads.Learnt
+readers-new κs a x y s t p q = same p q
+
+pub readers-advance-first : Result readers.Readers.advance_first.Kinds.ps readers.Readers.advance_first.Kinds.r readers.Readers.advance_first.Reads.Learnt
+readers-advance-first κs a x y s t p q = same p q
+
+pub readers-advance-second : Result readers.Readers.advance_second.Kinds.ps readers.Readers.advance_second.Kinds.r readers.Readers.advance_second.Reads.Learnt
+readers-advance-second κs a x y s t p q = same p q
+
+pub readers-publish : Result readers.Readers.publish.Kinds.ps readers.Readers.publish.Kinds.r readers.Readers.publish.Reads.Learnt
+readers-publish κs a x y s t p q = same p q
+
 -- ---- ollskuvan: what C calls
 
 pub ollskuvan-drain : Result ollskuvan.ollskuvan_drain.Kinds.ps ollskuvan.ollskuvan_drain.Kinds.r ollskuvan.ollskuvan_drain.Reads.Learnt
@@ -612,6 +630,9 @@ ollskuvan-read-one-events-words κs a x y s t p q = same (p .1 .1) (q .1 .1)
 
 pub ollskuvan-check : Result ollskuvan.ollskuvan_check.Kinds.ps ollskuvan.ollskuvan_check.Kinds.r ollskuvan.ollskuvan_check.Reads.Learnt
 ollskuvan-check κs a x y s t p q = same p q
+
+pub ollskuvan-publish : Result ollskuvan.ollskuvan_publish.Kinds.ps ollskuvan.ollskuvan_publish.Kinds.r ollskuvan.ollskuvan_publish.Reads.Learnt
+ollskuvan-publish κs a x y s t p q = same p q
 
 pub ollskuvan-misc-meaning : Result ollskuvan.ollskuvan_misc_meaning.Kinds.ps ollskuvan.ollskuvan_misc_meaning.Kinds.r ollskuvan.ollskuvan_misc_meaning.Reads.Learnt
 ollskuvan-misc-meaning κs a x y s t p q = same p q
