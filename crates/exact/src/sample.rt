@@ -21,10 +21,12 @@ fn front(s: &[u8], a: Attributes, sums: &[u64; 8]) -> Place
     if c.why != 0 {
         return c;
     }
-    if wire::has_bit(a.sample, 4) & wire::has_bit(a.format, 3) {
-        let at = c.at;
-        let unit = crate::unit(a.format);
-        return blocks::elements(s, at, sums[crate::GROUP] as usize, unit);
+    if wire::has_bit(a.sample, 4) {
+        if wire::has_bit(a.format, 3) {
+            let at = c.at;
+            let unit = crate::unit(a.format);
+            return blocks::elements(s, at, sums[crate::GROUP] as usize, unit);
+        }
     }
     c
 }
@@ -104,7 +106,12 @@ fn rest(s: &[u8], at: usize, a: Attributes, sums: &[u64; 8]) -> u16
 {
     let late = wire::has_bit(a.sample, 18) | wire::has_bit(a.sample, 20);
     if !late {
-        return crate::sized(s.len() - at, sums[crate::LAST] as usize);
+        let left = s.len() - at;
+        let last = sums[crate::LAST] as usize;
+        if left == last {
+            return 0;
+        }
+        return crate::sized(left, last);
     }
     let c = weighed(s, at, a, sums);
     if c.why != 0 {

@@ -62,7 +62,7 @@ fn opened(r: &[u8], kind: u64, mark: u64, known: Known, a: Attributes, sums: &[u
     exact::types::named(f, (mark - marks::OPEN) as usize)
 }
 
-// The answer for a record's bytes.
+// The answer for a record's bytes. A SAMPLE in stretches has most to do, and is asked for first.
 pub fn judge(r: &[u8], kind: u64, mark: u64, known: Known, a: Attributes, sums: &[u64; 8]) -> u16
     requires { ⌜ 8 ≤ length (now r) ⌝ }
     requires { ⌜ length (now r) < 65536 ⌝ }
@@ -72,14 +72,14 @@ pub fn judge(r: &[u8], kind: u64, mark: u64, known: Known, a: Attributes, sums: 
     requires { ⌜ now sums ≡ sumsOf a ⌝ }
     ensures { λ x. ⌜ x ≡ judge (layout known a) (now (r .entry)) ⌝ }
 {
+    if mark == marks::STRETCHED {
+        return exact::sample::sample(r, a, sums);
+    }
     if mark < marks::OPEN {
         return exact::sized(r.len(), mark as usize);
     }
     if marks::REFUSED <= mark {
         return (mark - marks::REFUSED) as u16;
-    }
-    if mark == marks::STRETCHED {
-        return exact::sample::sample(r, a, sums);
     }
     opened(r, kind, mark, known, a, sums)
 }
