@@ -17,17 +17,22 @@ use Rattle.meaning.specs.Values.{valueWords, read, writeAnswer}
 use Rattle.meaning.specs.Ring.{Asked, askedOf, lengthAllowed, distance, stopped, sized, callRows, leftRows, frame, recordAt, oneFrame, readOne}
 use Rattle.meaning.specs.Drain.{start, run, drain}
 use Rattle.meaning.specs.Names.{nameAnswer}
+use Rattle.meaning.specs.declared.Event.{Event}
+use Rattle.meaning.specs.Events.{judgeEvents, drainEvents, readOneEvents}
+use Rattle.readers.specs.declared.Readers.{Readers}
+use Rattle.readers.specs.Readers.{tailRows, tailAnswer, publishAnswer, published}
 use Rattle.record.specs.Into.{readIntoAnswer}
 use Rattle.one.specs.Told.{toldStop, toldTaken, oneTold}
 use Rattle.writer.specs.Writer.{writeWordsAnswer}
 use Rattle.laws.specs.Bytes.{apart}
-use Rattle.laws.specs.Rows.{or-false, in-cond, gives, Passed, passed-by, stopped-after}
+use Rattle.laws.specs.Rows.{or-false, in-cond, first-in, gives, Passed, passed-by, stopped-after}
 use Rattle.laws.specs.Rings.{header-whole}
-use Rattle.editions.specs.Numbers.{recordNumbers, checkNumbers, recordCheckNumbers, stopNumbers, writeNumbers, nameNumbers}
+use Rattle.editions.specs.Numbers.{recordNumbers, checkNumbers, recordCheckNumbers, stopNumbers, tableStopNumbers, eventNumbers, writeNumbers, nameNumbers}
 use Rattle.editions.specs.InTable.{frame-in}
 use Rattle.promises.specs.Demand1.{check-numbers, read-numbers, write-numbers, one-stop-numbers, one-numbers, drain-stop-numbers, drain-entry-numbers}
 use Rattle.promises.specs.Lent.{readNumbers, lent-numbers}
 use Rattle.promises.specs.Names.{name-numbers}
+use Rattle.promises.specs.Events.{event-numbers, drain-events-numbers, one-events-stop-numbers}
 
 -- ---- "Once 1 and 5 pass, the eight header bytes can't cross the end": they lie inside a ring of n bytes, whatever the other rows say
 
@@ -145,3 +150,34 @@ module _ (e : ℕ) (a : Attributes) where
         words-answer = λ src ws space. not-in writeNumbers 10 _ refl (words-answers src ws space);
         name-answer = λ xs place count buffer. not-in nameNumbers 10 _ refl (name-numbers xs place count buffer);
       }
+
+-- ---- nor is it given with a table of events (M-100), or beside the tail of two readers (M-105)
+
+pub record NobodysBeside (k limit e : ℕ) (es : List Event) : Type 0 where
+  pub drain-stop : (ring : List ℕ) (head tail budget : ℕ) (journal scratch : List ℕ) → drainEvents limit editions e es ring head tail budget journal scratch .stop ≡ k → ⊥
+  pub drain-answer : (xs : List ℕ) → judgeEvents (known editions e) es xs ≡ k → ⊥
+  pub one-stop : (ring : List ℕ) (head tail : ℕ) (scratch : List ℕ) → readOneEvents limit editions e es ring head tail scratch .frame .stop ≡ k → ⊥
+  pub publish-answer : (n head : ℕ) (r : Readers) → published n head r .answer ≡ k → ⊥
+
+abbrev tailNumbers : List ℕ
+tailNumbers = 0 ∷ 1 ∷ 4 ∷ 5 ∷ []
+
+tail-in : (n head tail : ℕ) → isIn (tailAnswer n head tail) tailNumbers ≡ true
+unfolding tailAnswer
+tail-in n head tail = first-in tailNumbers (tailRows n head tail) 0 refl refl
+
+published-in : (n head : ℕ) (r : Readers) → isIn (published n head r .answer) tailNumbers ≡ true
+unfolding published publishAnswer
+published-in n head r =
+    in-cond tailNumbers (eqb (tailAnswer n head (r .first)) 0) (tailAnswer n head (r .second)) (tailAnswer n head (r .first))
+    (tail-in n head (r .second))
+    (tail-in n head (r .first))
+
+pub ten-is-nobodys-beside : (limit e : ℕ) (es : List Event) → NobodysBeside 10 limit e es
+ten-is-nobodys-beside limit e es =
+    record {
+      drain-stop = λ ring head tail budget journal scratch. not-in tableStopNumbers 10 _ refl (drain-events-numbers limit e es ring head tail budget journal scratch);
+      drain-answer = λ xs. not-in eventNumbers 10 _ refl (event-numbers e es xs);
+      one-stop = λ ring head tail scratch. not-in tableStopNumbers 10 _ refl (one-events-stop-numbers limit e es ring head tail scratch);
+      publish-answer = λ n head r. not-in tailNumbers 10 _ refl (published-in n head r);
+    }
