@@ -17,7 +17,7 @@ static uint32_t refused(uint32_t type, uint32_t edition, uint64_t sample_type, u
         return 20;
     if (sample_type >> (last_bit[edition] + 1) != 0 && (type == 9 || id_all))
         return 21;
-    if (read_format >> 4 != 0 && (type == 8 || (type == 9 && bit(sample_type, 4))))
+    if (read_format >> (last_format[edition] + 1) != 0 && (type == 8 || (type == 9 && bit(sample_type, 4))))
         return 22;
     if (type == 9 && bit(sample_type, 11) && new_branches(edition, branch_sample_type))
         return 25;
@@ -31,16 +31,6 @@ static uint32_t sized(uint64_t size, uint64_t want)
     return size == want ? 0 : size < want ? 30 : 31;
 }
 
-static void read_sums(struct plan *p, uint64_t read_format)
-{
-    p->read_words = 8 + words(read_format & 3);
-    p->read_entry = 0;
-    if (bit(read_format, 3))
-        p->read_entry = bit(read_format, 2) ? 16 : 8;
-    else
-        p->read_words += words(read_format & 4);
-}
-
 /* Of a name that was accepted: its zero is in the room's last word, the lowest that is found there. */
 static uint32_t dirty_name(const uint8_t *end)
 {
@@ -52,7 +42,7 @@ static uint32_t dirty_name(const uint8_t *end)
 uint32_t careful_check(const uint8_t *record, size_t record_len, uint64_t sample_type, uint64_t read_format,
     uint32_t sample_id_all, uint64_t user_mask, uint64_t interrupt_mask, uint64_t branch_sample_type, uint32_t edition)
 {
-    if (edition - 1 > 2)
+    if (edition - 1 > 3)
         return 2;
     if (record_len < HEADER)
         return 7;
@@ -83,7 +73,7 @@ uint32_t careful_check(const uint8_t *record, size_t record_len, uint64_t sample
     if (name_start[type] != 0) {
         p.form[type] = type == 10 ? FORM_MMAP2 : FORM_NAME;
         p.from[type] = name_start[type];
-        p.build_id_known = edition == 3;
+        p.build_id_known = edition >= 3;
         why = judge(&p, record, type, load16(record + 4), size);
         return why == 0 ? dirty_name(record + size - p.trailer) : why;
     }

@@ -18,12 +18,12 @@
 
 enum { GUARD = 64 };
 
-enum { ANSWERS = 34, STOPS = 12, KINDS = 22 };
+enum { ANSWERS = 34, STOPS = 12, KINDS = 23 };
 
 struct tally {
     uint64_t rings, records;
     uint64_t stops[STOPS];
-    uint64_t answers[KINDS][ANSWERS]; /* row 21: types the editions do not know */
+    uint64_t answers[KINDS][ANSWERS]; /* row 22: types the editions do not know */
 };
 
 static void count_records(struct tally *tally, const uint8_t *journal, uint64_t taken)
@@ -33,7 +33,7 @@ static void count_records(struct tally *tally, const uint8_t *journal, uint64_t 
         memcpy(&kind, journal + 16 * i + OLLSKUVAN_JOURNAL_KIND, 2);
         memcpy(&answer, journal + 16 * i + OLLSKUVAN_JOURNAL_ANSWER, 2);
         if (answer < ANSWERS)
-            tally->answers[kind == 0 || kind > 20 ? 21 : kind][answer]++;
+            tally->answers[kind == 0 || kind > 21 ? 22 : kind][answer]++;
         tally->records++;
     }
 }
@@ -158,7 +158,7 @@ static bool enough_met(const struct tally *t, bool tables)
         [9] = { 21, 22, 24, 25, 30, 31, 32 }, [10] = { 20, 21, 23, 30, 32, 33 }, [11] = { 20, 21, 30, 31 },
         [12] = { 20, 21, 30, 31 }, [13] = { 20, 21, 30, 31 }, [14] = { 20, 21, 30, 31 }, [15] = { 20, 21, 30, 31 },
         [16] = { 20, 21, 30, 31 }, [17] = { 20, 21, 30, 33 }, [18] = { 20, 21, 30, 31 }, [19] = { 20, 21, 30, 33 },
-        [20] = { 20, 21, 30, 31 }, [21] = { 20 },
+        [20] = { 20, 21, 30, 31 }, [21] = { 20, 21, 30, 31 }, [22] = { 20 },
     };
     bool enough = true;
     for (unsigned stop = 0; stop < STOPS; stop++)
@@ -172,7 +172,7 @@ static bool enough_met(const struct tally *t, bool tables)
             enough = false;
         }
     for (unsigned kind = 1; kind < KINDS; kind++) {
-        bool accepted = kind == 21 || t->answers[kind][0] != 0;
+        bool accepted = kind == 22 || t->answers[kind][0] != 0;
         for (unsigned i = 0; i < 8 && of_type[kind][i] != 0; i++) {
             bool edition_1 = kind <= 9 && of_type[kind][i] == 20; /* edition 1 knows these */
             if (!edition_1 && t->answers[kind][of_type[kind][i]] == 0) {

@@ -15,7 +15,7 @@
 
 #include "kinds.h"
 
-enum { KINDS_MAX = 352, RECORD_ROOM = 8192, RING = 65536 };
+enum { KINDS_MAX = 480, RECORD_ROOM = 8192, RING = 65536 };
 
 struct kind {
     char name[48];
@@ -66,7 +66,7 @@ static struct kind *add(const char *name, unsigned number, const struct made_att
     memset(k, 0, sizeof *k);
     snprintf(k->name, sizeof k->name, "%s-%u", name, number);
     k->attributes = marked(a);
-    k->edition = 3;
+    k->edition = 4;
     do {
         uint8_t *big = grab(MADE_RECORD_MAX);
         k->size = made_record(&r, &k->attributes, type, 400, big, aims);
@@ -96,7 +96,7 @@ static void types(void)
 {
     struct made_aims aims;
     struct made_attributes with = { .sample_type = trailer, .sample_id_all = 1 }, without = { .sample_type = trailer };
-    for (unsigned type = 1; type <= 20; type++) {
+    for (unsigned type = 1; type <= 21; type++) {
         add("sound", type, &with, type, false, &aims);
         add("no-trailer", type, &without, type, false, &aims);
         resized("short", &with, type, -8);
@@ -108,8 +108,10 @@ static void types(void)
         k = add("edition-1", type, &with, type, false, &aims);
         k->edition = 1; /* 20 from type 10 on */
         k->attributes.sample_type = trailer & 0xffff;
+        k = add("edition-3", type, &with, type, false, &aims);
+        k->edition = 3; /* 20 for type 21 */
     }
-    static const uint32_t strange[] = { 0, 21, 31, 32, 65535, 65536, UINT32_MAX };
+    static const uint32_t strange[] = { 0, 22, 31, 32, 65535, 65536, UINT32_MAX };
     for (unsigned i = 0; i < sizeof strange / sizeof strange[0]; i++) {
         struct kind *k = add("strange", i, &with, 14, false, &aims);
         for (unsigned b = 0; b < 4; b++)
@@ -143,7 +145,7 @@ static void names(void)
 static void read_formats(void)
 {
     struct made_aims aims;
-    for (unsigned format = 0; format < 16; format++) {
+    for (unsigned format = 0; format < 32; format++) { /* from 16 on with lost counts */
         struct made_attributes a = { .sample_type = trailer | 16, .read_format = format, .sample_id_all = 1 };
         add("read-format", format, &a, 8, false, &aims);
         add("sample-format", format, &a, 9, false, &aims);
@@ -154,9 +156,13 @@ static void read_formats(void)
             put64(k->record + aims.list[0].at, UINT64_MAX / 8);
         }
     }
-    struct made_attributes a = { .sample_type = trailer | 16, .read_format = 16, .sample_id_all = 1 };
-    add("format-16", 8, &a, 8, false, &aims); /* 22 */
-    add("format-16", 9, &a, 9, false, &aims);
+    for (unsigned type = 8; type <= 9; type++) { /* 22: bit 4 in edition 3, bit 5 in edition 4 */
+        struct made_attributes a = { .sample_type = trailer | 16, .read_format = 16, .sample_id_all = 1 };
+        struct kind *k = add("format-16", type, &a, type, false, &aims);
+        k->edition = 3;
+        a.read_format = 32;
+        add("format-32", type, &a, type, false, &aims);
+    }
 }
 
 static void sample_bits(void)
@@ -209,7 +215,7 @@ static void branches(void)
     put64(k->record + first, 0), k->size = first + 8; /* 30: as a kernel writes it that has no branch stack */
     put16(k->record + 6, k->size);
     add("index-all-bits", 9, &all, 9, false, &aims);
-    for (uint32_t edition = 1; edition <= 3; edition++) { /* 25, 25, accepted */
+    for (uint32_t edition = 1; edition <= 4; edition++) { /* 25, 25, accepted, accepted */
         k = add("index-edition", edition, &a, 9, false, &aims);
         k->edition = edition;
     }
@@ -297,10 +303,10 @@ static uint32_t answer_of(const uint8_t *journal)
 }
 
 /* What must have come up, by type: the answers that documents 01 and 02 give it. */
-static int missing(bool seen[21][64])
+static int missing(bool seen[22][64])
 {
     int failed = 0;
-    for (unsigned type = 1; type <= 20; type++) {
+    for (unsigned type = 1; type <= 21; type++) {
         bool want[64] = { [0] = true, [21] = true, [31] = true };
         want[20] = type > 9;
         want[30] = true;
@@ -359,7 +365,7 @@ static bool checks_agree(const struct kind *k, uint32_t drained, uint32_t *answe
 /* Both drains on every kind: the same journal, and no answer of the table is missing. */
 int compare_kinds(void)
 {
-    static bool seen[21][64];
+    static bool seen[22][64];
     struct made_ring ring = { .bytes = grab(MADE_RING_MAX) };
     uint8_t *scratch = grab(RING), *mine = grab(16 * (RING / 8 + 1)), *theirs = grab(16 * (RING / 8 + 1));
     int failed = 0;
@@ -377,7 +383,7 @@ int compare_kinds(void)
             printf("kinds: the drains differ on %s\n", kinds[i].name);
             failed = 1;
         }
-        if (type <= 20 && kinds[i].record[1] == 0 && kinds[i].record[2] == 0 && answer_of(theirs) < 64)
+        if (type <= 21 && kinds[i].record[1] == 0 && kinds[i].record[2] == 0 && answer_of(theirs) < 64)
             seen[type][answer_of(theirs)] = seen[type][checked % 64] = true;
     }
     failed |= missing(seen);

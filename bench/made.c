@@ -71,11 +71,12 @@ static bool selected(const struct made_attributes *a, unsigned bit)
 static void put_read_values(struct made_random *r, const struct made_attributes *a, struct pen *pen, size_t entries)
 {
     size_t times = 8 * (size_t)__builtin_popcountll(a->read_format & 3);
+    size_t more = 8 * (size_t)__builtin_popcountll(a->read_format & 20); /* id, lost count */
     if (a->read_format >> 3 & 1) {
         put_count(pen, entries, 8);
-        put_random(r, pen, times + entries * (a->read_format >> 2 & 1 ? 16 : 8));
+        put_random(r, pen, times + entries * (8 + more));
     } else {
-        put_random(r, pen, 8 + times + (a->read_format >> 2 & 1 ? 8 : 0));
+        put_random(r, pen, 8 + times + more);
     }
 }
 
@@ -138,9 +139,10 @@ static void put_sample(struct made_random *r, const struct made_attributes *a, s
 static void put_body(struct made_random *r, const struct made_attributes *a, struct pen *pen, unsigned type,
     uint64_t misc, size_t most)
 {
-    static const uint8_t fixed[21] = {
+    static const uint8_t fixed[22] = {
         [1] = 32, [2] = 16, [3] = 8, [4] = 24, [5] = 24, [6] = 24, [7] = 24, [8] = 8, [10] = 32, [11] = 24,
         [12] = 8, [13] = 8, [15] = 8, [16] = 8, [17] = 16, [18] = 16, [19] = 8, [20] = 8,
+        [21] = 8,
     };
     put_random(r, pen, fixed[type]);
     switch (type) {
@@ -252,7 +254,7 @@ static void damage_count(struct made_random *r, uint8_t *record, size_t size, co
 /* One fault. Returns the size of the slot that the record then fills. */
 static size_t damage(struct made_random *r, uint8_t *record, size_t size, const struct made_aims *aims)
 {
-    static const uint32_t odd_types[] = { 0, 21, 22, 255, 256, 4096, 65534, 65535, 65536, 0x80000003, 0xffffffff };
+    static const uint32_t odd_types[] = { 0, 22, 23, 255, 256, 4096, 65534, 65535, 65536, 0x80000003, 0xffffffff };
     if (aims->count != 0 && one_in(r, 2)) {
         damage_count(r, record, size, aims);
         return size;
@@ -281,7 +283,7 @@ static size_t damage(struct made_random *r, uint8_t *record, size_t size, const 
         return left;
     }
     case 6: /* another type */
-        write_at(record, size, 0, one_in(r, 2) ? 1 + made_below(r, 20) : odd_types[made_below(r, 11)], 4);
+        write_at(record, size, 0, one_in(r, 2) ? 1 + made_below(r, 21) : odd_types[made_below(r, 11)], 4);
         return size;
     case 7: /* a zero in the wrong place, or none */
         record[8 + made_below(r, size)] = one_in(r, 2) ? 0 : 1;
@@ -314,15 +316,15 @@ static uint64_t some_bits(struct made_random *r, unsigned bits)
 
 static uint32_t some_edition(struct made_random *r)
 {
-    static const uint32_t odd_editions[] = { 0, 4, 257, 258, 259, 0x80000001, UINT32_MAX };
-    return one_in(r, 40) ? odd_editions[made_below(r, 7)] : 1 + (uint32_t)made_below(r, 3);
+    static const uint32_t odd_editions[] = { 0, 5, 257, 258, 259, 0x80000001, UINT32_MAX };
+    return one_in(r, 40) ? odd_editions[made_below(r, 7)] : 1 + (uint32_t)made_below(r, 4);
 }
 
 /* Often the hardware index where the edition knows it, at times where it does not, seldom a bit from 19 up. */
 static uint64_t some_branches(struct made_random *r, uint32_t edition)
 {
     uint64_t bits = some_bits(r, 19) & ~OLLSKUVAN_BRANCH_HW_INDEX;
-    if (one_in(r, edition == 3 ? 2 : 12))
+    if (one_in(r, edition == 3 || edition == 4 ? 2 : 12))
         bits |= OLLSKUVAN_BRANCH_HW_INDEX;
     if (one_in(r, 20))
         bits |= UINT64_C(1) << (19 + made_below(r, 45));
@@ -331,13 +333,13 @@ static uint64_t some_branches(struct made_random *r, uint32_t edition)
 
 static void some_attributes(struct made_random *r, uint32_t edition, struct made_attributes *a)
 {
-    static const unsigned known[4] = { 25, 16, 19, 25 };
-    a->sample_type = some_bits(r, known[edition <= 3 ? edition : 0]);
+    static const unsigned known[5] = { 25, 16, 19, 25, 25 };
+    a->sample_type = some_bits(r, known[edition <= 4 ? edition : 0]);
     if (one_in(r, 12))
         a->sample_type |= UINT64_C(1) << made_below(r, 64);
     if ((a->sample_type >> 14 & 1) && (a->sample_type >> 24 & 1) && !one_in(r, 4))
         a->sample_type ^= UINT64_C(1) << 24;
-    a->read_format = made_below(r, 16);
+    a->read_format = made_below(r, edition == 4 ? 32 : 16);
     if (one_in(r, 12))
         a->read_format |= UINT64_C(1) << made_below(r, 64);
     a->user_mask = one_in(r, 20) ? UINT64_MAX : some_bits(r, 24);
@@ -432,7 +434,7 @@ void made_case(struct made_random *r, struct made_ring *ring)
     size_t used = 0, records = 0;
     while (ring->length >= 64) {
         size_t most = ring->length < 512 ? ring->length / 4 : 512;
-        unsigned type = one_in(r, 3) ? 9 : 1 + (unsigned)made_below(r, 20);
+        unsigned type = one_in(r, 3) ? 9 : 1 + (unsigned)made_below(r, 21);
         if (ring->length >= 32768 && one_in(r, 8))
             most = 60000; /* records up to some 40,000 bytes */
         struct made_aims aims;
@@ -545,7 +547,7 @@ static size_t event_record(struct made_random *r, const struct made_ring *ring, 
 {
     struct made_aims aims;
     size_t event = made_below(r, ring->event_count);
-    unsigned type = one_in(r, 3) ? 9 : 1 + (unsigned)made_below(r, 20);
+    unsigned type = one_in(r, 3) ? 9 : 1 + (unsigned)made_below(r, 21);
     size_t size = made_record(r, &attributes[event], type, most, record, &aims);
     uint64_t identifier = ring->events[event].identifier;
     if (one_in(r, 12)) { /* cut to 8 or 16 bytes */
@@ -568,7 +570,7 @@ void made_table_case(struct made_random *r, struct made_ring *ring)
 {
     uint8_t record[MADE_RECORD_MAX + 64];
     struct made_attributes attributes[MADE_EVENTS_MAX];
-    ring->edition = one_in(r, 4) ? some_edition(r) : 2 + (uint32_t)made_below(r, 2);
+    ring->edition = one_in(r, 4) ? some_edition(r) : 2 + (uint32_t)made_below(r, 3);
     some_events(r, ring, attributes);
     ring->length = some_length(r);
     memset(ring->bytes, 0, ring->length);

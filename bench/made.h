@@ -52,7 +52,7 @@ struct made_aims {
     size_t count;
 };
 
-/* A record of this type (1 to 20) that edition 3 accepts under these
+/* A record of this type (1 to 21) that edition 4 accepts under these
  * attributes, of at most `most` bytes as far as the type allows it. Returns its
  * size. The record has room for MADE_RECORD_MAX bytes. */
 size_t made_record(struct made_random *r, const struct made_attributes *a, unsigned type, size_t most, uint8_t *record,

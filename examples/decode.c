@@ -13,7 +13,7 @@ static uint8_t scratch[OLLSKUVAN_RECORD_MAX], journal[64 * OLLSKUVAN_JOURNAL_ENT
 static struct perf_event_attr attr = { .size = sizeof attr, .type = PERF_TYPE_SOFTWARE, .config = PERF_COUNT_SW_DUMMY,
     .sample_type = OLLSKUVAN_BIT_TID | OLLSKUVAN_BIT_TIME, .sample_id_all = 1, .comm = 1, .mmap = 1, .mmap2 = 1,
     .context_switch = 1 };
-#define ATTRIBUTES attr.sample_type, attr.read_format, attr.sample_id_all, 0, 0, 0, OLLSKUVAN_EDITION_3
+#define ATTRIBUTES attr.sample_type, attr.read_format, attr.sample_id_all, 0, 0, 0, OLLSKUVAN_EDITION_4
 
 static void print_name(const char *what, const uint8_t *record, const uint64_t *f, unsigned place, unsigned count)
 {

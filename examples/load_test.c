@@ -138,7 +138,7 @@ static void count_lost(struct test *t, uint64_t head, uint64_t tail)
 {
     uint64_t fields[OLLSKUVAN_FIELDS];
     struct ollskuvan_one one = ollskuvan_read_one(t->ring, t->length, head, tail, t->attr.sample_type,
-        t->attr.read_format, 1, 0, 0, 0, OLLSKUVAN_EDITION_3, t->scratch, sizeof t->scratch, fields, OLLSKUVAN_FIELDS);
+        t->attr.read_format, 1, 0, 0, 0, OLLSKUVAN_EDITION_4, t->scratch, sizeof t->scratch, fields, OLLSKUVAN_FIELDS);
     if (one.size == 0 || one.answer != OLLSKUVAN_OK)
         fail("a LOST record is refused with", one.answer, tail);
     t->losts++;
@@ -170,7 +170,7 @@ static bool drain_some(struct test *t)
     __atomic_thread_fence(__ATOMIC_ACQUIRE);
     uint64_t began = cpu_ns();
     struct ollskuvan_drained done = ollskuvan_drain(t->ring, t->length, head, tail, t->attr.sample_type, t->attr.read_format,
-        1, 0, 0, 0, OLLSKUVAN_EDITION_3, t->budget, t->scratch, sizeof t->scratch, t->journal, sizeof t->journal);
+        1, 0, 0, 0, OLLSKUVAN_EDITION_4, t->budget, t->scratch, sizeof t->scratch, t->journal, sizeof t->journal);
     uint64_t took = cpu_ns() - began;
     if (done.stop != OLLSKUVAN_STOP_NOTHING && done.stop != OLLSKUVAN_STOP_BUDGET) {
         fprintf(stderr, "load_test: %s\n", ollskuvan_stop_text(done.stop));
@@ -231,7 +231,7 @@ static void share(struct test *t)
 {
     t->shared = (struct perf_ring){ .fd = -1, .program_fd = -1, .bytes = t->ring, .length = t->length, .mapped = t->page,
         .attributes = { .sample_type = t->attr.sample_type, .read_format = t->attr.read_format, .sample_id_all = 1,
-            .edition = OLLSKUVAN_EDITION_3 } };
+            .edition = OLLSKUVAN_EDITION_4 } };
     readers_begin(&t->two, &t->shared);
 }
 

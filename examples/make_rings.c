@@ -95,7 +95,7 @@ static void add(struct scene *s, const struct moment *m, uint64_t fields[OLLSKUV
     fields[OLLSKUVAN_SIZE] = 8 + body + trailer_bytes(s);
     fill_trailer(s, m, fields);
     uint32_t answer = ollskuvan_write(fields, OLLSKUVAN_FIELDS, (const uint8_t *)source, strlen(source), s->sample_type, 0, 1, 0, 0,
-        0, OLLSKUVAN_EDITION_3, ring->bytes + ring->used, OLLSKUVAN_RING_MAX - ring->used);
+        0, OLLSKUVAN_EDITION_4, ring->bytes + ring->used, OLLSKUVAN_RING_MAX - ring->used);
     if (answer != OLLSKUVAN_OK)
         die("a record cannot be written: the ring is too long, or the scene says what no record holds");
     ring->used += (size_t)fields[OLLSKUVAN_SIZE];
@@ -316,7 +316,7 @@ static void make_many(struct scene *s, uint64_t records, uint64_t lost_every)
 
 static void save(const struct scene *s, const char *prefix)
 {
-    const struct ring_attributes attributes = { .sample_type = s->sample_type, .sample_id_all = 1, .edition = OLLSKUVAN_EDITION_3 };
+    const struct ring_attributes attributes = { .sample_type = s->sample_type, .sample_id_all = 1, .edition = OLLSKUVAN_EDITION_4 };
     for (unsigned cpu = 0; cpu < CPUS_MAX; cpu++) {
         const struct ring *ring = &s->rings[cpu];
         char path[RECORD_ROOM], why[WHY_ROOM];

@@ -357,7 +357,7 @@ static void usage(FILE *out)
         "                hardware index, see the manual page); not with --clock\n"
         "  --events LIST events that sample too, in the same ring: cpu-clock, page-faults,\n"
         "                context-switches, cpu-migrations; with commas, each once\n"
-        "  --edition N   what the reader knows: 1, 2 or 3 (3)\n"
+        "  --edition N   what the reader knows: 1, 2, 3 or 4 (4)\n"
         "  --report N    two readers of each ring: a logger that is served first, in\n"
         "                drains of --budget, and a report that takes N records a look\n"
         "  --again       drain what fits a ring once more, as one, and compare\n"
@@ -394,7 +394,7 @@ static bool take_option(struct options *o, int letter)
     case 'v':
         return counters_argument(optarg, &o->want.counters);
     case 'e':
-        if (!whole_argument(optarg, "--edition", 1, 3, &n))
+        if (!whole_argument(optarg, "--edition", 1, 4, &n))
             return false;
         o->want.edition = (uint32_t)n;
         return true;
@@ -489,7 +489,7 @@ int record_command(int argc, char **argv)
     bool help = false;
     called_as(argv[0]);
     struct controller *c = must(calloc(1, sizeof *c)); /* its buffers are long for a stack */
-    c->options = (struct options){ .budget = 32, .want = { .cpu = -1, .edition = OLLSKUVAN_EDITION_3 } };
+    c->options = (struct options){ .budget = 32, .want = { .cpu = -1, .edition = OLLSKUVAN_EDITION_4 } };
     c->live.program = PROGRAM_NONE;
     int status = read_options(&c->options, argc, argv, &help) ? STATUS_DONE : STATUS_USAGE;
     if (help)

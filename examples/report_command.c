@@ -262,7 +262,7 @@ static bool read_options(struct options *o, int argc, char **argv, bool *help)
 static void fill_in(struct options *o)
 {
     o->want.cpu = -1;
-    o->want.edition = OLLSKUVAN_EDITION_3;
+    o->want.edition = OLLSKUVAN_EDITION_4;
     o->want.program = o->live && o->image_count != 0 ? o->images : NULL;
     if (o->want.pages == 0)
         o->want.pages = 64;

@@ -189,7 +189,7 @@ refuses 2 'usage: controller ' controller --nonsense
 refuses 2 '--cpu: cpu 7777 is not online' controller --cpu 7777
 refuses 2 '--cpu: a number from 0' controller --cpu -1
 refuses 2 '--budget: a number from 1' controller --budget 0
-refuses 2 '--edition: a number from 1 to 3' controller --edition 4
+refuses 2 '--edition: a number from 1 to 4' controller --edition 5
 for bits in 0 0x '' -1 9x 0xg 0x10000000000000000; do
   refuses 2 "--branch: bits are wanted, as a number or as 0x.. and not 0, not '$bits'" controller --branch "$bits"
 done

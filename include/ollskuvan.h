@@ -66,11 +66,19 @@ extern "C" {
  *   2: sample bits 0 to 18, types 1 to 15
  *   3: sample bits 0 to 24, types 1 to 20, the build-id form of MMAP2, and the
  *      hardware index of a branch stack (branch bit 17)
- * All three know read-format bits 0 to 3, and branch bits 0 to 16 and 18.
+ *   4: as 3, and type 21 and read-format bit 4 (lost counts)
+ * All know read-format bits 0 to 3, and branch bits 0 to 16 and 18.
+ *
+ * Which one to give: the newest, unless the answers must be those of an older
+ * reader. A ring is cut into the same records in every edition, and what an
+ * older one knows it reads as the newer ones do; the rest it refuses with 20,
+ * 21, 22, 23 or 25. Nothing in the ring tells the edition: it is not the kernel's
+ * version, and a newer edition reads an older kernel's ring.
  */
 #define OLLSKUVAN_EDITION_1 1u
 #define OLLSKUVAN_EDITION_2 2u
 #define OLLSKUVAN_EDITION_3 3u
+#define OLLSKUVAN_EDITION_4 4u
 
 /* The ring's length: a power of two between these two. */
 #define OLLSKUVAN_RING_MIN 64u
@@ -102,7 +110,7 @@ extern "C" {
 #define OLLSKUVAN_OK 0u                  /* a record: accepted; a copy or a writing: done */
 #define OLLSKUVAN_STOP_NOTHING 0u        /* head equals tail: nothing to take */
 #define OLLSKUVAN_STOP_RING_LENGTH 1u    /* the ring's length is not allowed */
-#define OLLSKUVAN_STOP_EDITION 2u        /* the edition is not 1, 2 or 3 */
+#define OLLSKUVAN_STOP_EDITION 2u        /* the edition is not 1, 2, 3 or 4 */
 #define OLLSKUVAN_STOP_SCRATCH 3u        /* the record crosses the ring's end and the scratch is shorter than it */
 #define OLLSKUVAN_STOP_DISTANCE 4u       /* head minus tail, wrapping, is above the ring's length */
 #define OLLSKUVAN_STOP_ALIGNMENT 5u      /* head or tail is no multiple of 8 */
@@ -114,7 +122,7 @@ extern "C" {
 #define OLLSKUVAN_STOP_TABLE 11u         /* the table of events is not allowed */
 
 /* The same numbers as answers of check, read and write, where nothing stops. */
-#define OLLSKUVAN_REFUSED_EDITION 2u /* check, read, write: the edition is not 1, 2 or 3 */
+#define OLLSKUVAN_REFUSED_EDITION 2u /* check, read, write: the edition is not 1, 2, 3 or 4 */
 #define OLLSKUVAN_REFUSED_SIZE 6u    /* check, read: as OLLSKUVAN_STOP_SIZE */
 #define OLLSKUVAN_REFUSED_LENGTH 7u  /* check, read: the slice is shorter than 8 bytes, or the size is not its length */
 
@@ -127,7 +135,7 @@ extern "C" {
  * a table of events 27 and 26 come between 20 and 21. */
 #define OLLSKUVAN_REFUSED_TYPE 20u        /* type 0, or above the edition's */
 #define OLLSKUVAN_REFUSED_SAMPLE_TYPE 21u /* a sample bit the edition doesn't know; a SAMPLE, or sample_id_all is set */
-#define OLLSKUVAN_REFUSED_READ_FORMAT 22u /* read-format bit 4 or higher; READ, or a SAMPLE with sample bit 4 */
+#define OLLSKUVAN_REFUSED_READ_FORMAT 22u /* read-format bit 4 (edition 4: bit 5) or higher; READ, or a SAMPLE with sample bit 4 */
 #define OLLSKUVAN_REFUSED_BUILD_ID 23u    /* MMAP2 with misc bit 14, edition below 3 */
 #define OLLSKUVAN_REFUSED_BRANCH_TYPE 25u /* a SAMPLE with sample bit 11: branch bit 17, edition below 3; or 19 or higher */
 #define OLLSKUVAN_REFUSED_WEIGHTS 24u     /* a SAMPLE with sample bits 14 and 24 both selected */
@@ -170,6 +178,7 @@ extern "C" {
 #define OLLSKUVAN_TYPE_BPF_EVENT 18u
 #define OLLSKUVAN_TYPE_CGROUP 19u
 #define OLLSKUVAN_TYPE_TEXT_POKE 20u
+#define OLLSKUVAN_TYPE_AUX_OUTPUT_HW_ID 21u
 
 /* Misc bits of the header: they stand in word OLLSKUVAN_MISC of a value. */
 #define OLLSKUVAN_MISC_CPUMODE_MASK 0x0007u
@@ -223,6 +232,7 @@ extern "C" {
 #define OLLSKUVAN_READ_FORMAT_RUNNING (UINT64_C(1) << 1)
 #define OLLSKUVAN_READ_FORMAT_ID (UINT64_C(1) << 2)
 #define OLLSKUVAN_READ_FORMAT_GROUP (UINT64_C(1) << 3)
+#define OLLSKUVAN_READ_FORMAT_LOST (UINT64_C(1) << 4)
 
 /* Branch bits (branch_sample_type). They count in a SAMPLE with sample bit 11
  * alone. Bit 17 puts the hardware index between the count of branches and their
@@ -292,7 +302,7 @@ extern "C" {
  *    TEXT_POKE's padding; all else comes to a multiple of 8 by its own rules
  *    (32).
  *  - Entries, all of u64: read values are value, then id where read-format bit 2
- *    is set; branches are from, to, flags; namespaces are dev, inode. A call
+ *    is set, then lost count where bit 4 is; branches are from, to, flags; namespaces are dev, inode. A call
  *    chain is addresses. Registers stand in the order of their mask's bits, the
  *    lowest first.
  *  - Where a list is selected its place must lie in the source, or at its end,
@@ -354,7 +364,7 @@ extern "C" {
 #define OLLSKUVAN_FORK_PTID 6u /* u32 */
 #define OLLSKUVAN_FORK_TIME 7u
 
-/* 8 READ. Without read-format bit 3: value, enabled, running, id; with it:
+/* 8 READ. Without read-format bit 3: value, enabled, running, id, lost; with it:
  * values_count, enabled, running and the list of entries. */
 #define OLLSKUVAN_READ_PID 3u /* u32 */
 #define OLLSKUVAN_READ_TID 4u /* u32 */
@@ -363,8 +373,8 @@ extern "C" {
 #define OLLSKUVAN_READ_ENABLED 7u
 #define OLLSKUVAN_READ_RUNNING 8u
 #define OLLSKUVAN_READ_ID 9u /* a word; the bit of the read format is OLLSKUVAN_READ_FORMAT_ID */
-#define OLLSKUVAN_READ_LOST 10u   /* kept: reads 0, must be 0 */
-#define OLLSKUVAN_READ_VALUES 11u /* place; entries of 8 bytes, of 16 with read-format bit 2 */
+#define OLLSKUVAN_READ_LOST 10u   /* read-format bit 4, without bit 3 */
+#define OLLSKUVAN_READ_VALUES 11u /* place; entries of value, id (read-format bit 2), lost count (bit 4): 8, 16 or 24 bytes */
 
 /* 9 SAMPLE */
 #define OLLSKUVAN_SAMPLE_IDENTIFIER 3u
@@ -382,8 +392,8 @@ extern "C" {
 #define OLLSKUVAN_SAMPLE_READ_ENABLED 15u
 #define OLLSKUVAN_SAMPLE_READ_RUNNING 16u
 #define OLLSKUVAN_SAMPLE_READ_ID 17u
-#define OLLSKUVAN_SAMPLE_READ_LOST 18u       /* kept: reads 0, must be 0 */
-#define OLLSKUVAN_SAMPLE_READ_VALUES 19u     /* place; entries of 8 bytes, of 16 with read-format bit 2 */
+#define OLLSKUVAN_SAMPLE_READ_LOST 18u       /* as OLLSKUVAN_READ_LOST */
+#define OLLSKUVAN_SAMPLE_READ_VALUES 19u     /* place; entries as of OLLSKUVAN_READ_VALUES */
 #define OLLSKUVAN_SAMPLE_CALLCHAIN_COUNT 20u /* words */
 #define OLLSKUVAN_SAMPLE_CALLCHAIN 21u       /* place */
 #define OLLSKUVAN_SAMPLE_RAW_COUNT 22u       /* u32; bytes: the raw size */
@@ -480,6 +490,9 @@ extern "C" {
 #define OLLSKUVAN_TEXT_POKE_NEW_COUNT 5u /* u16; bytes */
 #define OLLSKUVAN_TEXT_POKE_OLD 6u       /* place */
 #define OLLSKUVAN_TEXT_POKE_NEW 7u       /* place */
+
+/* 21 AUX_OUTPUT_HW_ID */
+#define OLLSKUVAN_AUX_OUTPUT_HW_ID_HW_ID 3u
 
 /* The trailer: every type but SAMPLE, if sample_id_all is set. */
 #define OLLSKUVAN_TRAILER_PID 48u /* u32 */

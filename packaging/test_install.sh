@@ -93,9 +93,9 @@ static const uint8_t dirty[24] = { OLLSKUVAN_TYPE_COMM, 0, 0, 0, 0, 0, 24, 0, 0,
 int main(void)
 {
     uint64_t fields[OLLSKUVAN_FIELDS];
-    return ollskuvan_check(0, 0, 0, 0, 0, 0, 0, 0, OLLSKUVAN_EDITION_3) == OLLSKUVAN_REFUSED_LENGTH &&
-        ollskuvan_check(dirty, sizeof dirty, 0, 0, 0, 0, 0, 0, OLLSKUVAN_EDITION_3) == OLLSKUVAN_DIRTY_NAME &&
-        ollskuvan_read(dirty, sizeof dirty, 0, 0, 0, 0, 0, 0, OLLSKUVAN_EDITION_3, fields, OLLSKUVAN_FIELDS) == OLLSKUVAN_OK &&
+    return ollskuvan_check(0, 0, 0, 0, 0, 0, 0, 0, OLLSKUVAN_EDITION_4) == OLLSKUVAN_REFUSED_LENGTH &&
+        ollskuvan_check(dirty, sizeof dirty, 0, 0, 0, 0, 0, 0, OLLSKUVAN_EDITION_4) == OLLSKUVAN_DIRTY_NAME &&
+        ollskuvan_read(dirty, sizeof dirty, 0, 0, 0, 0, 0, 0, OLLSKUVAN_EDITION_4, fields, OLLSKUVAN_FIELDS) == OLLSKUVAN_OK &&
         fields[OLLSKUVAN_COMM_NAME_FLAG] == 1 && ollskuvan_type_name(9)[0] == 'S' ? 0 : 1;
 }
 ONE

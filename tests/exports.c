@@ -124,7 +124,8 @@ static void test_drain(void)
     IS(drain(ring, 63, 72, 1, 257, 0, NULL, 0, NULL, 0).stop, OLLSKUVAN_STOP_RING_LENGTH);
     IS(drain(ring, 64, 72, 1, 257, 0, NULL, 0, NULL, 0).stop, OLLSKUVAN_STOP_EDITION);
     IS(drain(ring, 64, 72, 1, 0, 0, NULL, 0, NULL, 0).stop, OLLSKUVAN_STOP_EDITION);
-    IS(drain(ring, 64, 72, 1, 4, 0, NULL, 0, NULL, 0).stop, OLLSKUVAN_STOP_EDITION);
+    IS(drain(ring, 64, 72, 1, 5, 0, NULL, 0, NULL, 0).stop, OLLSKUVAN_STOP_EDITION);
+    IS(drain(ring, 64, 72, 1, 4, 0, NULL, 0, NULL, 0).stop, OLLSKUVAN_STOP_DISTANCE);
     IS(drain(ring, 64, 72, 1, 0xffffffffu, 0, NULL, 0, NULL, 0).stop, OLLSKUVAN_STOP_EDITION);
     IS(drain(ring, 64, 72, 1, 3, 0, NULL, 0, NULL, 0).stop, OLLSKUVAN_STOP_DISTANCE);
     IS(drain(ring, 64, 72, 0, 3, 0, NULL, 0, NULL, 0).stop, OLLSKUVAN_STOP_DISTANCE);
@@ -224,8 +225,8 @@ static void test_check(void)
     put16(comm + 6, 16);
     IS(check(comm, 16, 1), OLLSKUVAN_REFUSED_NAME);
     IS(check(lost, 24, 2), OLLSKUVAN_OK);
-    put16(lost, 21);
-    IS(check(lost, 24, 3), OLLSKUVAN_REFUSED_TYPE);
+    put16(lost, 22);
+    IS(check(lost, 24, 4), OLLSKUVAN_REFUSED_TYPE);
     put16(lost, OLLSKUVAN_TYPE_LOST);
     /* sample_id_all is any 32-bit number but 0 */
     IS(ollskuvan_check(lost, 24, SAMPLED(OLLSKUVAN_BIT_TIME), 3), OLLSKUVAN_OK);
@@ -235,7 +236,7 @@ static void test_check(void)
     put16(lost, OLLSKUVAN_TYPE_SAMPLE);
     IS(ollskuvan_check(lost, 24, SAMPLED(OLLSKUVAN_BIT_IP), 3), OLLSKUVAN_REFUSED_LEFT_OVER);
     IS(ollskuvan_check(lost, 24, SAMPLED(OLLSKUVAN_BIT_IP | OLLSKUVAN_BIT_TID), 3), OLLSKUVAN_OK);
-    IS(ollskuvan_check(lost, 24, OLLSKUVAN_BIT_READ, UINT64_C(1) << 63, 0, 0, 0, 0, 3), OLLSKUVAN_REFUSED_READ_FORMAT);
+    IS(ollskuvan_check(lost, 24, OLLSKUVAN_BIT_READ, UINT64_C(1) << 63, 0, 0, 0, 0, 4), OLLSKUVAN_REFUSED_READ_FORMAT);
     IS(ollskuvan_check(lost, 24, SAMPLED(OLLSKUVAN_BIT_WEIGHT | OLLSKUVAN_BIT_WEIGHT_STRUCT), 3),
         OLLSKUVAN_REFUSED_WEIGHTS);
     IS(ollskuvan_check(lost, 24, SAMPLED(OLLSKUVAN_BIT_USER_STACK), 3), OLLSKUVAN_REFUSED_INNER);
@@ -317,6 +318,74 @@ static void test_branches(void)
     free(scratch);
 }
 
+/* READ: pid, tid; n = 1; value, id and lost count of the one counter. */
+static const uint8_t GROUP[48] = {8, 0, 0, 0, 0, 0, 48, 0, 1, 0, 0, 0, 2, 0, 0, 0, 1, 0, 0, 0, 0, 0, 0, 0, 0x11, 0, 0, 0, 0, 0, 0,
+    0, 0x22, 0, 0, 0, 0, 0, 0, 0, 0x33, 0, 0, 0, 0, 0, 0, 0};
+
+#define FORMAT(read_format) 0, read_format, 0, 0, 0, 0
+
+/* Edition 4: lost counts, type 21, and 22 from bit 5 on. */
+static void test_edition_4(void)
+{
+    const uint64_t lost = OLLSKUVAN_READ_FORMAT_LOST, id = OLLSKUVAN_READ_FORMAT_ID, group = OLLSKUVAN_READ_FORMAT_GROUP;
+    uint8_t *record = copied(GROUP, 48), *ring = block(64), *journal = block(16), *scratch = block(48), *buffer = block(48);
+    uint64_t fields[OLLSKUVAN_FIELDS];
+    struct ollskuvan_drained d;
+    uint32_t edition;
+
+    IS(ollskuvan_check(record, 48, FORMAT(group | id | lost), 4), OLLSKUVAN_OK);
+    IS(ollskuvan_check(record, 48, FORMAT(group | lost), 4), OLLSKUVAN_REFUSED_LEFT_OVER);
+    IS(ollskuvan_check(record, 48, FORMAT(group | id), 4), OLLSKUVAN_REFUSED_LEFT_OVER);
+    IS(ollskuvan_check(record, 48, FORMAT(group | id | lost | 32), 4), OLLSKUVAN_REFUSED_READ_FORMAT);
+    IS(ollskuvan_check(record, 48, FORMAT(UINT64_C(1) << 36), 4), OLLSKUVAN_REFUSED_READ_FORMAT);
+    for (edition = 1; edition < 4; edition++)
+        IS(ollskuvan_check(record, 48, FORMAT(group | id | lost), edition), OLLSKUVAN_REFUSED_READ_FORMAT);
+    /* the entry's place, and no lost count outside of it */
+    IS(ollskuvan_read(record, 48, FORMAT(group | id | lost), 4, fields, OLLSKUVAN_FIELDS), OLLSKUVAN_OK);
+    IS(fields[OLLSKUVAN_READ_VALUES_COUNT], 1);
+    IS(fields[OLLSKUVAN_READ_VALUES], 24);
+    IS(fields[OLLSKUVAN_READ_LOST], 0);
+    IS(ollskuvan_write(fields, OLLSKUVAN_FIELDS, record, 48, FORMAT(group | id | lost), 4, buffer, 48), OLLSKUVAN_OK);
+    OK(memcmp(buffer, GROUP, 48) == 0);
+    IS(ollskuvan_write(fields, OLLSKUVAN_FIELDS, record, 47, FORMAT(group | id | lost), 4, buffer, 48), OLLSKUVAN_REFUSED_PLACE);
+    /* without a group the lost count is the last of the read values */
+    IS(ollskuvan_read(record, 48, FORMAT(id | lost | 3), 4, fields, OLLSKUVAN_FIELDS), OLLSKUVAN_REFUSED_SHORT);
+    IS(ollskuvan_read(record, 48, FORMAT(id | lost | 1), 4, fields, OLLSKUVAN_FIELDS), OLLSKUVAN_OK);
+    IS(fields[OLLSKUVAN_READ_VALUE], 1);
+    IS(fields[OLLSKUVAN_READ_ENABLED], 0x11);
+    IS(fields[OLLSKUVAN_READ_ID], 0x22);
+    IS(fields[OLLSKUVAN_READ_LOST], 0x33);
+
+    /* a drain: across the ring's end, editions 4 and 3 */
+    memcpy(ring + 40, GROUP, 24);
+    memcpy(ring, GROUP + 24, 24);
+    d = ollskuvan_drain(ring, 64, 88, 40, FORMAT(group | id | lost), 4, 9, scratch, 48, journal, 16);
+    IS(d.taken, 1);
+    IS(get(journal + OLLSKUVAN_JOURNAL_ANSWER, 2), OLLSKUVAN_OK);
+    d = ollskuvan_drain(ring, 64, 88, 40, FORMAT(group | id | lost), 3, 9, scratch, 48, journal, 16);
+    IS(d.taken, 1);
+    IS(get(journal + OLLSKUVAN_JOURNAL_ANSWER, 2), OLLSKUVAN_REFUSED_READ_FORMAT);
+
+    /* type 21: one hardware id */
+    put16(record, OLLSKUVAN_TYPE_AUX_OUTPUT_HW_ID);
+    put16(record + 6, 16);
+    IS(check(record, 16, 4), OLLSKUVAN_OK);
+    IS(check(record, 16, 3), OLLSKUVAN_REFUSED_TYPE);
+    IS(ollskuvan_check(record, 16, TRAILED(OLLSKUVAN_BIT_TIME), 4), OLLSKUVAN_REFUSED_SHORT);
+    IS(ollskuvan_read(record, 16, NONE, 4, fields, OLLSKUVAN_FIELDS), OLLSKUVAN_OK);
+    IS(fields[OLLSKUVAN_AUX_OUTPUT_HW_ID_HW_ID], UINT64_C(0x200000001));
+    memcpy(ring, record, 16);
+    d = ollskuvan_drain(ring, 64, 16, 0, NONE, 4, 9, NULL, 0, journal, 16);
+    IS(get(journal + OLLSKUVAN_JOURNAL_KIND, 2), 21);
+    IS(get(journal + OLLSKUVAN_JOURNAL_ANSWER, 2), OLLSKUVAN_OK);
+
+    free(record);
+    free(ring);
+    free(journal);
+    free(scratch);
+    free(buffer);
+}
+
 static void test_misc_meaning(void)
 {
     const uint64_t both = OLLSKUVAN_MISC_MMAP_DATA | OLLSKUVAN_MISC_EXACT_IP, above = UINT64_C(1) << 32;
@@ -339,7 +408,8 @@ static void test_misc_meaning(void)
         IS(ollskuvan_misc_meaning(type, 6), 6);
     }
     IS(ollskuvan_misc_meaning(OLLSKUVAN_TYPE_AUX, both | 7), 7);
-    IS(ollskuvan_misc_meaning(21, both), 0);
+    IS(ollskuvan_misc_meaning(OLLSKUVAN_TYPE_AUX_OUTPUT_HW_ID, both), 0);
+    IS(ollskuvan_misc_meaning(22, both), 0);
     IS(ollskuvan_misc_meaning(UINT64_MAX, UINT64_MAX), 7);
     /* bits of misc from 16 up mean nothing */
     IS(ollskuvan_misc_meaning(OLLSKUVAN_TYPE_SWITCH, both << 16 | both << 32 | both << 48), 0);
@@ -439,7 +509,7 @@ static void test_dirty_names(void)
     /* every refusal goes before it, and each edition says it */
     IS(check(DIRTY, 24, 1), OLLSKUVAN_DIRTY_NAME);
     IS(check(DIRTY, 24, 2), OLLSKUVAN_DIRTY_NAME);
-    IS(check(DIRTY, 24, 4), OLLSKUVAN_REFUSED_EDITION);
+    IS(check(DIRTY, 24, 5), OLLSKUVAN_REFUSED_EDITION);
     IS(ollskuvan_check(DIRTY, 24, TRAILED(UINT64_C(1) << 40), 3), OLLSKUVAN_REFUSED_SAMPLE_TYPE);
     IS(ollskuvan_check(DIRTY, 24, TRAILED(OLLSKUVAN_BIT_TIME), 3), OLLSKUVAN_REFUSED_NAME);
     /* text padding, a build id's ignored bytes and res raise no flag */
@@ -1126,6 +1196,7 @@ int main(void)
 #ifndef WITHOUT_VALUES
     test_dirty_values();
     test_read_write();
+    test_edition_4();
     test_index_word();
     test_read_one();
     test_read_one_events();

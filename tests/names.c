@@ -30,11 +30,12 @@ enum { TRAILER_SELECTED = 1 << 1 | 1 << 2 | 1 << 6 | 1 << 7 | 1 << 9 | 1 << 16, 
 
 static const struct attributes PLAIN = {0, 0, 0, 0, 0, 0};
 static const struct attributes TRAILED = {TRAILER_SELECTED, 0, 1, 0, 0, 0};
-static const struct attributes READ_ONE = {TRAILER_SELECTED, 7, 1, 0, 0, 0};
+static const struct attributes READ_ONE = {TRAILER_SELECTED, 23, 1, 0, 0, 0};
 static const struct attributes READ_GROUP = {TRAILER_SELECTED, 15, 1, 0, 0, 0};
+static const struct attributes READ_LOST_GROUP = {TRAILER_SELECTED, 31, 1, 0, 0, 0};
 static const struct attributes READ_BARE_GROUP = {0, 8, 0, 0, 0, 0};
-static const struct attributes SAMPLE_ONE = {ALL_BITS ^ 1 << 24, 7, 1, FIVE_ONES, SEVEN_ONES, 1 << 17};
-static const struct attributes SAMPLE_GROUP = {ALL_BITS ^ 1 << 14, 15, 1, FIVE_ONES, SEVEN_ONES, 1 << 17};
+static const struct attributes SAMPLE_ONE = {ALL_BITS ^ 1 << 24, 23, 1, FIVE_ONES, SEVEN_ONES, 1 << 17};
+static const struct attributes SAMPLE_GROUP = {ALL_BITS ^ 1 << 14, 31, 1, FIVE_ONES, SEVEN_ONES, 1 << 17};
 static const struct attributes SAMPLE_BRANCHES = {1 << 11, 0, 0, 0, 0, 0x5ffff};
 
 /* ---- the rows ---- */
@@ -410,7 +411,7 @@ static void lay_all(void)
         }
         count = lay_record(i);
         answers[i] = ollskuvan_read(record, laid, with->sample_type, with->read_format, with->sample_id_all,
-            with->user_mask, with->interrupt_mask, with->branch_sample_type, 3, values[i], WORDS);
+            with->user_mask, with->interrupt_mask, with->branch_sample_type, 4, values[i], WORDS);
     }
 }
 

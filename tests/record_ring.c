@@ -44,6 +44,9 @@
 #define REGISTERS UINT64_C(0xff0fff)
 #define FEW_REGISTERS UINT64_C(0x1c0)
 
+#define VALUE_FORMAT (PERF_FORMAT_ID | PERF_FORMAT_TOTAL_TIME_ENABLED | PERF_FORMAT_TOTAL_TIME_RUNNING)
+#define GROUP_FORMAT (PERF_FORMAT_GROUP | VALUE_FORMAT)
+
 static void die(const char *what)
 {
     fprintf(stderr, "record_ring: %s: %s\n", what, strerror(errno));
@@ -122,7 +125,8 @@ static void save(struct recording *r, const char *path)
 {
     uint64_t words[6] = {head_of(r), r->page->data_tail, r->attr.sample_type, r->attr.read_format,
         r->attr.sample_regs_user, r->attr.sample_regs_intr};
-    uint8_t last[2] = {3, r->attr.sample_id_all};
+    /* the oldest edition that knows all of it */
+    uint8_t last[2] = {r->attr.read_format & PERF_FORMAT_LOST ? 4 : 3, r->attr.sample_id_all};
     FILE *file = fopen(path, "wb");
     if (!file || fwrite(words, 8, 6, file) != 6 || fwrite(last, 1, 2, file) != 2
         || fwrite(r->ring, 1, r->length, file) != r->length || fclose(file))
@@ -459,17 +463,21 @@ static void plan_lost(const char *out)
 
 static struct recording clock_ring;
 
+static int read_every = 1; /* rounds of the workload; a slow reader loses samples */
+
 static void clock_part(void)
 {
     int i;
     for (i = 0; i < 40; i++) {
         deeper((unsigned)i % 9, 60000);
         touch_pages(2);
-        read_on(&clock_ring, clock_ring.length - 1500);
+        if (i % read_every == 0)
+            read_on(&clock_ring, clock_ring.length - 1500);
     }
 }
 
-static void clock_samples(const char *out, uint64_t sample_type, int kernel, size_t pages)
+/* With read values: those of a group of three, by read_format. */
+static void clock_samples(const char *out, uint64_t sample_type, uint64_t read_format, int kernel, size_t pages)
 {
     int i;
     software(&clock_ring.attr, PERF_COUNT_SW_CPU_CLOCK, sample_type, 1);
@@ -481,11 +489,8 @@ static void clock_samples(const char *out, uint64_t sample_type, int kernel, siz
         clock_ring.attr.sample_regs_user = REGISTERS;
     if (sample_type & PERF_SAMPLE_REGS_INTR)
         clock_ring.attr.sample_regs_intr = FEW_REGISTERS;
-    if (sample_type & PERF_SAMPLE_READ)
-        clock_ring.attr.read_format = PERF_FORMAT_GROUP | PERF_FORMAT_ID | PERF_FORMAT_TOTAL_TIME_ENABLED
-            | PERF_FORMAT_TOTAL_TIME_RUNNING;
+    clock_ring.attr.read_format = read_format;
     open_ring(&clock_ring, 0, -1, pages);
-    /* the values of a group of three */
     for (i = 0; sample_type & PERF_SAMPLE_READ && i < 2; i++) {
         struct perf_event_attr member;
         software(&member, i ? PERF_COUNT_SW_PAGE_FAULTS : PERF_COUNT_SW_TASK_CLOCK, 0, 0);
@@ -501,13 +506,13 @@ static void clock_samples(const char *out, uint64_t sample_type, int kernel, siz
 
 static void plan_callchains(const char *out)
 {
-    clock_samples(out, PERF_SAMPLE_IP | IDENTITY | PERF_SAMPLE_CALLCHAIN | PERF_SAMPLE_PERIOD, 1, 1);
+    clock_samples(out, PERF_SAMPLE_IP | IDENTITY | PERF_SAMPLE_CALLCHAIN | PERF_SAMPLE_PERIOD, 0, 1, 1);
 }
 
 static void plan_stacks(const char *out)
 {
     clock_samples(out, PERF_SAMPLE_IP | IDENTITY | PERF_SAMPLE_REGS_USER | PERF_SAMPLE_STACK_USER
-        | PERF_SAMPLE_REGS_INTR | PERF_SAMPLE_CALLCHAIN, 0, 4);
+        | PERF_SAMPLE_REGS_INTR | PERF_SAMPLE_CALLCHAIN, 0, 0, 4);
 }
 
 /* Every sample bit that a software event can have: not branches (11), not aux (20), one weight. */
@@ -516,11 +521,19 @@ static void plan_many_bits(const char *out)
     clock_samples(out, PERF_SAMPLE_IP | ALL_IDENTITY | PERF_SAMPLE_ADDR | PERF_SAMPLE_READ | PERF_SAMPLE_CALLCHAIN
         | PERF_SAMPLE_PERIOD | PERF_SAMPLE_RAW | PERF_SAMPLE_REGS_USER | PERF_SAMPLE_STACK_USER
         | PERF_SAMPLE_WEIGHT_STRUCT | PERF_SAMPLE_DATA_SRC | PERF_SAMPLE_TRANSACTION | PERF_SAMPLE_REGS_INTR
-        | PERF_SAMPLE_PHYS_ADDR | PERF_SAMPLE_CGROUP | PERF_SAMPLE_DATA_PAGE_SIZE | PERF_SAMPLE_CODE_PAGE_SIZE, 0, 4);
+        | PERF_SAMPLE_PHYS_ADDR | PERF_SAMPLE_CGROUP | PERF_SAMPLE_DATA_PAGE_SIZE | PERF_SAMPLE_CODE_PAGE_SIZE,
+        GROUP_FORMAT, 0, 4);
+}
+
+/* Values of a group, each with its lost count: the reader is slow, so samples are lost. */
+static void plan_lost_counts(const char *out)
+{
+    read_every = 13;
+    clock_samples(out, PERF_SAMPLE_IP | IDENTITY | PERF_SAMPLE_READ | PERF_SAMPLE_PERIOD, GROUP_FORMAT | PERF_FORMAT_LOST, 0, 1);
 }
 
 /* READ records: the counts of threads and children as they end. */
-static void plan_counts_at_exit(const char *out)
+static void counts_at_exit(const char *out, uint64_t read_format)
 {
     struct recording r;
     pid_t pid = child(threads);
@@ -528,12 +541,23 @@ static void plan_counts_at_exit(const char *out)
     r.attr.inherit = 1;
     r.attr.inherit_stat = 1;
     r.attr.task = 1;
-    r.attr.read_format = PERF_FORMAT_ID | PERF_FORMAT_TOTAL_TIME_ENABLED | PERF_FORMAT_TOTAL_TIME_RUNNING;
+    r.attr.read_format = read_format;
     open_ring(&r, pid, 0, 1);
     start(&r);
     let_run(pid);
     stop(&r);
     save(&r, out);
+}
+
+static void plan_counts_at_exit(const char *out)
+{
+    counts_at_exit(out, VALUE_FORMAT);
+}
+
+/* The same with lost counts. */
+static void plan_lost_counts_at_exit(const char *out)
+{
+    counts_at_exit(out, VALUE_FORMAT | PERF_FORMAT_LOST);
 }
 
 /* A program for the kernel's filter: return 0. */
@@ -728,6 +752,8 @@ static const struct {
     {"stacks", plan_stacks, "cpu-clock samples with user stacks and registers"},
     {"many-bits", plan_many_bits, "cpu-clock samples with 22 of the 25 sample bits and the values of a group"},
     {"counts-at-exit", plan_counts_at_exit, "READ records of threads and children"},
+    {"lost-counts", plan_lost_counts, "samples with the values of a group and their lost counts"},
+    {"lost-counts-at-exit", plan_lost_counts_at_exit, "READ records with lost counts"},
     {"kernel", plan_kernel, "filters and their symbols"},
     {"events/counters", plan_events_counters, "four events of different counters in one ring, with their table"},
     {"events/children", plan_events_children, "the same of a process with children"},

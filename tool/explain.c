@@ -39,12 +39,13 @@ static const struct {
         "It has 1 to 32 events, no two with the same identifier, each with sample bit 16 and\n"
         "    sample_id_all." },
     { OLLSKUVAN_REFUSED_NAME_ROOM, "The name and one zero are copied whole or not at all." },
-    { OLLSKUVAN_REFUSED_TYPE, "Edition 1 knows types 1 to 9, edition 2 types 1 to 15, edition 3 types 1 to 20." },
+    { OLLSKUVAN_REFUSED_TYPE, "Edition 1 knows types 1 to 9, edition 2 types 1 to 15, edition 3 types 1 to 20, edition 4 types 1 to 21." },
     { OLLSKUVAN_REFUSED_SAMPLE_TYPE,
-        "Edition 1 knows sample bits 0 to 15, edition 2 0 to 18, edition 3 0 to 24. It is the\n"
+        "Edition 1 knows sample bits 0 to 15, edition 2 0 to 18, editions 3 and 4 0 to 24. It is the\n"
         "    answer to every SAMPLE then, and to all other records if sample_id_all is set." },
     { OLLSKUVAN_REFUSED_READ_FORMAT,
-        "Bits 0 to 3 are known. A READ is answered so, and a SAMPLE with sample bit 4." },
+        "Bits 0 to 3 are known, in edition 4 bit 4 too, the lost counts. A READ is answered so, and a\n"
+        "    SAMPLE with sample bit 4." },
     { OLLSKUVAN_REFUSED_BUILD_ID, "An MMAP2 with misc bit 14, in edition 1 or 2." },
     { OLLSKUVAN_REFUSED_WEIGHTS, "A SAMPLE where sample bits 14 and 24 are both set." },
     { OLLSKUVAN_REFUSED_BRANCH_TYPE,

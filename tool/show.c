@@ -39,7 +39,7 @@ void show_sample_type(uint64_t sample_type)
 
 void show_read_format(uint64_t read_format)
 {
-    static const char *const names[] = { "enabled time", "running time", "id", "group" };
+    static const char *const names[] = { "enabled time", "running time", "id", "group", "lost count" };
     printf("0x%" PRIx64, read_format);
     show_bits(read_format, names, sizeof names / sizeof names[0]);
 }
@@ -155,6 +155,24 @@ static unsigned register_bit(uint64_t mask, uint64_t index)
     return bit;
 }
 
+/* An entry of a group: value, id and lost count, the last two where selected. */
+static void show_counter(uint64_t read_format, const uint8_t *at)
+{
+    printf("value %" PRIu64, little(at, 8));
+    if ((read_format & OLLSKUVAN_READ_FORMAT_ID) != 0) {
+        at += 8;
+        printf(", id %" PRIu64, little(at, 8));
+    }
+    if ((read_format & OLLSKUVAN_READ_FORMAT_LOST) != 0)
+        printf(", lost %" PRIu64, little(at + 8, 8));
+}
+
+static uint64_t counter_bytes(uint64_t read_format)
+{
+    return 8 + ((read_format & OLLSKUVAN_READ_FORMAT_ID) != 0 ? 8 : 0) +
+        ((read_format & OLLSKUVAN_READ_FORMAT_LOST) != 0 ? 8 : 0);
+}
+
 static void show_element(const struct value *value, unsigned form, uint64_t index, const uint8_t *at)
 {
     switch (form) {
@@ -168,9 +186,7 @@ static void show_element(const struct value *value, unsigned form, uint64_t inde
         printf("bit %u: 0x%" PRIx64, register_bit(value->image->interrupt_mask, index), little(at, 8));
         break;
     case OLLSKUVAN_FORM_READ_VALUES:
-        printf("value %" PRIu64, little(at, 8));
-        if ((value->image->read_format & OLLSKUVAN_READ_FORMAT_ID) != 0)
-            printf(", id %" PRIu64, little(at + 8, 8));
+        show_counter(value->image->read_format, at);
         break;
     case OLLSKUVAN_FORM_BRANCHES:
         printf("from 0x%" PRIx64 " to 0x%" PRIx64 " flags 0x%" PRIx64, little(at, 8), little(at + 8, 8),
@@ -189,7 +205,7 @@ uint64_t element_bytes(const struct value *value, const struct ollskuvan_word *l
     case OLLSKUVAN_FORM_DIGITS:
         return 1;
     case OLLSKUVAN_FORM_READ_VALUES:
-        return (value->image->read_format & OLLSKUVAN_READ_FORMAT_ID) != 0 ? 16 : 8;
+        return counter_bytes(value->image->read_format);
     case OLLSKUVAN_FORM_BRANCHES:
         return 24;
     case OLLSKUVAN_FORM_NAMESPACES:

@@ -139,7 +139,7 @@ $tool dump $out/spoilt.img >/dev/null 2>$out/spoilt.err && wrong "a table that i
 grep -q 'spoilt.img: no table of events: line 1' $out/spoilt.err || wrong "a table that is none is not named"
 
 # ---- the dumps that are kept
-for name in tasks kernel every-type every-type-plain every-type-edition-2 indexed indexed-edition-2 dirty-names; do
+for name in tasks kernel every-type every-type-plain every-type-edition-2 every-type-edition-3 lost-counts indexed indexed-edition-2 dirty-names; do
   if [ "${1:-}" = --write ]; then
     cp "$out/$name.txt" "tool/expected/$name.txt"
   else

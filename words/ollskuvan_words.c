@@ -15,7 +15,7 @@
 const struct ollskuvan_answer ollskuvan_answers[] = {
     { OLLSKUVAN_OK, "nothing to take", "accepted" },
     { OLLSKUVAN_STOP_RING_LENGTH, "the ring's length is not allowed", NULL },
-    { OLLSKUVAN_STOP_EDITION, "the edition is not 1, 2 or 3", "the edition is not 1, 2 or 3" },
+    { OLLSKUVAN_STOP_EDITION, "the edition is not 1, 2, 3 or 4", "the edition is not 1, 2, 3 or 4" },
     { OLLSKUVAN_STOP_SCRATCH, "the record crosses the ring's end and the scratch is too short", NULL },
     { OLLSKUVAN_STOP_DISTANCE, "head and tail are further apart than the ring is long", NULL },
     { OLLSKUVAN_STOP_ALIGNMENT, "head or tail is no multiple of 8", NULL },
@@ -82,6 +82,7 @@ static const char *const types[] = {
     TYPE(MMAP), TYPE(LOST), TYPE(COMM), TYPE(EXIT), TYPE(THROTTLE), TYPE(UNTHROTTLE), TYPE(FORK), TYPE(READ),
     TYPE(SAMPLE), TYPE(MMAP2), TYPE(AUX), TYPE(ITRACE_START), TYPE(LOST_SAMPLES), TYPE(SWITCH),
     TYPE(SWITCH_CPU_WIDE), TYPE(NAMESPACES), TYPE(KSYMBOL), TYPE(BPF_EVENT), TYPE(CGROUP), TYPE(TEXT_POKE),
+    TYPE(AUX_OUTPUT_HW_ID),
 };
 
 static const char *type_or_null(uint64_t type)
@@ -112,7 +113,7 @@ const char *ollskuvan_type_name(uint64_t type)
 #define BIT_AND_BRANCH(NAME, BRANCH) { OLLSKUVAN_BIT_##NAME, 0, 0, OLLSKUVAN_BRANCH_##BRANCH, 0, 0, 0 }
 #define BUILD_ID { 0, 0, 0, 0, OLLSKUVAN_MISC_MMAP_BUILD_ID, 0, 0 }
 #define NO_BUILD_ID { 0, 0, 0, 0, 0, OLLSKUVAN_MISC_MMAP_BUILD_ID, 0 }
-/* Read values: without read-format bit 3 a value and its id, with it a list; the times in both. */
+/* Read values: without read-format bit 3 a value, its id and its lost count, with it a list; the times in both. */
 #define TIMES(SAMPLE, NAME) { SAMPLE, OLLSKUVAN_READ_FORMAT_##NAME, 0, 0, 0, 0, 0 }
 #define ALONE(SAMPLE) { SAMPLE, 0, OLLSKUVAN_READ_FORMAT_GROUP, 0, 0, 0, 0 }
 #define ALONE_AND(SAMPLE, NAME) { SAMPLE, OLLSKUVAN_READ_FORMAT_##NAME, OLLSKUVAN_READ_FORMAT_GROUP, 0, 0, 0, 0 }
@@ -168,7 +169,7 @@ const struct ollskuvan_word ollskuvan_words[] = {
     FIELD(READ, ENABLED, "enabled time", 8, DECIMAL, TIMES(0, ENABLED)),
     FIELD(READ, RUNNING, "running time", 8, DECIMAL, TIMES(0, RUNNING)),
     FIELD(READ, ID, "id", 8, DECIMAL, ALONE_AND(0, ID)),
-    FIELD(READ, LOST, "lost", 8, KEPT, ALWAYS),
+    FIELD(READ, LOST, "lost", 8, DECIMAL, ALONE_AND(0, LOST)),
     LIST(READ, VALUES, "values", VALUES_COUNT, READ_VALUES, GROUP(0)),
 
     FIELD(SAMPLE, IDENTIFIER, "identifier", 8, DECIMAL, BIT(IDENTIFIER)),
@@ -186,7 +187,7 @@ const struct ollskuvan_word ollskuvan_words[] = {
     FIELD(SAMPLE, READ_ENABLED, "read enabled time", 8, DECIMAL, TIMES(OLLSKUVAN_BIT_READ, ENABLED)),
     FIELD(SAMPLE, READ_RUNNING, "read running time", 8, DECIMAL, TIMES(OLLSKUVAN_BIT_READ, RUNNING)),
     FIELD(SAMPLE, READ_ID, "read id", 8, DECIMAL, ALONE_AND(OLLSKUVAN_BIT_READ, ID)),
-    FIELD(SAMPLE, READ_LOST, "read lost", 8, KEPT, ALWAYS),
+    FIELD(SAMPLE, READ_LOST, "read lost", 8, DECIMAL, ALONE_AND(OLLSKUVAN_BIT_READ, LOST)),
     LIST(SAMPLE, READ_VALUES, "read values", READ_VALUES_COUNT, READ_VALUES, GROUP(OLLSKUVAN_BIT_READ)),
     FIELD(SAMPLE, CALLCHAIN_COUNT, "callchain count", 8, COUNT, BIT(CALLCHAIN)),
     LIST(SAMPLE, CALLCHAIN, "callchain", CALLCHAIN_COUNT, ADDRESSES, BIT(CALLCHAIN)),
@@ -273,6 +274,8 @@ const struct ollskuvan_word ollskuvan_words[] = {
     FIELD(TEXT_POKE, NEW_COUNT, "new length", 2, COUNT, ALWAYS),
     LIST(TEXT_POKE, OLD, "old text", OLD_COUNT, BYTES, ALWAYS),
     LIST(TEXT_POKE, NEW, "new text", NEW_COUNT, BYTES, ALWAYS),
+
+    FIELD(AUX_OUTPUT_HW_ID, HW_ID, "hardware id", 8, HEX, ALWAYS),
 
     TRAILER(PID, "trailer pid", 4, THREAD, BIT(TID)),
     TRAILER(TID, "trailer tid", 4, THREAD, BIT(TID)),

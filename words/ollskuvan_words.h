@@ -29,7 +29,7 @@ enum ollskuvan_form {
     OLLSKUVAN_FORM_ADDRESSES,
     OLLSKUVAN_FORM_USER_REGISTERS,
     OLLSKUVAN_FORM_INTERRUPT_REGISTERS,
-    OLLSKUVAN_FORM_READ_VALUES, /* value, then id where read-format bit 2 is set */
+    OLLSKUVAN_FORM_READ_VALUES, /* value, then id and lost count where read-format bits 2 and 4 are set */
     OLLSKUVAN_FORM_BRANCHES,    /* from, to, flags */
     OLLSKUVAN_FORM_NAMESPACES   /* dev, inode */
 };

@@ -112,6 +112,11 @@ uint32_t ollskuvan_check(const uint8_t *record, size_t record_len, uint64_t samp
     if (fault(34) && (sample_type & OLLSKUVAN_BIT_BRANCHES) && record_len >= 8) /* the hardware index is not known */
         answer = reader_check(record, record_len, sample_type, read_format, sample_id_all, user_mask, interrupt_mask,
             branch_sample_type & ~OLLSKUVAN_BRANCH_HW_INDEX, edition);
+    if (fault(53) && edition == OLLSKUVAN_EDITION_4 && record_len >= 8) /* the lost counts are not known */
+        answer = reader_check(record, record_len, sample_type, read_format & ~OLLSKUVAN_READ_FORMAT_LOST, sample_id_all,
+            user_mask, interrupt_mask, branch_sample_type, edition);
+    if (fault(54) && answer == OLLSKUVAN_REFUSED_TYPE && record[0] == 21 && record[1] == 0) /* type 21 in edition 3 */
+        answer = OLLSKUVAN_OK;
     if (fault(35) && answer == OLLSKUVAN_REFUSED_BRANCH_TYPE && branch_sample_type >> 19 == 0) /* read in edition 2 */
         answer = OLLSKUVAN_OK;
     if (fault(37) && answer == OLLSKUVAN_DIRTY_NAME && record[record_len - 1] == 0) /* the last byte alone is looked at */

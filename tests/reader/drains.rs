@@ -306,7 +306,7 @@ pub fn real_ring(name: &str, image: &ring::Image, tally: &mut Tally) -> Result<(
     for (scratch, journal, budget) in
         [(65_528, 1 << 16, u64::MAX), (0, 1 << 16, u64::MAX), (65_528, 100, u64::MAX), (65_528, 1 << 16, 7)]
     {
-        for edition in [image.edition, 1, 2] {
+        for edition in [image.edition, 1, 2, 3, 4] {
             let case = DrainCase {
                 ring: image.ring.clone(),
                 head: image.head,

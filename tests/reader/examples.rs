@@ -64,6 +64,7 @@ pub fn run() -> bool {
     readings(&mut t);
     hardware_index(&mut t);
     dirty_names(&mut t);
+    edition_4(&mut t);
     program(&mut t);
     values(&mut t);
     println!("examples of documents 01 and 02: {} right, {} wrong", t.passed, t.failed);
@@ -136,7 +137,7 @@ fn records(t: &mut Tried) {
     }
     t.is("P10", check(&made(9, 0, &words(&[16, 0, 0, 17])), 1, &with(1 << 13)), 32);
     t.is("P10 filled 16", check(&made(9, 0, &words(&[16, 0, 0, 16])), 1, &with(1 << 13)), 0);
-    for edition in 1..=3 {
+    for edition in 1..=4 {
         t.is("P11", check(&made(9, 0, &[]), edition, &with(1 << 25)), 21);
     }
     t.is("P12", check(&made(10, 0x4000, &[0; 72]), 2, &Attributes::EMPTY), 23);
@@ -214,7 +215,7 @@ fn hardware_index(t: &mut Tried) {
     let a = both(1 << 11 | 1 << 14, index);
     let read_words = |v: Value| [sample::BRANCHES_COUNT, sample::HW_INDEX, sample::BRANCHES, sample::WEIGHT].map(|w| v[w]);
     t.is("index", read(&record, 3, &a).map(read_words), Ok([1, 7, 24, 5]));
-    for (edition, due) in [(1, 25), (2, 25), (3, 0)] {
+    for (edition, due) in [(1, 25), (2, 25), (3, 0), (4, 0)] {
         t.is("index by edition", check(&record, edition, &a), due);
     }
     // without bit 17 the same bytes have one word too many, and it is no word of the value
@@ -228,7 +229,7 @@ fn hardware_index(t: &mut Tried) {
     t.is("no count", check(&made(9, 0, &[]), 3, &both(1 << 11, index)), 30);
     t.is("a count too large", check(&made(9, 0, &words(&[u64::MAX, 7])), 3, &both(1 << 11, index)), 30);
     // bits 0 to 16 and 18 change nothing, 19 and up are 25, in every edition; without sample bit 11 none counts
-    for edition in 1..=3 {
+    for edition in 1..=4 {
         t.is("bits 0 to 16 and 18", check(&made(9, 0, &words(&[0])), edition, &both(1 << 11, 0x5_ffff)), 0);
         for bit in 19..64 {
             t.is("bit 19 and up", check(&made(9, 0, &words(&[0])), edition, &both(1 << 11, 1 << bit)), 25);
@@ -238,7 +239,7 @@ fn hardware_index(t: &mut Tried) {
         let all = Attributes { sample_id_all: 1, ..both(1 << 11 | 1 << 2, u64::MAX) };
         t.is("no SAMPLE, with a trailer", check(&made(2, 0, &words(&[5, 6, 7])), edition, &all), 0);
         t.is("21 first", check(&made(9, 0, &[]), edition, &both(1 << 11 | 1 << 25, u64::MAX)), 21);
-        let format = Attributes { read_format: 16, ..both(1 << 11 | 1 << 4, u64::MAX) };
+        let format = Attributes { read_format: 32, ..both(1 << 11 | 1 << 4, u64::MAX) };
         t.is("22 first", check(&made(9, 0, &[]), edition, &format), 22);
     }
     t.is("25 before 24", check(&made(9, 0, &[]), 3, &both(1 << 11 | 1 << 14 | 1 << 24, 1 << 19)), 25);
@@ -283,7 +284,7 @@ fn dirty_names(t: &mut Tried) {
                 t.is("43 before 42", writer::write(&with_word(value, SIZE, 0), &record, 3, e, &mut buffer), 43);
                 t.is("43 before 40", writer::write(&value, &record, 3, e, &mut []), 43);
                 t.is("20 before 43", writer::write(&with_word(value, TYPE, 21), &record, 3, e, &mut buffer), 20);
-                t.is("2 before 43", writer::write(&value, &record, 4, e, &mut buffer), 2);
+                t.is("2 before 43", writer::write(&value, &record, 5, e, &mut buffer), 2);
                 t.is("any word but 0", writer::write(&with_word(value, word, 2), &record, 3, e, &mut buffer), 43);
                 t.is("without the flag", writer::write(&with_word(value, word, 0), &record, 3, e, &mut buffer), 0);
                 t.is("written without stale bytes", buffer, named(kind, misc, before, &[0, 0, 0], &[]));
@@ -315,6 +316,69 @@ fn dirty_names(t: &mut Tried) {
     for word in [6, 7, 9, 10, 18] {
         t.is("42 where there is no name", writer::write(&with_word(lost, word, 1), &[], 3, e, &mut [0; 24]), 42);
     }
+}
+
+/// M-110: lost counts, type 21, and 22 from bit 5 on for edition 4 alone.
+fn edition_4(t: &mut Tried) {
+    let by = |read_format| Attributes { read_format, ..Attributes::EMPTY };
+    let read_words = |v: Value| {
+        [read::VALUE, read::VALUES_COUNT, read::ENABLED, read::RUNNING, read::ID, read::LOST, read::VALUES].map(|w| v[w])
+    };
+    // without bit 3 the lost count is the last read value
+    t.is("value, lost", read(&made(8, 0, &words(&[1, 5, 6])), 4, &by(16)).map(read_words), Ok([5, 0, 0, 0, 0, 6, 0]));
+    t.is("value, id, lost", read(&made(8, 0, &words(&[1, 5, 6, 7])), 4, &by(20)).map(read_words), Ok([5, 0, 0, 0, 6, 7, 0]));
+    let five = made(8, 0, &words(&[1, 5, 6, 7, 8, 9]));
+    t.is("all five", read(&five, 4, &by(23)).map(read_words), Ok([5, 0, 6, 7, 8, 9, 0]));
+    // with it an entry is value, id, lost: 8, 16 or 24 bytes
+    for (format, words_each) in [(8u64, 1), (12, 2), (24, 2), (28, 3)] {
+        for n in 0..4u64 {
+            for spare in [-1i64, 0, 1] {
+                let count = 2 + words_each * n as i64 + spare;
+                let mut body = vec![9u64; count.max(1) as usize];
+                if count >= 2 {
+                    body[1] = n;
+                }
+                let due = if count < 2 { 30 } else { [30, 0, 31][(spare + 1) as usize] };
+                t.is("entries", check(&made(8, 0, &words(&body)), 4, &by(format)), due);
+            }
+        }
+    }
+    // 22 by edition, of READ and of a SAMPLE with sample bit 4; of no other record
+    for edition in 1..=4 {
+        for bit in 0..64 {
+            let known = bit < 4 || edition == 4 && bit == 4;
+            let a = Attributes { read_format: 1 << bit, sample_type: 16, ..Attributes::EMPTY };
+            for kind in [8, 9] {
+                t.is("22", check(&made(kind, 0, &[]), edition, &a), if known { 30 } else { 22 });
+            }
+            t.is("no 22", check(&made(9, 0, &[]), edition, &by(1 << bit)), 0);
+            t.is("no 22 of LOST", check(&made(2, 0, &[0; 16]), edition, &a), 0);
+        }
+        // type 21 is edition 4's: one hardware id and the trailer
+        let (full, id) = (made(21, 0, &words(&[5, 6])), Attributes { sample_id_all: 1, ..with(1 << 6) });
+        t.is("type 21", check(&full, edition, &id), if edition == 4 { 0 } else { 20 });
+        t.is("type 22", check(&made(22, 0, &words(&[5])), edition, &Attributes::EMPTY), 20);
+        t.is("edition 4 has edition 3's", check(&made(10, 0x4000, &[0; 72]), edition, &Attributes::EMPTY), match edition {
+            1 => 20,
+            2 => 23,
+            _ => 0,
+        });
+    }
+    let id = Attributes { sample_id_all: 1, ..with(1 << 6) };
+    let told = read(&made(21, 0, &words(&[5, 6])), 4, &id);
+    t.is("hardware id", told.map(|v| (v[aux_output::HW_ID], v[trailer::ID])), Ok((5, 6)));
+    t.is("type 21, short", check(&made(21, 0, &words(&[5])), 4, &id), 30);
+    t.is("type 21, long", check(&made(21, 0, &words(&[5, 6, 7])), 4, &id), 31);
+    t.is("edition 5", check(&made(2, 0, &[0; 16]), 5, &Attributes::EMPTY), 2);
+    // the writer: the lost count where it is selected, 42 where it is not and not 0
+    let mut value = [0; FIELDS];
+    (value[TYPE], value[SIZE], value[read::LOST]) = (8, 32, 7);
+    let mut buffer = [9; 32];
+    let write = |value: &Value, edition, format, buffer: &mut [u8]| writer::write(value, &[], edition, &by(format), buffer);
+    t.is("written", (write(&value, 4, 16, &mut buffer), buffer[8..].to_vec()), (0, words(&[0, 0, 7])));
+    t.is("42 where it is not selected", write(&with_word(value, SIZE, 24), 4, 0, &mut buffer), 42);
+    t.is("42 in a group", write(&value, 4, 24, &mut buffer), 42);
+    t.is("22 by the writer", write(&value, 3, 16, &mut buffer), 22);
 }
 
 fn program(t: &mut Tried) {

@@ -157,7 +157,7 @@ pub fn mutated(bytes: &[u8], most: usize, seed: u64) -> Vec<u8> {
 fn mend(r: &mut Random, input: &mut Input) {
     input.control[FLAGS] &= !FALSE_EDITION;
     if edition(input.image.edition).is_none() {
-        input.image.edition = r.pick(&[1, 2, 3]);
+        input.image.edition = r.pick(&[1, 2, 3, 4]);
     }
     if input.call() == RECORD && r.one_in(2) {
         input.control[FLAGS] |= PLACE_NEAR;
@@ -177,7 +177,7 @@ fn mend_events(r: &mut Random, input: &mut Input) {
         }
     }
     if input.call() == TABLED && input.image.edition == 1 {
-        input.image.edition = 3;
+        input.image.edition = r.pick(&[3, 4]);
     }
 }
 
@@ -255,11 +255,11 @@ fn mutate_control(r: &mut Random, control: &mut [u8; CONTROL]) {
 fn mutate_attributes(r: &mut Random, image: &mut Image) {
     let a = &mut image.attributes;
     match r.below(10) {
-        0 => image.edition = r.pick(&[1, 2, 3]),
+        0 => image.edition = r.pick(&[1, 2, 3, 4]),
         1 => image.edition = some_edition(r) & 0xff,
         2 => a.sample_type ^= 1 << r.below(26),
         3 => a.sample_type ^= 1 << r.below(64),
-        4 => a.read_format ^= 1 << r.below(5),
+        4 => a.read_format ^= 1 << r.below(6),
         5 => a.sample_id_all ^= 1,
         6 => a.user_mask ^= 1 << r.below(64),
         7 => a.branch_sample_type ^= 1 << r.pick(&[17, 17, 18, 19]),
@@ -356,7 +356,7 @@ pub fn seeds(rings: &[(String, Vec<u8>)], seed: u64, count: u64) -> Vec<(String,
     }
     for number in 0..count {
         let mut r = Random::new(seed, number);
-        let edition = r.pick(&[1, 2, 3]);
+        let edition = r.pick(&[1, 2, 3, 4]);
         let attributes = some_attributes(&mut r, edition);
         let image = Image { head: 0, tail: some_tail(&mut r), attributes, edition, ring: Vec::new() };
         let call = (number % u64::from(CALLS)) as u8;
@@ -379,7 +379,7 @@ pub fn seeds(rings: &[(String, Vec<u8>)], seed: u64, count: u64) -> Vec<(String,
 
 /// A table of some events and a few records of theirs.
 fn tabled_seed(r: &mut Random, image: Image) -> Vec<u8> {
-    let edition = r.pick(&[2, 3]);
+    let edition = r.pick(&[2, 3, 4]);
     let mut input = Input { control: [0; CONTROL], image: Image { edition, ..image }, events: Vec::new() };
     for _ in 0..1 + r.below(4) {
         mutate_events(r, &mut input);

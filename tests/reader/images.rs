@@ -94,7 +94,7 @@ pub fn run(program: &mut Program, rings: Option<&Path>, seed: u64, count: u64) -
     if let Some(folder) = rings {
         for (name, bytes) in images_of(folder)? {
             program.compare(&name, &bytes, None)?;
-            for edition in [0, 1, 2, 4] {
+            for edition in [0, 1, 2, 3, 4, 5] {
                 let mut other = bytes.clone();
                 other[48] = edition;
                 program.compare(&format!("{name} in edition {edition}"), &other, None)?;

@@ -58,9 +58,9 @@ impl Random {
 
 pub fn some_edition(r: &mut Random) -> u32 {
     if r.one_in(40) {
-        r.pick(&[0, 4, 5, 255, 256, 257, 258, 259, 0x8000_0001, 0x0001_0002, u32::MAX])
+        r.pick(&[0, 5, 6, 255, 256, 257, 258, 259, 0x8000_0001, 0x0001_0002, u32::MAX])
     } else {
-        r.pick(&[1, 2, 3, 3])
+        r.pick(&[1, 2, 3, 4])
     }
 }
 
@@ -116,7 +116,8 @@ fn some_branch_type(r: &mut Random, edition_number: u32) -> u64 {
 
 pub fn some_attributes(r: &mut Random, edition_number: u32) -> Attributes {
     let known = edition(edition_number).map_or(24, |e| e.last_sample_bit);
-    let read_format = if r.one_in(25) { r.below(16) | 1 << (4 + r.below(60)) } else { r.below(16) };
+    let read = 1 << edition(edition_number).map_or(5, |e| e.last_read_bit + 1);
+    let read_format = if r.one_in(25) { r.below(16) | 1 << (4 + r.below(60)) } else { r.below(read) };
     Attributes {
         sample_type: some_sample_type(r, known),
         read_format,
@@ -150,7 +151,7 @@ fn some_count(r: &mut Random, most: usize) -> usize {
 }
 
 /// A sound record of at most `room` bytes, or None if the least one is longer. The ignored bytes
-/// are random if `dirty`. The type must be one of 1 to 20; an edition plays no part.
+/// are random if `dirty`. The type must be one of 1 to 21; an edition plays no part.
 pub fn sound_record(
     r: &mut Random, kind: u64, misc: u64, a: &Attributes, room: usize, dirty: bool,
 ) -> Option<Vec<u8>> {
@@ -304,9 +305,9 @@ pub fn some_misc(r: &mut Random) -> u64 {
 
 /// The types that an edition knows, and at times one of the others.
 pub fn some_type(r: &mut Random, edition_number: u32) -> u64 {
-    let last = edition(edition_number).map_or(20, |e| e.last_type);
+    let last = edition(edition_number).map_or(21, |e| e.last_type);
     match r.below(12) {
-        0 => 1 + r.below(20),
+        0 => 1 + r.below(21),
         1 | 2 => SAMPLE,
         _ => 1 + r.below(last),
     }
@@ -339,7 +340,7 @@ pub fn fitting_record(r: &mut Random, edition_number: u32, a: &Attributes, room:
 /// Where the counts, sizes, abi words and filled lengths of a record lie, and their bytes.
 fn count_places(record: &[u8], a: &Attributes) -> Vec<(usize, usize)> {
     let kind = u64::from(le32(record, 0));
-    if !(1..=20).contains(&kind) {
+    if !(1..=21).contains(&kind) {
         return Vec::new();
     }
     let items = all_items(kind, u64::from(le16(record, 4)), a);
@@ -442,8 +443,8 @@ pub fn damage_body(r: &mut Random, record: &mut Vec<u8>, a: &Attributes) {
         }
         // the type
         4 => {
-            let other = 1 + r.below(20) as u32;
-            let kind = r.pick(&[0, other, 21, 22, 9, 10, 0x1_0001, 65_535, 65_536, u32::MAX]);
+            let other = 1 + r.below(21) as u32;
+            let kind = r.pick(&[0, other, 22, 23, 9, 10, 0x1_0001, 65_535, 65_536, u32::MAX]);
             record[0..4].copy_from_slice(&kind.to_le_bytes());
         }
         // the name, or whatever lies at the end: no zero, or an early one, or the last byte alone not zero

@@ -38,7 +38,7 @@ const HELP: &str = "\
 reader examples                       document 01's examples on the independent reader
 reader dump < IMAGE                   what ringdump prints, by the independent reader
 reader list IMAGE                     the records of an image with their values, by name
-reader rings FOLDER                   every record of the real rings is accepted in edition 3, and their drains compared
+reader rings FOLDER                   every record of the real rings is accepted in its edition and the newest, and their drains compared
 reader drains [OPTIONS]               drain, record check and name copy: the library against the independent reader
 reader values [OPTIONS]               read and write: the library against the independent reader and writer
 reader tables [OPTIONS]               drain, reader of one record and lookup with a table of events, compared
@@ -228,7 +228,7 @@ fn records_of(image: &ring::Image) -> Result<soak::Records, String> {
     Ok(records)
 }
 
-/// The real rings: every record accepted in edition 3, the whole ring drained, and the library's
+/// The real rings: every record accepted in the image's edition (3 or 4) and in 4, the whole ring drained, and the library's
 /// drains, reads and writes of them compared.
 fn rings(folder: &Path) -> Result<(), String> {
     let start = Instant::now();
@@ -236,16 +236,18 @@ fn rings(folder: &Path) -> Result<(), String> {
     let (mut records, mut dirty) = (0, 0);
     for (name, bytes) in images::images_of(folder)? {
         let image = ring::Image::parse(&bytes).ok_or(format!("{name}: fewer than 50 bytes"))?;
-        if image.edition != 3 || image.ring.len() > 16_384 {
+        if !(3..=4).contains(&image.edition) || image.ring.len() > 16_384 {
             return Err(format!("{name}: edition {}, ring of {} bytes", image.edition, image.ring.len()));
         }
         let mut kinds = std::collections::BTreeMap::<u64, u64>::new();
         for (tail, record) in records_of(&image).map_err(|e| format!("{name}: {e}"))? {
             let kind = u64::from(record::le32(&record, 0));
-            let answer = record::check(&record, 3, &image.attributes);
-            dirty += u64::from(answer == 44);
-            if answer != 0 && answer != 44 {
-                return Err(format!("{name}: the record at tail {tail} is refused with {answer}: {}", guard::hex(&record)));
+            for edition in [image.edition, 4] {
+                let answer = record::check(&record, edition, &image.attributes);
+                dirty += u64::from(edition == 4 && answer == 44);
+                if answer != 0 && answer != 44 {
+                    return Err(format!("{name}: the record at tail {tail} is refused with {answer}: {}", guard::hex(&record)));
+                }
             }
             *kinds.entry(kind).or_default() += 1;
         }
@@ -261,7 +263,7 @@ fn rings(folder: &Path) -> Result<(), String> {
     }
     let done = if cfg!(without_values) { "drained" } else { "drained, read, written again" };
     println!(
-        "rings: {records} records of real rings accepted in edition 3, {dirty} with a dirty name, {done} and compared, {:.1} s",
+        "rings: {records} records of real rings accepted in editions 3 and 4, {dirty} with a dirty name, {done} and compared, {:.1} s",
         start.elapsed().as_secs_f64()
     );
     Ok(())

@@ -46,15 +46,17 @@ impl Attributes {
 pub struct Edition {
     pub number: u32,
     pub last_sample_bit: u32,
+    pub last_read_bit: u32,
     pub last_type: u64,
     pub build_id_form: bool,
     pub hw_index: bool,
 }
 
-pub const EDITIONS: [Edition; 3] = [
-    Edition { number: 1, last_sample_bit: 15, last_type: 9, build_id_form: false, hw_index: false },
-    Edition { number: 2, last_sample_bit: 18, last_type: 15, build_id_form: false, hw_index: false },
-    Edition { number: 3, last_sample_bit: 24, last_type: 20, build_id_form: true, hw_index: true },
+pub const EDITIONS: [Edition; 4] = [
+    Edition { number: 1, last_sample_bit: 15, last_read_bit: 3, last_type: 9, build_id_form: false, hw_index: false },
+    Edition { number: 2, last_sample_bit: 18, last_read_bit: 3, last_type: 15, build_id_form: false, hw_index: false },
+    Edition { number: 3, last_sample_bit: 24, last_read_bit: 3, last_type: 20, build_id_form: true, hw_index: true },
+    Edition { number: 4, last_sample_bit: 24, last_read_bit: 4, last_type: 21, build_id_form: true, hw_index: true },
 ];
 
 pub fn edition(number: u32) -> Option<&'static Edition> {
@@ -99,7 +101,7 @@ pub fn unknown(kind: u64, misc: u64, e: &Edition, a: &Attributes) -> Option<u32>
         Some(20)
     } else if a.sample_type >> (e.last_sample_bit + 1) != 0 && (sample || a.id_all()) {
         Some(21)
-    } else if a.read_format >> 4 != 0 && (kind == READ || sample && a.sample_bit(4)) {
+    } else if a.read_format >> (e.last_read_bit + 1) != 0 && (kind == READ || sample && a.sample_bit(4)) {
         Some(22)
     } else if has_build_id(kind, misc) && !e.build_id_form {
         Some(23)
@@ -186,6 +188,7 @@ struct ReadWords {
     enabled: usize,
     running: usize,
     id: usize,
+    lost: usize,
     values: usize,
 }
 
@@ -195,6 +198,7 @@ const IN_READ: ReadWords = ReadWords {
     enabled: read::ENABLED,
     running: read::RUNNING,
     id: read::ID,
+    lost: read::LOST,
     values: read::VALUES,
 };
 
@@ -204,11 +208,13 @@ const IN_SAMPLE: ReadWords = ReadWords {
     enabled: sample::READ_ENABLED,
     running: sample::READ_RUNNING,
     id: sample::READ_ID,
+    lost: sample::READ_LOST,
     values: sample::READ_VALUES,
 };
 
 /// "Without bit 3, value, then enabled time (bit 0), running time (1), id (2). With bit 3: n, the
-/// two times where selected, then n times value and id where selected."
+/// two times where selected, then n times value and id where selected." And by bit 4 "a lost count follows
+/// each counter's value and, where selected, id; without bit 3 it is the last read value".
 fn read_values(items: &mut Vec<Item>, w: &ReadWords, a: &Attributes) {
     let group = a.read_bit(3);
     items.push(n64(if group { w.values_count } else { w.value }));
@@ -219,9 +225,14 @@ fn read_values(items: &mut Vec<Item>, w: &ReadWords, a: &Attributes) {
         items.push(n64(w.running));
     }
     if group {
-        items.push(list(w.values, w.values_count, if a.read_bit(2) { 16 } else { 8 }));
-    } else if a.read_bit(2) {
+        items.push(list(w.values, w.values_count, 8 + 8 * (usize::from(a.read_bit(2)) + usize::from(a.read_bit(4)))));
+        return;
+    }
+    if a.read_bit(2) {
         items.push(n64(w.id));
+    }
+    if a.read_bit(4) {
+        items.push(n64(w.lost));
     }
 }
 
@@ -325,7 +336,7 @@ fn sample_body(a: &Attributes) -> Vec<Item> {
     items
 }
 
-/// The items after the header, without the trailer. The type must be one of 1 to 20.
+/// The items after the header, without the trailer. The type must be one of 1 to 21.
 pub fn body(kind: u64, misc: u64, a: &Attributes) -> Vec<Item> {
     match kind {
         1 => vec![
@@ -404,6 +415,7 @@ pub fn body(kind: u64, misc: u64, a: &Attributes) -> Vec<Item> {
             list(text_poke::NEW, text_poke::NEW_COUNT, 1),
             Item::Padding,
         ],
+        21 => vec![n64(aux_output::HW_ID)],
         _ => unreachable!("type {kind} was refused with 20"),
     }
 }

@@ -155,7 +155,7 @@ fn event_record(r: &mut Random, edition_number: u32, table: &[Event], room: usiz
 }
 
 pub fn table_case(r: &mut Random) -> TableCase {
-    let edition = if r.one_in(3) { some_edition(r) } else { r.pick(&[2, 3, 3]) };
+    let edition = if r.one_in(3) { some_edition(r) } else { r.pick(&[2, 3, 4, 4]) };
     let mut table = sound_table(r, edition);
     let length = some_ring_length(r);
     let mut ring = vec![0; length];
@@ -293,10 +293,10 @@ pub const MUST: &[(&str, &[u32])] = &[
 
 pub const BODY: &[u32] = &[0, 20, 21, 22, 23, 24, 25, 26, 27, 30, 31, 32, 33];
 
-/// What else must have been reached: every type that editions 2 and 3 know was accepted; edition 1 accepts nothing.
+/// What else must have been reached: every type that editions 2 to 4 know was accepted; edition 1 accepts nothing.
 pub fn missing_types(tally: &Tally) -> Vec<String> {
     let mut missing = Vec::new();
-    for number in [2, 3] {
+    for number in [2, 3, 4] {
         for kind in 1..=edition(number).unwrap().last_type {
             if !tally.accepted.contains_key(&(number, kind)) {
                 missing.push(format!("edition {number} never accepted type {kind} {} under a table", type_name(kind)));
@@ -321,7 +321,7 @@ pub fn places(tally: &mut Tally) -> Result<u64, Difference> {
     let table = [Event::new(7, &a), Event::new(9, &a)];
     for kind in 0..=22u32 {
         for size in [8usize, 16, 24] {
-            for number in [1u32, 2, 3] {
+            for number in [1u32, 2, 3, 4] {
                 for (first, last) in [(7u64, 1u64), (1, 9), (9, 7), (1, 2)] {
                     let due = due_by_hand(kind, size, number, first, last);
                     let mut record = vec![0; size];
@@ -357,7 +357,7 @@ pub fn places(tally: &mut Tally) -> Result<u64, Difference> {
 }
 
 fn due_by_hand(kind: u32, size: usize, number: u32, first: u64, last: u64) -> u32 {
-    let last_type = [0, 9, 15, 20][number as usize];
+    let last_type = [0, 9, 15, 20, 21][number as usize];
     let identifier = if kind == 9 && size == 24 { first } else { last };
     if kind == 0 || kind > last_type {
         20
@@ -397,7 +397,7 @@ pub fn read_table(path: &Path) -> Result<Vec<Event>, String> {
     Ok(table)
 }
 
-/// The rings of a folder, each with its table: every record accepted in edition 3, drained by both in every edition
+/// The rings of a folder, each with its table: every record accepted in edition 4, drained by both in every edition
 /// and at the edges, read one by one; under the table without its last event that one's records are 26; then damaged
 /// so many times.
 pub fn rings(folder: &Path, seed: u64, damaged: u64) -> Result<(), String> {
@@ -463,7 +463,7 @@ fn damaged_ring(
         head: tail.wrapping_add(at as u64),
         tail,
         attributes: Attributes::EMPTY,
-        edition: r.pick(&[1, 2, 3, 3, 3]),
+        edition: r.pick(&[1, 2, 3, 4, 4, 4]),
         budget: if r.one_in(8) { r.below(100) } else { u64::MAX },
         scratch: if r.one_in(8) { r.below(200) as usize } else { length },
         journal: if r.one_in(8) { r.below(1000) as usize } else { 2 * length + 16 },
@@ -488,7 +488,7 @@ fn real_ring(
         head: image.head,
         tail: image.tail,
         attributes: Attributes::EMPTY,
-        edition: 3,
+        edition: 4,
         budget: u64::MAX,
         scratch: 65_528,
         journal: 1 << 16,
@@ -513,10 +513,11 @@ fn real_ring(
     for (edition, scratch, journal, budget) in [
         (1, 65_528, 1 << 16, u64::MAX),
         (2, 65_528, 1 << 16, u64::MAX),
-        (4, 65_528, 1 << 16, u64::MAX),
-        (3, 0, 1 << 16, u64::MAX),
-        (3, 65_528, 100, u64::MAX),
-        (3, 65_528, 1 << 16, 7),
+        (3, 65_528, 1 << 16, u64::MAX),
+        (5, 65_528, 1 << 16, u64::MAX),
+        (4, 0, 1 << 16, u64::MAX),
+        (4, 65_528, 100, u64::MAX),
+        (4, 65_528, 1 << 16, 7),
     ] {
         let other = DrainCase { ring: image.ring.clone(), edition, scratch, journal, budget, ..case };
         for table in [table, &table[1..], &table[..table.len() - 1], &table[..0], &[table, table].concat()] {

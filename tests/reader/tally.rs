@@ -6,7 +6,7 @@ use std::collections::BTreeMap;
 
 #[derive(Default)]
 pub struct Tally {
-    /// (type, or 21 for every other; answer) for records taken by drains or checked
+    /// (type, or 22 for every other; answer) for records taken by drains or checked
     pub records: BTreeMap<(u64, u32), u64>,
     /// (edition, type): accepted records
     pub accepted: BTreeMap<(u32, u64), u64>,
@@ -18,7 +18,7 @@ pub struct Tally {
 
 impl Tally {
     pub fn record(&mut self, edition: u32, kind: u64, answer: u32) {
-        let row = if (1..=20).contains(&kind) { kind } else { 21 };
+        let row = if (1..=21).contains(&kind) { kind } else { 22 };
         *self.records.entry((row, answer)).or_default() += 1;
         if answer == 0 {
             *self.accepted.entry((edition, kind)).or_default() += 1;
@@ -37,17 +37,17 @@ impl Tally {
         let mut columns: Vec<u32> = self.records.keys().map(|(_, answer)| *answer).collect();
         columns.sort_unstable();
         columns.dedup();
-        print!("{:<18}", "answers by type");
+        print!("{:<20}", "answers by type");
         for c in &columns {
             print!("{c:>9}");
         }
         println!();
-        for row in 1..=21 {
+        for row in 1..=22 {
             if !self.records.keys().any(|(kind, _)| *kind == row) {
                 continue;
             }
-            let name = if row == 21 { "0 or above 20" } else { type_name(row) };
-            print!("{:<18}", if row == 21 { name.to_string() } else { format!("{row:>2} {name}") });
+            let name = if row == 22 { "0 or above 21" } else { type_name(row) };
+            print!("{:<20}", if row == 22 { name.to_string() } else { format!("{row:>2} {name}") });
             for c in &columns {
                 match self.records.get(&(row, *c)) {
                     Some(n) => print!("{n:>9}"),
@@ -59,13 +59,13 @@ impl Tally {
     }
 
     pub fn print_accepted(&self) {
-        print!("{:<18}", "accepted, by type");
+        print!("{:<20}", "accepted, by type");
         for e in &EDITIONS {
             print!("{:>9}", format!("ed. {}", e.number));
         }
         println!();
-        for kind in 1..=20 {
-            print!("{:<18}", format!("{kind:>2} {}", type_name(kind)));
+        for kind in 1..=21 {
+            print!("{:<20}", format!("{kind:>2} {}", type_name(kind)));
             for e in &EDITIONS {
                 match self.accepted.get(&(e.number, kind)) {
                     Some(n) => print!("{n:>9}"),

@@ -294,7 +294,7 @@ pub fn edges(tally: &mut Tally) -> Result<u64, Difference> {
                 if a.sample_bit(14) {
                     a.sample_type &= !(1 << 24);
                 }
-                a.read_format = [round, round & 7, round ^ 8][r.below(3) as usize] & 15;
+                a.read_format = [round, round & 7, round ^ 8][r.below(3) as usize] & ((1 << (e.last_read_bit + 1)) - 1);
                 a.sample_id_all = round as u32 & 1;
                 a.user_mask &= 0xff;
                 a.interrupt_mask &= 0xff00;
@@ -337,7 +337,7 @@ fn edges_of(record: &[u8], a: &Attributes, edition: u32, r: &mut Random, tally: 
     }
     // 42 for fewer words, after 2 and before all that looks at a word.
     let long: Vec<u64> = value.iter().copied().chain([9, 9]).collect();
-    for (words, edition, due) in [(0, edition, 42), (55, edition, 42), (0, 4, 2), (55, 4, 2), (56, 4, 2), (57, edition, 0), (58, edition, 0)]
+    for (words, edition, due) in [(0, edition, 42), (55, edition, 42), (0, 5, 2), (55, 5, 2), (56, 5, 2), (57, edition, 0), (58, edition, 0)]
     {
         let (answer, _) = compare_write(&long[..words], record, a, edition, size, r, tally)?;
         expect("number of words", answer, due)?;
@@ -373,7 +373,7 @@ fn edges_of(record: &[u8], a: &Attributes, edition: u32, r: &mut Random, tally: 
             expect("flag", answer, 43)?;
             let (answer, _) = compare_write(&flagged, &[], a, edition, 0, r, tally)?;
             expect("flag before 41 and 40", answer, 43)?;
-            for (other, m, due) in [(SIZE, 12, 43), (55, 1, 43), (MISC, 1 << 16, 43), (TYPE, 21, 20), (TYPE, 1 << 32, 20)] {
+            for (other, m, due) in [(SIZE, 12, 43), (55, 1, 43), (MISC, 1 << 16, 43), (TYPE, 22, 20), (TYPE, 1 << 32, 20)] {
                 let mut more = flagged;
                 more[other] = m;
                 let (answer, _) = compare_write(&more, record, a, edition, size, r, tally)?;
@@ -381,7 +381,7 @@ fn edges_of(record: &[u8], a: &Attributes, edition: u32, r: &mut Random, tally: 
             }
             let (answer, _) = compare_write(&flagged[..55], record, a, edition, size, r, tally)?;
             expect("flag in too few words", answer, 42)?;
-            let (answer, _) = compare_write(&flagged, record, a, 4, size, r, tally)?;
+            let (answer, _) = compare_write(&flagged, record, a, 5, size, r, tally)?;
             expect("flag and no edition", answer, 2)?;
         }
     }
@@ -425,21 +425,21 @@ pub fn bits(tally: &mut Tally) -> Result<u64, Difference> {
         };
         // each sample bit alone
         for bit in 0..=e.last_sample_bit {
-            for read_format in if bit == 4 { 0..16 } else { 0..1 } {
+            for read_format in if bit == 4 { 0..2 << e.last_read_bit } else { 0..1 } {
                 count += round_trip(e, SAMPLE, 0, &with(1 << bit, read_format, 0), &mut r, tally, &mut tried)?;
             }
             tried.bits.insert((e.number, bit));
         }
         // all together, with one of the two weights
         let all = (1u64 << (e.last_sample_bit + 1)) - 1;
-        for read_format in 0..16 {
+        for read_format in 0..2u64 << e.last_read_bit {
             for without in if e.last_sample_bit < 24 { vec![63] } else { vec![14, 24] } {
                 let a = with(all & !(1 << without), read_format, 0);
                 count += round_trip(e, SAMPLE, 0x4000, &a, &mut r, tally, &mut tried)?;
             }
         }
         // both weights are refused; so is the first bit that the edition does not know
-        for (sample_type, due) in [(1u64 << 14 | 1 << 24, if e.number == 3 { 24 } else { 21 }), (1 << (e.last_sample_bit + 1), 21)] {
+        for (sample_type, due) in [(1u64 << 14 | 1 << 24, if e.number >= 3 { 24 } else { 21 }), (1 << (e.last_sample_bit + 1), 21)] {
             let a = with(sample_type, 0, 0);
             let mut value = [0; FIELDS];
             value[TYPE] = SAMPLE;
@@ -466,7 +466,7 @@ pub fn bits(tally: &mut Tally) -> Result<u64, Difference> {
                 }
             }
             if kind == READ {
-                for read_format in 0..16 {
+                for read_format in 0..2u64 << e.last_read_bit {
                     for id_all in [0, 1] {
                         count += round_trip(e, kind, 0, &with(trailer_of(e), read_format, id_all), &mut r, tally, &mut tried)?;
                     }
@@ -513,7 +513,7 @@ fn branch_bits(e: &Edition, r: &mut Random, tally: &mut Tally, tried: &mut Tried
     }
     // 25 after 21 and 22, before 24
     for (sample_type, read_format, due) in
-        [(1u64 << 40 | 0x800, 0, 21), (0x810, 16, 22), (0x800 | 1 << 14 | 1 << 24, 0, if e.number == 3 { 25 } else { 21 })]
+        [(1u64 << 40 | 0x800, 0, 21), (0x810, 32, 22), (0x800 | 1 << 14 | 1 << 24, 0, if e.number >= 3 { 25 } else { 21 })]
     {
         let a = Attributes { sample_type, read_format, branch_sample_type: 1 << 19, ..Attributes::EMPTY };
         let answer = compare_read(&[9, 0, 0, 0, 0, 0, 8, 0], &a, e.number, FIELDS, r, tally)?.err();
@@ -551,7 +551,7 @@ fn not_tried(tried: &Tried) -> Result<(), Difference> {
             }
         }
         for kind in [READ, SAMPLE] {
-            for format in 0..16 {
+            for format in 0..2u64 << e.last_read_bit {
                 if !tried.formats.contains(&(e.number, kind, format)) {
                     return Err(format!("edition {}: read format {format} in type {kind} was not tried", e.number));
                 }

@@ -43,14 +43,15 @@ words! { ksymbol: ADDR = 3, LEN = 4, KSYM_TYPE = 5, FLAGS = 6, NAME = 7, NAME_CO
 words! { bpf_event: BPF_TYPE = 3, FLAGS = 4, ID = 5, TAG = 6, TAG_COUNT = 7 }
 words! { cgroup: ID = 3, NAME = 4, NAME_COUNT = 5, NAME_FLAG = 6 }
 words! { text_poke: ADDR = 3, OLD_COUNT = 4, NEW_COUNT = 5, OLD = 6, NEW = 7 }
+words! { aux_output: HW_ID = 3 }
 words! { trailer: PID = 48, TID = 49, TIME = 50, ID = 51, STREAM_ID = 52, CPU = 53, IDENTIFIER = 54 }
 
 /// The name of a record type.
 pub fn type_name(kind: u64) -> &'static str {
-    const NAMES: [&str; 21] = [
+    const NAMES: [&str; 22] = [
         "-", "MMAP", "LOST", "COMM", "EXIT", "THROTTLE", "UNTHROTTLE", "FORK", "READ", "SAMPLE", "MMAP2", "AUX",
         "ITRACE_START", "LOST_SAMPLES", "SWITCH", "SWITCH_CPU_WIDE", "NAMESPACES", "KSYMBOL", "BPF_EVENT", "CGROUP",
-        "TEXT_POKE",
+        "TEXT_POKE", "AUX_OUTPUT_HW_ID",
     ];
     usize::try_from(kind).ok().and_then(|k| NAMES.get(k).copied()).unwrap_or("other")
 }
@@ -87,6 +88,7 @@ pub fn word_name(kind: u64, word: usize) -> String {
         18 => bpf_event::NAMES,
         19 => cgroup::NAMES,
         20 => text_poke::NAMES,
+        21 => aux_output::NAMES,
         _ => &[],
     };
     match names.iter().find(|(w, _)| *w == word) {

@@ -17,7 +17,7 @@
 #include "image.h"
 #include "show.h"
 
-enum { SOURCE = 4096, ROUNDS = 400, TYPES = 20 };
+enum { SOURCE = 4096, ROUNDS = 400, TYPES = 21 };
 
 static unsigned wrongs;
 static uint64_t tried;
@@ -399,13 +399,13 @@ static void check_header(const struct made *made)
 static void check_type(uint64_t type)
 {
     struct made made = { .plain = false };
-    made.image.edition = 3;
+    made.image.edition = 4;
     made.image.sample_type = some(UINT64_C(1) << 25);
     if (some(2) == 0)
         made.image.sample_type &= 0x7ffff;
     if ((made.image.sample_type & OLLSKUVAN_BIT_WEIGHT_STRUCT) != 0)
         made.image.sample_type &= ~OLLSKUVAN_BIT_WEIGHT;
-    made.image.read_format = some(16);
+    made.image.read_format = some(32);
     made.image.sample_id_all = (uint32_t)some(2);
     made.image.user_mask = some(0) & some(0);
     made.image.interrupt_mask = some(8) == 0 ? 0 : some(256);
@@ -451,7 +451,7 @@ static void write_image(const char *folder, const char *name, const struct image
     struct made made = { .image = *a, .plain = true };
     char path[4096];
     size_t at = START;
-    made.image.edition = 3;
+    made.image.edition = 4;
     memset(bytes, 0, sizeof bytes);
     for (uint64_t type = first; type <= last; type++) {
         fill(&made, type, misc_of(type, second));
@@ -483,17 +483,20 @@ static void write_image(const char *folder, const char *name, const struct image
 
 static void write_images(const char *folder)
 {
-    struct image a = { .sample_type = 0x1ffbfff, .read_format = 0xf, .sample_id_all = 1, .user_mask = 0xff0fff,
-        .interrupt_mask = 0x1c0, .edition = 3 };
+    struct image a = { .sample_type = 0x1ffbfff, .read_format = 0x1f, .sample_id_all = 1, .user_mask = 0xff0fff,
+        .interrupt_mask = 0x1c0, .edition = 4 };
     write_image(folder, "every-type", &a, true, 1, TYPES, false);
+    a.edition = 3;
+    write_image(folder, "every-type-edition-3", &a, true, 1, TYPES, false);
+    a.read_format = 0xf;
     a.edition = 1;
     write_image(folder, "every-type-edition-1", &a, true, 1, TYPES, false);
     a.edition = 2;
     a.sample_id_all = 0;
     write_image(folder, "every-type-edition-2", &a, true, 1, TYPES, false);
-    a.edition = 3;
+    a.edition = 4;
     a.sample_type = 0x7fff;
-    a.read_format = 7;
+    a.read_format = 0x17;
     write_image(folder, "every-type-plain", &a, false, 1, TYPES, false);
 }
 

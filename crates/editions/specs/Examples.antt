@@ -43,6 +43,13 @@ cases =
     ∷ case 3 8 0 (attributes 0 16 false) 22 true
     ∷ case 3 9 0 (attributes 16 16 false) 22 true
     ∷ case 3 9 0 (attributes 0 16 false) 0 false
+    ∷ case 4 8 0 (attributes 0 16 false) 0 false
+    ∷ case 4 9 0 (attributes 16 16 false) 0 false
+    ∷ case 4 8 0 (attributes 0 32 false) 22 true
+    -- type 21 is edition 4's
+    ∷ case 3 21 0 (attributes 0 0 false) 20 true
+    ∷ case 4 21 0 (attributes 0 0 false) 0 false
+    ∷ case 4 22 0 (attributes 0 0 false) 20 true
     -- the build-id form (P12)
     ∷ case 2 10 16384 (attributes 0 0 false) 23 true
     ∷ case 3 10 16384 (attributes 0 0 false) 0 false
@@ -80,6 +87,6 @@ pub as-wanted : found cases ≡ wanted cases
 unfolding unreadable first known bit outside depends bits
 as-wanted = refl
 
--- the way on: a fourth row rises too. kept: the laws of editions hold of any rows that rise
-pub four-rise : rising (editions ++ (edition 21 25 5 true true ∷ [])) ≡ true
-four-rise = refl
+-- the way on: a fifth row that knows as much as the fourth rises too. kept: the laws of editions hold of any rows that rise
+pub five-rise : rising (editions ++ (edition 21 25 5 true true ∷ [])) ≡ true
+five-rise = refl

@@ -12,7 +12,7 @@ use Rattle.meaning.specs.declared.Shape.the-variants.{Number}
 use Rattle.meaning.specs.declared.Width.the-variants.{W8}
 use Rattle.meaning.specs.Bytes.{bit, ones}
 use Rattle.meaning.specs.Items.{span}
-use Rattle.meaning.specs.Schema.{item, selected, keptWord, sampleFirst, readValues, sampleLast, trailer}
+use Rattle.meaning.specs.Schema.{item, selected, groupBytes, sampleFirst, readValues, sampleLast, trailer}
 use Rattle.meaning.specs.Records.{room}
 use Rattle.laws.specs.Bytes.{apart, and-true}
 use Rattle.blocks.specs.declared.Place.{Place}
@@ -56,13 +56,10 @@ paged a = after a ++ auxBytes (bit (a .sample) 20)
 
 -- the read values of a group: the count, the times where selected, the elements
 abbrev pub groupTimes : ℕ → List Item
-groupTimes format = item (bit format 0) (Number W8) ∷ item (bit format 1) (Number W8) ∷ item false (Number W8) ∷ keptWord ∷ []
-
-abbrev pub groupUnit : ℕ → ℕ
-groupUnit format = cond (bit format 2) 16 8
+groupTimes format = item (bit format 0) (Number W8) ∷ item (bit format 1) (Number W8) ∷ item false (Number W8) ∷ item false (Number W8) ∷ []
 
 abbrev pub groupList : ℕ → List Item
-groupList format = item false (Number W8) ∷ countedWith (groupTimes format) (groupUnit format)
+groupList format = item false (Number W8) ∷ countedWith (groupTimes format) (groupBytes format)
 
 -- the bytes of the count and the times
 unfoldable pub groupFixed : ℕ → ℕ
@@ -116,24 +113,21 @@ group-bound format = (omega arith, by (bit format 0) (bit format 1))
     by false true = omega arith
     by false false = omega arith
 
-pub unit-on : (format : ℕ) → bit format 2 ≡ true → groupUnit format ≡ 16
-unit-on format e = rw e
-
-pub unit-off : (format : ℕ) → bit format 2 ≡ false → groupUnit format ≡ 8
-unit-off format e = rw e
-
-pub unit-bound : (format : ℕ) → (1 ≤ groupUnit format) × (groupUnit format ≤ 24)
-unit-bound format = by (bit format 2)
+-- blocks::elements takes entries of at most 24 bytes: the longest of a group has value, id and lost count
+pub unit-bound : (format : ℕ) → (1 ≤ groupBytes format) × (groupBytes format ≤ 24)
+unit-bound format = by (bit format 2) (bit format 4)
   where
-    by : (b : Bool) → (1 ≤ cond b 16 8) × (cond b 16 8 ≤ 24)
-    by true = (omega arith, omega arith)
-    by false = (omega arith, omega arith)
+    by : (i l : Bool) → (1 ≤ cond i (cond l 24 16) (cond l 16 8)) × (cond i (cond l 24 16) (cond l 16 8) ≤ 24)
+    by true true = (omega arith, omega arith)
+    by true false = (omega arith, omega arith)
+    by false true = (omega arith, omega arith)
+    by false false = (omega arith, omega arith)
 
-pub group-ends : (xs : List ℕ) (format at : ℕ) (q : Place) → at ≤ length xs → q ≡ countedPlace xs at (groupFixed format) (groupUnit format) → Ends xs (groupList format) at q
+pub group-ends : (xs : List ℕ) (format at : ℕ) (q : Place) → at ≤ length xs → q ≡ countedPlace xs at (groupFixed format) (groupBytes format) → Ends xs (groupList format) at q
 unfolding groupFixed
 group-ends xs format at q l e =
-    off-ends xs (Number W8) (countedWith (groupTimes format) (groupUnit format)) at q
-    (counted-ends xs at (8 + total (groupTimes format)) (groupUnit format) (groupTimes format) (times-steady format) refl l q e)
+    off-ends xs (Number W8) (countedWith (groupTimes format) (groupBytes format)) at q
+    (counted-ends xs at (8 + total (groupTimes format)) (groupBytes format) (groupTimes format) (times-steady format) refl l q e)
 
 module _ (xs : List ℕ) (a : Attributes) (k : ℕ) (e : k ≡ firstSum a) (p : Place) (h : (is : List Item) → steady is ≡ true → total is ≡ k → Ends xs is 8 p) where
   pub front-plain : groups a ≡ false → Ends xs (front a) 8 p
@@ -156,7 +150,7 @@ module _ (xs : List ℕ) (a : Attributes) (k : ℕ) (e : k ≡ firstSum a) (p : 
       by true g = one-refuses xs (sampleFirst a) (readValues a (bit (a .sample) 4)) 8 p (lone g) z
       by false g = front-plain g
 
-  pub front-group : groups a ≡ true → p .why ≡ 0 → (q : Place) → q ≡ countedPlace xs (p .at) (groupFixed (a .format)) (groupUnit (a .format)) → Ends xs (front a) 8 q
+  pub front-group : groups a ≡ true → p .why ≡ 0 → (q : Place) → q ≡ countedPlace xs (p .at) (groupFixed (a .format)) (groupBytes (a .format)) → Ends xs (front a) 8 q
   front-group g z q r =
       let b = and-true (bit (a .sample) 4) (bit (a .format) 3) g in
       let v : readValues a (bit (a .sample) 4) ≡ groupList (a .format) = ap (readValues a) (b .0) ∙ group-values a (b .1) in

@@ -16,7 +16,7 @@ use Rattle.meaning.specs.declared.Shape.the-variants.{Number, Ignored, Count, T
 use Rattle.meaning.specs.declared.Width.the-variants.{W2, W4, W8}
 use Rattle.meaning.specs.Bytes.{numberAt, zeroIn}
 use Rattle.meaning.specs.Items.{cursor, span, rule, holds, counted, before, shapeStep, step, walk}
-use Rattle.meaning.specs.Schema.{item, always, u32, u64, mmap2}
+use Rattle.meaning.specs.Schema.{item, always, u32, u64, groupBytes, mmap2}
 use Rattle.meaning.specs.Records.{closed}
 use Rattle.laws.specs.Shapes.{shape-out, shape-bad, shape-in, name-in, name-none, name-early}
 use Rattle.blocks.specs.declared.Place.{Place}
@@ -24,7 +24,7 @@ use Rattle.blocks.specs.Seen.{place, Leaves, Closes, closedAt, walk-append, clo
 use Rattle.blocks.specs.Steady.{oneWidth, widthOf, steady, total, steady-in, steady-leaves, steady-refused}
 use Rattle.blocks.specs.Blocks.{countedWith, countedPlace, counted-leaves, count-in, count-out, times-in, times-out, goes, halts}
 use Rattle.blocks.specs.Scan.{nameOk}
-use Rattle.exact.specs.Stretches.{groupTimes, groupUnit, groupFixed, groupList}
+use Rattle.exact.specs.Stretches.{groupTimes, groupFixed, groupList}
 
 -- ---- names
 
@@ -174,11 +174,11 @@ module _ (F : List ℕ) where
 module _ (F : List ℕ) (format : ℕ) where
   pub group-short : 8 ≤ length F → length F < 16 → Closes F (groupRead format) 8 30
   unfolding steady oneWidth total widthOf span
-  group-short l h = elements-short F (u32 ∷ u32 ∷ item false (Number W8) ∷ []) (groupTimes format) (8 + total (groupTimes format)) (groupUnit format) refl refl refl refl l h
+  group-short l h = elements-short F (u32 ∷ u32 ∷ item false (Number W8) ∷ []) (groupTimes format) (8 + total (groupTimes format)) (groupBytes format) refl refl refl refl l h
 
-  pub group-closed : 16 ≤ length F → (p : Place) → p ≡ countedPlace F 16 (groupFixed format) (groupUnit format) → Closes F (groupRead format) 8 (closedAt (length F) p)
+  pub group-closed : 16 ≤ length F → (p : Place) → p ≡ countedPlace F 16 (groupFixed format) (groupBytes format) → Closes F (groupRead format) 8 (closedAt (length F) p)
   unfolding steady oneWidth total widthOf span groupFixed
-  group-closed h p r = elements-closed F (u32 ∷ u32 ∷ item false (Number W8) ∷ []) (groupTimes format) (8 + total (groupTimes format)) (groupUnit format) refl refl refl refl h p r
+  group-closed h p r = elements-closed F (u32 ∷ u32 ∷ item false (Number W8) ∷ []) (groupTimes format) (8 + total (groupTimes format)) (groupBytes format) refl refl refl refl h p r
 
 -- ---- TEXT_POKE
 

@@ -1,6 +1,7 @@
 // The exact answer for a record's fields, by kind of layout: a SAMPLE in stretches, a name after fields of one width, lists that the record counts.
 // Each is given what the attributes fix, as sums; none walks a list of items.
 ghost use mathlib.Core.Path.{_≡_};
+ghost use Rattle.meaning.specs.Schema.{groupBytes};
 ghost use Rattle.blocks.specs.Seen.{closedAt};
 ghost use Rattle.blocks.specs.Steady.{sizes};
 use blocks::Place;
@@ -25,6 +26,19 @@ pub const AFTER: usize = 5;
 pub const INTERRUPT: usize = 6;
 
 pub const GROUP: usize = 7;
+
+// The bytes of a group's entry: a value, its id by bit 2 of the read format, its lost count by bit 4.
+fn unit(format: u64) -> usize
+    ensures { λ r. ⌜ r ≡ groupBytes format ⌝ }
+{
+    let ids = wire::has_bit(format, 2);
+    let lost = wire::has_bit(format, 4);
+    if ids {
+        if lost { 24 } else { 16 }
+    } else {
+        if lost { 16 } else { 8 }
+    }
+}
 
 // "31: bytes left over after the last field", if nothing was refused before.
 pub fn ended(end: usize, c: Place) -> u16

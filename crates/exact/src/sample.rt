@@ -24,7 +24,7 @@ fn front(s: &[u8], a: Attributes, sums: &[u64; 8]) -> Place
     if wire::has_bit(a.sample, 4) {
         if wire::has_bit(a.format, 3) {
             let at = c.at;
-            let unit = if wire::has_bit(a.format, 2) { 16 } else { 8 };
+            let unit = crate::unit(a.format);
             return blocks::elements(s, at, sums[crate::GROUP] as usize, unit);
         }
     }

@@ -52,7 +52,7 @@ pub fn namespaces(f: &[u8]) -> u16
     crate::ended(f.len(), blocks::elements(f, 16, 8, 16))
 }
 
-// READ of a group: values of 8 bytes, 16 with the id, counted at 16; the times stand between.
+// READ of a group: entries of 8, 16 or 24 bytes, counted at 16; the times stand between.
 pub fn group_read(f: &[u8], format: u64, fixed: usize) -> u16
     requires { ⌜ 8 ≤ length (now f) ⌝ }
     requires { ⌜ length (now f) < 65536 ⌝ }
@@ -62,7 +62,7 @@ pub fn group_read(f: &[u8], format: u64, fixed: usize) -> u16
     if f.len() < 16 {
         return 30;
     }
-    let unit = if wire::has_bit(format, 2) { 16 } else { 8 };
+    let unit = crate::unit(format);
     crate::ended(f.len(), blocks::elements(f, 16, fixed, unit))
 }
 

@@ -1,5 +1,5 @@
 -- "Trailer, read values and registers share one fact over the count": eight bytes for each bit of a mask that is set. `eights-ones` is that fact;
--- the trailer is its case at the mask 66,246, the read values at 7 (or 3 and 4, in a group), the registers at all 64 bits. Assumes nothing.
+-- the trailer is its case at the mask 66,246, the read values at 23 (or 3 and 20, in a group), the registers at all 64 bits. Assumes nothing.
 use mathlib.Core.Path.{_≡_, refl, sym, ap, ap₂, _∙_}
 use mathlib.Core.Bool.{Bool, true, false, cond, not, _&&_}
 use mathlib.Core.List.{List, [], _∷_, _++_}
@@ -15,7 +15,7 @@ use Rattle.meaning.specs.declared.Attributes.{Attributes}
 use Rattle.meaning.specs.declared.Shape.the-variants.{Registers}
 use Rattle.meaning.specs.Bytes.{bit, ones}
 use Rattle.meaning.specs.Items.{cursor, span}
-use Rattle.meaning.specs.Schema.{trailer, readValues}
+use Rattle.meaning.specs.Schema.{trailer, groupBytes, readValues}
 use Rattle.meaning.specs.Records.{roomShape, room}
 
 -- the bits of a mask, from number i on, w of them looked at
@@ -127,20 +127,23 @@ trailer-count kind a = by (a .all) (eqb kind 9) (eights-ones (a .sample) 66246)
     by true true e = refl
     by true false e = let s = two-fours (on 1) in let t = two-fours (on 7) in omega (arith, e, s, t)
 
--- ---- read values. Without bit 3: the value, and a word for each bit of 7; with it: n, a word for each bit of 3, and entries of a value and a word
--- for bit 2
+-- ---- read values. Without bit 3: the value, and a word for each bit of 23, which are 0, 1, 2 and 4; with it: n, a word for each bit of 3, and entries
+-- of a value and a word for each bit of 20, which are 2 and 4
 
-pub read-count : (a : Attributes) → bit (a .format) 3 ≡ false → room (readValues a true) ≡ 8 + 8 * ones 64 (bitAnd (a .format) 7)
+pub read-count : (a : Attributes) → bit (a .format) 3 ≡ false → room (readValues a true) ≡ 8 + 8 * ones 64 (bitAnd (a .format) 23)
 unfolding room roomShape bitsFrom eights
-read-count a h = let e = eights-ones (a .format) 7 in rw h (omega (arith, e))
+read-count a h = let e = eights-ones (a .format) 23 in rw h (omega (arith, e))
 
-pub entry-count : (a : Attributes) → cond (bit (a .format) 2) 16 8 ≡ 8 + 8 * ones 64 (bitAnd (a .format) 4)
+pub entry-count : (format : ℕ) → groupBytes format ≡ 8 + 8 * ones 64 (bitAnd format 20)
 unfolding bitsFrom eights
-entry-count a = by (bit (a .format) 2) (eights-ones (a .format) 4)
+entry-count format = by (bit format 2) (bit format 4) (eights-ones format 20)
   where
-    by : (t : Bool) → 8 * ones 64 (bitAnd (a .format) 4) ≡ cond t 8 0 + 0 → cond {A = ℕ} t 16 8 ≡ 8 + 8 * ones 64 (bitAnd (a .format) 4)
-    by true e = omega (arith, e)
-    by false e = omega (arith, e)
+    by : (t u : Bool) → 8 * ones 64 (bitAnd format 20) ≡ cond t 8 0 + (cond u 8 0 + 0)
+        → cond {A = ℕ} t (cond u 24 16) (cond u 16 8) ≡ 8 + 8 * ones 64 (bitAnd format 20)
+    by true true e = omega (arith, e)
+    by true false e = omega (arith, e)
+    by false true e = omega (arith, e)
+    by false false e = omega (arith, e)
 
 -- ---- registers: every bit of a mask of 64 counts
 

@@ -18,15 +18,15 @@ edition kinds samples formats builds index = record { kinds = kinds; samples = s
 
 -- | 1 | bits 0 to 15 | types 1 to 9 |   | 2 | 0 to 18 | 1 to 15 |   | 3 | 0 to 24 | 1 to 20 |
 -- "All three know read-format bits 0 to 3. Only edition 3 knows the build-id form of MMAP2." M-102: "edition 3 reads and writes the word if
--- bit 17 is set; editions 1 and 2 refuse such a SAMPLE"
+-- bit 17 is set; editions 1 and 2 refuse such a SAMPLE". M-110: "Edition 4 is edition 3 with these", which are read-format bit 4 and type 21
 abbrev pub editions : List Known
-editions = edition 9 16 4 false false ∷ edition 15 19 4 false false ∷ edition 20 25 4 true true ∷ []
+editions = edition 9 16 4 false false ∷ edition 15 19 4 false false ∷ edition 20 25 4 true true ∷ edition 21 25 5 true true ∷ []
 
 -- what a reader knows that knows no type, no bit and no form
 abbrev pub nothingKnown : Known
 nothingKnown = edition 0 0 0 false false
 
--- the editions of a table are counted from 1; refusal 2: "edition not 1, 2 or 3"
+-- the editions of a table are counted from 1; refusal 2: "edition not 1, 2 or 3", M-110: "refusal 2 now admits 1 to 4"
 abbrev pub allowed : List Known → ℕ → Bool
 allowed rows e = leb 1 e && leb e (length rows)
 
@@ -99,8 +99,8 @@ depends t misc a =
 -- ---- the refusals
 
 -- 20: "type 0 or above the edition's"; 21: "sample type has a bit the edition doesn't know, and .."; 22: "read format has bit 4 or higher,
--- and .."; 23: "MMAP2 with misc bit 14, edition below 3"; 25 (M-102): "editions 1 and 2 refuse such a SAMPLE with 25; a SAMPLE with
--- sample bit 11 and a branch bit from 19 up is 25 in every edition .. checked after 23 and before 24"
+-- and ..", M-110: "22 starts at bit 5 for edition 4 alone"; 23: "MMAP2 with misc bit 14, edition below 3"; 25 (M-102): "editions 1 and 2 refuse
+-- such a SAMPLE with 25; a SAMPLE with sample bit 11 and a branch bit from 19 up is 25 in every edition .. checked after 23 and before 24"
 abbrev pub unknowns : Known → ℕ → ℕ → Attributes → List Refusal
 unknowns k t misc a =
     refusal (eqb t 0 || ltb (k .kinds) t) 20

@@ -32,12 +32,13 @@ u32 = always (Number W4)
 abbrev pub u64 : Item
 u64 = always (Number W8)
 
--- a word that a later request gives a meaning: it is in no record of this version
-abbrev pub keptWord : Item
-keptWord = item false (Number W8)
+-- the bytes of a group's entry by the read format: value, id (bit 2), lost count (bit 4), each of eight bytes
+abbrev pub groupBytes : ℕ → ℕ
+groupBytes format = cond (bit format 2) (cond (bit format 4) 24 16) (cond (bit format 4) 16 8)
 
 -- "Read values: without bit 3, value, then enabled time (bit 0), running time (1), id (2). With bit 3: n, the two times where selected, then n
--- times value and id where selected." The kept word is for M-110's lost count
+-- times value and id where selected." M-110, bit 4: "a lost count follows each counter's value and, where selected, id; without bit 3 it is the last
+-- read value"
 abbrev pub readValues : Attributes → Bool → List Item
 readValues a on =
     item (on && not (bit (a .format) 3)) (Number W8)
@@ -45,8 +46,8 @@ readValues a on =
     ∷ item (on && bit (a .format) 0) (Number W8)
     ∷ item (on && bit (a .format) 1) (Number W8)
     ∷ item (on && (not (bit (a .format) 3) && bit (a .format) 2)) (Number W8)
-    ∷ keptWord
-    ∷ item (on && bit (a .format) 3) (Times (cond (bit (a .format) 2) 16 8))
+    ∷ item (on && (not (bit (a .format) 3) && bit (a .format) 4)) (Number W8)
+    ∷ item (on && bit (a .format) 3) (Times (groupBytes (a .format)))
     ∷ []
 
 -- "SAMPLE (9), in this order where selected: identifier 16, ip 0, pid and tid 1, time 2, addr 3, id 6, stream id 9, cpu and res 7, period 8"
@@ -152,6 +153,7 @@ schemas misc a =
     ∷ (u16 ∷ u16 ∷ u32 ∷ always (Bytes 8) ∷ [])  -- 18 BPF_EVENT
     ∷ (u64 ∷ always Name ∷ [])  -- 19 CGROUP
     ∷ (u64 ∷ always (Count W2) ∷ always (Count W2) ∷ always (Earlier 1) ∷ always (Times 1) ∷ always Pad ∷ [])  -- 20 TEXT_POKE
+    ∷ (u64 ∷ [])  -- 21 AUX_OUTPUT_HW_ID, M-110: "one 64-bit hardware id and the trailer"
     ∷ []
 
 abbrev pub schema : ℕ → ℕ → Attributes → List Item

@@ -1,6 +1,5 @@
 -- The names of a value's words: for each record type the words of its items in order, as document 01 spells the fields. A list or a name has a
--- place and, where no word of the record holds it, a count of its own; `kept` words are in no record of this version. That there are as many
--- names as words is a theorem (laws, Named).
+-- place and, where no word of the record holds it, a count of its own. That there are as many names as words is a theorem (laws, Named).
 -- Assumes nothing: these are definitions.
 use Prim.Native.Nat.{ℕ, _-_}
 use mathlib.Core.Bool.{cond}
@@ -13,23 +12,24 @@ pub data Word : Type 0 where
   type misc size : Word
   pid tid ppid ptid time addr len pgoff name nameCount nameFlag : Word
   id lost streamId identifier cpu ip period : Word
-  value valuesCount enabled running keptLost values : Word
+  value valuesCount enabled running values : Word
   callchainCount callchain rawSize raw branchesCount hardwareIndex branches : Word
   userAbi userRegisters userRegistersCount stackSize stack filled : Word
   weight dataSource transaction interruptAbi interruptRegisters interruptRegistersCount : Word
   physicalAddress cgroup dataPageSize codePageSize auxSize aux : Word
   maj min ino generation buildIdSize buildId prot flags : Word
   offset namespacesCount namespaces kind tag tagCount : Word
-  oldLength newLength oldText newText : Word
+  oldLength newLength oldText newText hardwareId : Word
   none : Word
 
 -- "Header: type u32, misc u16, size u16"
 abbrev pub headerNames : List Word
 headerNames = type ∷ misc ∷ size ∷ []
 
--- "Read values: without bit 3, value, then enabled time (bit 0), running time (1), id (2). With bit 3: n, .."
+-- "Read values: without bit 3, value, then enabled time (bit 0), running time (1), id (2). With bit 3: n, .." M-110: the lost count
+-- "is the last read value" without bit 3
 abbrev pub readNames : List Word
-readNames = value ∷ valuesCount ∷ enabled ∷ running ∷ id ∷ keptLost ∷ values ∷ []
+readNames = value ∷ valuesCount ∷ enabled ∷ running ∷ id ∷ lost ∷ values ∷ []
 
 -- "SAMPLE (9), in this order where selected: identifier 16, ip 0, pid and tid 1, time 2, addr 3, id 6, stream id 9, cpu and res 7, period 8,
 -- read values 4, callchain 5 .., raw 10 .., branches 11 .., user registers 12, user stack 13 .., weight 14 or 24, data source 15, transaction 17,
@@ -67,6 +67,7 @@ wordNames =
     ∷ (kind ∷ flags ∷ id ∷ tag ∷ tagCount ∷ [])  -- 18 BPF_EVENT: "type, flags u16; id u32; 8 bytes"
     ∷ (id ∷ name ∷ nameCount ∷ nameFlag ∷ [])  -- 19 CGROUP: "id u64; name"
     ∷ (addr ∷ oldLength ∷ newLength ∷ oldText ∷ newText ∷ [])  -- 20 TEXT_POKE: "addr u64; old, new length u16; both texts; .. padding"
+    ∷ (hardwareId ∷ [])  -- 21 AUX_OUTPUT_HW_ID: "one 64-bit hardware id"
     ∷ []
 
 -- "pid and tid (bit 1), time (2), id (6), stream id (9), cpu and res (7), identifier (16)"

@@ -31,7 +31,7 @@ use Rattle.plan.specs.Marks.{lastType, openMark, stretchedMark, refusedM
 abbrev pub bases : List ℕ
 bases =
     131092 ∷ 65576 ∷ 24 ∷ 65552 ∷ 32 ∷ 32 ∷ 32 ∷ 32 ∷ 8 ∷ 8 ∷ 65608 ∷ 32 ∷ 16 ∷ 16 ∷ 8 ∷ 16 ∷ 65536 ∷ 65560 ∷ 24 ∷ 65552 ∷ 65536
-    ∷ 131092 ∷ 131092 ∷ 131092 ∷ 131092 ∷ 131092 ∷ 131092 ∷ 131092 ∷ 131092 ∷ 131092 ∷ 131092 ∷ 131092 ∷ []
+    ∷ 16 ∷ 131092 ∷ 131092 ∷ 131092 ∷ 131092 ∷ 131092 ∷ 131092 ∷ 131092 ∷ 131092 ∷ 131092 ∷ 131092 ∷ []
 
 -- with the trailer's bytes
 abbrev pub withTrailer : ℕ → ℕ → ℕ

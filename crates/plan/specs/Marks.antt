@@ -33,7 +33,7 @@ use Rattle.laws.specs.Whole.{length-fields}
 
 -- no edition has a type above it
 abbrev pub lastType : ℕ
-lastType = 20
+lastType = 21
 
 -- below it a size; from it on, how the bytes decide; from `refusedMark` on, the refusal
 abbrev pub openMark : ℕ

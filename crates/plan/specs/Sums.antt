@@ -34,7 +34,7 @@ sum-none x m e = rw e
 
 -- read values, where there is no group
 unfoldable pub readSum : Attributes → ℕ
-readSum a = 8 + sumOver (a .format) 7
+readSum a = 8 + sumOver (a .format) 23
 
 unfoldable pub readsOf : Attributes → ℕ
 readsOf a = cond (bit (a .sample) 4 && not (bit (a .format) 3)) (readSum a) 0
@@ -72,7 +72,7 @@ first-count a =
 pub read-count : (a : Attributes) → bit (a .format) 3 ≡ false → total (readValues a true) ≡ readSum a
 unfolding total widthOf span bitsFrom eights readSum
 read-count a h =
-    let e : sumOver (a .format) 7 ≡ eights (a .format) (0 ∷ 1 ∷ 2 ∷ []) = eights-ones (a .format) 7 in
+    let e : sumOver (a .format) 23 ≡ eights (a .format) (0 ∷ 1 ∷ 2 ∷ 4 ∷ []) = eights-ones (a .format) 23 in
     rw h (omega (arith, e))
 
 reads-none : (a : Attributes) → total (readValues a false) ≡ 0
@@ -146,8 +146,8 @@ pub reads-bound : (a : Attributes) → (readsOf a ≤ 520) × (readsOf a % 8 ≡
 unfolding readsOf readSum
 reads-bound a = by (bit (a .sample) 4 && not (bit (a .format) 3))
   where
-    by : (b : Bool) → (cond b (8 + sumOver (a .format) 7) 0 ≤ 520) × (cond b (8 + sumOver (a .format) 7) 0 % 8 ≡ 0)
-    by true = let h = ones-most 64 (bitAnd (a .format) 7) in (omega (arith, h), omega arith)
+    by : (b : Bool) → (cond b (8 + sumOver (a .format) 23) 0 ≤ 520) × (cond b (8 + sumOver (a .format) 23) 0 % 8 ≡ 0)
+    by true = let h = ones-most 64 (bitAnd (a .format) 23) in (omega (arith, h), omega arith)
     by false = (omega arith, omega arith)
 
 pub read-eights : (a : Attributes) → readSum a % 8 ≡ 0

@@ -21,8 +21,8 @@ pub const STRETCHED: u64 = 65537;
 
 pub const REFUSED: u64 = 131072;
 
-// Types 0 to 20 have a row in document 01; what is above is 20 in every edition.
-const TYPES: usize = 21;
+// Types 0 to 21 have a mark of their own; what is above is 20 in every edition.
+const TYPES: usize = 22;
 
 // The marks of all types, under an edition that has them; READ (8) and SAMPLE (9) are set afterwards. As a literal it is 32 stores: an
 // array that is indexed by a variable would be copied at each use.
@@ -52,7 +52,7 @@ fn bases(t: u64) -> [u64; 32]
         24 + t,
         65552,
         65536,
-        131092,
+        16 + t,
         131092,
         131092,
         131092,

@@ -27,11 +27,16 @@ fn eights(x: u64, mask: u64) -> u64
     (wire::count_ones(y) * 8) as u64
 }
 
-// Read values that are no group: the value, and a word for each of bits 0, 1 and 2.
+// Enabled and running time (0, 1), id (2), lost count (4); of a group the times alone stand before its elements.
+const READ_BITS: u64 = 23;
+
+const TIME_BITS: u64 = 3;
+
+// Read values that are no group: the value, and a word for each of bits 0, 1, 2 and 4.
 pub fn read_values(a: Attributes) -> u64
     ensures { λ r. ⌜ (r ≡ readSum a) × (r ≤ 520) ⌝ }
 {
-    8 + eights(a.format, 7)
+    8 + eights(a.format, READ_BITS)
 }
 
 // Those of a SAMPLE.
@@ -68,6 +73,6 @@ pub fn sums(a: Attributes) -> [u64; 8]
     let early = eights(x, EARLY_BITS);
     let after = eights(x, AFTER_BITS);
     let interrupt = registers(wire::has_bit(x, 18), a.interrupt);
-    let group = 8 + eights(a.format, 3);
+    let group = 8 + eights(a.format, TIME_BITS);
     [trail, first, last, user, early, after, interrupt, group]
 }

@@ -358,7 +358,7 @@ module _ (e : ℕ) (a : Attributes) (xs : List ℕ) (ok : allowed editions e ≡
   pub answers-21 : (told ≡ 21 → (type-unknown ≡ false) × (bit-unknown ≡ true)) × ((type-unknown ≡ false) × (bit-unknown ≡ true) → told ≡ 21)
   answers-21 = chain (lead type-unknown 20 21 from-21 (λ h. omega (arith, h)) (hit bit-unknown 21 from-22 (other 21 after-22 refl from-22 in-22)))
 
-  -- 22: "read format has bit 4 or higher, and the record is READ or a SAMPLE with bit 4 of the sample type"
+  -- 22: "read format has bit 4 or higher, and the record is READ or a SAMPLE with bit 4 of the sample type"; "22 starts at bit 5 for edition 4 alone"
   pub answers-22 : (told ≡ 22 → (type-unknown ≡ false) × ((bit-unknown ≡ false) × (format-unknown ≡ true)))
       × ((type-unknown ≡ false) × ((bit-unknown ≡ false) × (format-unknown ≡ true)) → told ≡ 22)
   answers-22 =

@@ -9,7 +9,7 @@ use Rattle.meaning.specs.declared.Attributes.{Attributes}
 use Rattle.meaning.specs.declared.Shape.the-variants.{Registers}
 use Rattle.meaning.specs.Bytes.{bit, ones}
 use Rattle.meaning.specs.Items.{cursor, span}
-use Rattle.meaning.specs.Schema.{trailer, readValues}
+use Rattle.meaning.specs.Schema.{trailer, groupBytes, readValues}
 use Rattle.meaning.specs.Records.{room}
 use Rattle.laws.specs.Counting.{bitsFrom, eights, eights-ones, trailer-count, read-count, entry-count, register-bytes}
 
@@ -21,11 +21,12 @@ one-fact = eights-ones
 pub trailer-bytes : (kind : ℕ) (a : Attributes) → room (trailer kind a) ≡ cond (a .all && not (eqb kind 9)) (8 * ones 64 (bitAnd (a .sample) 66246)) 0
 trailer-bytes = trailer-count
 
--- read values without bit 3: the value, and a word for each bit of 7. An entry of a group: a value, and a word for bit 2
-pub read-bytes : (a : Attributes) → bit (a .format) 3 ≡ false → room (readValues a true) ≡ 8 + 8 * ones 64 (bitAnd (a .format) 7)
+-- read values without bit 3: the value, and a word for each bit of 23 (0, 1, 2 and 4). An entry of a group: a value, and a word for each bit of 20
+-- (2 and 4)
+pub read-bytes : (a : Attributes) → bit (a .format) 3 ≡ false → room (readValues a true) ≡ 8 + 8 * ones 64 (bitAnd (a .format) 23)
 read-bytes = read-count
 
-pub entry-bytes : (a : Attributes) → cond (bit (a .format) 2) 16 8 ≡ 8 + 8 * ones 64 (bitAnd (a .format) 4)
+pub entry-bytes : (format : ℕ) → groupBytes format ≡ 8 + 8 * ones 64 (bitAnd format 20)
 entry-bytes = entry-count
 
 -- "as many registers as the mask has ones": each of 64 bits counts

@@ -4,8 +4,8 @@
 -- by 01's rules 20 to 23, lies outside what that edition knows." With M-102 25 "stands beside rules 20 to 23, the branch sample bits beside the selected
 -- bits".
 -- `depends` lists what a record's reading depends on, with no edition for an argument; `outside` says that something of a list lies outside; `Fair`
--- holds two answers to it. Each theorem stands twice: over any table of editions that rises, so that a fourth edition is a row and not a proof,
--- and over document 01's table. Assumes nothing.
+-- holds two answers to it. Each theorem stands twice: over any table of editions that rises, so that an edition more is a row and not a proof
+-- (the fourth, of M-110, was), and over the table of the four: "Show demand 3 once over all pairs of editions". Assumes nothing.
 use mathlib.Core.Path.{_≡_, refl, sym, ap, ap₂, _∙_}
 use mathlib.Core.List.{List}
 use mathlib.Core.Bool.{Bool, true, false, cond, _&&_}

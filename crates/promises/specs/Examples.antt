@@ -94,6 +94,7 @@ cases =
     ∷ checked 1 (attributes (2 ^ 25)) (rec 9 0 []) 21
     ∷ checked 2 (attributes (2 ^ 25)) (rec 9 0 []) 21
     ∷ checked 3 (attributes (2 ^ 25)) (rec 9 0 []) 21
+    ∷ checked 4 (attributes (2 ^ 25)) (rec 9 0 []) 21
     -- P12 MMAP2 with misc 0x4000: edition 2 gives 23
     ∷ checked 2 (attributes 0) (rec 10 16384 (zeros 72)) 23
     ∷ []

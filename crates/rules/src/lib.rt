@@ -10,11 +10,11 @@ use meaning::Known;
 
 // ---- editions
 
-// Refusal 2: "edition not 1, 2 or 3".
+// Refusal 2: "edition not 1, 2 or 3"; M-110: "refusal 2 now admits 1 to 4".
 pub fn allowed(e: u64) -> bool
     ensures { λ r. ⌜ r ≡ allowed editions e ⌝ }
 {
-    (1 <= e) & (e <= 3)
+    (1 <= e) & (e <= 4)
 }
 
 // What an edition knows: a row of the table, or nothing.
@@ -40,6 +40,13 @@ pub fn edition(e: u64) -> Known
             kinds: 20,
             samples: 25,
             formats: 4,
+            builds: true,
+            index: true,
+        },
+        4 => Known {
+            kinds: 21,
+            samples: 25,
+            formats: 5,
             builds: true,
             index: true,
         },
@@ -86,7 +93,8 @@ fn sample_unknown(k: Known, kind: u64, a: Attributes) -> bool
     past(a.sample, k.samples) & ((kind == 9) | a.all)
 }
 
-// 22: "read format has bit 4 or higher, and the record is READ or a SAMPLE with bit 4 of the sample type".
+// 22: "read format has bit 4 or higher, and the record is READ or a SAMPLE with bit 4 of the sample type"; M-110: "22
+// starts at bit 5 for edition 4 alone".
 fn format_unknown(k: Known, kind: u64, a: Attributes) -> bool
     ensures { λ r. ⌜ r ≡ (leb (2 ^ k .formats) (a .format) && hasReadValues kind a) ⌝ }
 {

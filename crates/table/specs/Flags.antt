@@ -14,7 +14,7 @@ use Rattle.meaning.specs.Values.{tell, width, bodyWords}
 
 -- by type, from 0 on: MMAP 10, COMM 7, MMAP2 18, KSYMBOL 9, CGROUP 6
 abbrev pub flags : List ℕ
-flags = 0 ∷ 10 ∷ 0 ∷ 7 ∷ 0 ∷ 0 ∷ 0 ∷ 0 ∷ 0 ∷ 0 ∷ 18 ∷ 0 ∷ 0 ∷ 0 ∷ 0 ∷ 0 ∷ 0 ∷ 9 ∷ 0 ∷ 6 ∷ 0 ∷ []
+flags = 0 ∷ 10 ∷ 0 ∷ 7 ∷ 0 ∷ 0 ∷ 0 ∷ 0 ∷ 0 ∷ 0 ∷ 18 ∷ 0 ∷ 0 ∷ 0 ∷ 0 ∷ 0 ∷ 0 ∷ 9 ∷ 0 ∷ 6 ∷ 0 ∷ 0 ∷ []
 
 abbrev pub flagAt : ℕ → ℕ
 flagAt kind = getD flags kind 0

@@ -13,7 +13,7 @@ use Rattle.meaning.specs.declared.Shape.{Shape}
 use Rattle.meaning.specs.declared.Shape.the-variants.{Number, Ignored, Count, Size, Times, Earlier, Registers, Filled, Abi, Limit, Listed, Bytes, Pad, Name}
 use Rattle.meaning.specs.declared.Width.the-variants.{W2, W4, W8}
 use Rattle.meaning.specs.Bytes.{bit}
-use Rattle.meaning.specs.Schema.{item, trails}
+use Rattle.meaning.specs.Schema.{item, groupBytes, trails}
 
 -- the rows of the types' fields, one type after the other, then those of the trailer
 abbrev pub rows : List ℕ
@@ -27,7 +27,7 @@ rows =
     1025 ∷ 1025 ∷ 1025 ∷ 1025 ∷ 1024 ∷  -- 7 FORK
     1025 ∷ 1025 ∷ 1344 ∷ 1379 ∷ 1408 ∷ 1440 ∷ 1472 ∷ 1056 ∷ 1387 ∷  -- 8 READ
     512 ∷ 0 ∷ 33 ∷ 33 ∷ 64 ∷ 96 ∷ 192 ∷ 288 ∷ 225 ∷ 247 ∷ 256 ∷  -- 9 SAMPLE: the first fields
-    1184 ∷ 1219 ∷ 1248 ∷ 1280 ∷ 1312 ∷ 1056 ∷ 1227 ∷  -- its read values
+    1184 ∷ 1219 ∷ 1248 ∷ 1280 ∷ 1312 ∷ 1536 ∷ 1227 ∷  -- its read values
     163 ∷ 168 ∷ 325 ∷ 327 ∷ 355 ∷ 1504 ∷ 362 ∷ 399 ∷ 397 ∷ 422 ∷ 423 ∷ 430 ∷  -- its lists
     1152 ∷ 480 ∷ 544 ∷ 592 ∷ 589 ∷ 608 ∷ 672 ∷ 704 ∷ 736 ∷ 646 ∷ 647 ∷  -- its last fields
     1025 ∷ 1025 ∷ 1024 ∷ 1024 ∷ 1024 ∷ 1121 ∷ 1121 ∷ 1120 ∷ 1120 ∷ 1105 ∷ 1110 ∷ 1106 ∷ 1025 ∷ 1025 ∷ 1045 ∷  -- 10 MMAP2
@@ -40,27 +40,28 @@ rows =
     1026 ∷ 1026 ∷ 1025 ∷ 1043 ∷  -- 18 BPF_EVENT
     1024 ∷ 1045 ∷  -- 19 CGROUP
     1024 ∷ 1028 ∷ 1028 ∷ 1036 ∷ 1031 ∷ 1044 ∷  -- 20 TEXT_POKE
+    1024 ∷  -- 21 AUX_OUTPUT_HW_ID
     2081 ∷ 2081 ∷ 2112 ∷ 2240 ∷ 2336 ∷ 2273 ∷ 2295 ∷ 2560 ∷ []  -- the trailer
 
 -- the rows of the types' fields; all rows, with those of the trailer; the types, with 0, which has none
 abbrev pub fieldRows : ℕ
-fieldRows = 121
+fieldRows = 122
 
 abbrev pub allRows : ℕ
-allRows = 129
+allRows = 130
 
 abbrev pub types : ℕ
-types = 21
+types = 22
 
 -- where the rows of each type end, from type 0 on; the first type's start at 0
 abbrev pub ends : List ℕ
-ends = 0 ∷ 6 ∷ 8 ∷ 11 ∷ 16 ∷ 19 ∷ 22 ∷ 27 ∷ 36 ∷ 77 ∷ 92 ∷ 95 ∷ 97 ∷ 98 ∷ 98 ∷ 100 ∷ 104 ∷ 109 ∷ 113 ∷ 115 ∷ 121 ∷ []
+ends = 0 ∷ 6 ∷ 8 ∷ 11 ∷ 16 ∷ 19 ∷ 22 ∷ 27 ∷ 36 ∷ 77 ∷ 92 ∷ 95 ∷ 97 ∷ 98 ∷ 98 ∷ 100 ∷ 104 ∷ 109 ∷ 113 ∷ 115 ∷ 121 ∷ 122 ∷ []
 
 -- the guards from 32 on
 abbrev pub guards : Attributes → ℕ → List Bool
 guards a misc =
     true
-    ∷ false
+    ∷ (not (bit (a .format) 3) && bit (a .format) 4)
     ∷ bit misc 14
     ∷ not (bit misc 14)
     ∷ (bit (a .sample) 14 || bit (a .sample) 24)
@@ -75,6 +76,7 @@ guards a misc =
     ∷ bit (a .format) 1
     ∷ (not (bit (a .format) 3) && bit (a .format) 2)
     ∷ (bit (a .sample) 11 && bit (a .branch) 17)
+    ∷ (bit (a .sample) 4 && (not (bit (a .format) 3) && bit (a .format) 4))
     ∷ []
 
 -- below 32 a bit of the sample type; from 64 on such a bit in the trailer
@@ -94,7 +96,7 @@ shapes a =
     ∷ Times 8
     ∷ Times 16
     ∷ Times 24
-    ∷ Times (cond (bit (a .format) 2) 16 8)
+    ∷ Times (groupBytes (a .format))
     ∷ Earlier 1
     ∷ Registers
     ∷ Filled

@@ -76,7 +76,7 @@ fn other_guard(a: Attributes, misc: u64, g: u16) -> bool
     let build = wire::has_bit(misc, 14);
     match g {
         rows::IF_ALWAYS => true,
-        rows::IF_NEVER => false,
+        rows::IF_READ_LOST => !grouped & wire::has_bit(a.format, 4),
         rows::IF_BUILD_ID => build,
         rows::IF_NO_BUILD_ID => !build,
         rows::IF_WEIGHT => wire::has_bit(a.sample, 14) | wire::has_bit(a.sample, 24),
@@ -91,6 +91,7 @@ fn other_guard(a: Attributes, misc: u64, g: u16) -> bool
         rows::IF_READ_RUNNING => wire::has_bit(a.format, 1),
         rows::IF_READ_ID => !grouped & wire::has_bit(a.format, 2),
         rows::IF_INDEX => wire::has_bit(a.sample, 11) & wire::has_bit(a.branch, 17),
+        rows::IF_SAMPLE_LOST => reads & (!grouped & wire::has_bit(a.format, 4)),
         _ => false,
     }
 }
@@ -107,14 +108,24 @@ fn guard_of(a: Attributes, misc: u64, kind: u64, g: u16) -> bool
     in_trailer(a, kind, (g % 64) as u64)
 }
 
-// Values of a read group have 8 bytes, or 16 with their ids.
+// Values of a read group have 8 bytes, 8 more with their ids and 8 more with their lost counts.
 fn group_values(a: Attributes) -> Shape
     ensures { λ r. ⌜ r ≡ shape a 11 ⌝ }
 {
-    if wire::has_bit(a.format, 2) {
-        Shape::Times(16)
+    let ids = wire::has_bit(a.format, 2);
+    let lost = wire::has_bit(a.format, 4);
+    if ids {
+        if lost {
+            Shape::Times(24)
+        } else {
+            Shape::Times(16)
+        }
     } else {
-        Shape::Times(8)
+        if lost {
+            Shape::Times(16)
+        } else {
+            Shape::Times(8)
+        }
     }
 }
 

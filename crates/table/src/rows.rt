@@ -4,7 +4,7 @@
 // ---- guards: below 32 a bit of the sample type; from 32 on one of these; from 64 on a bit of the sample type, in the trailer
 pub const IF_ALWAYS: u16 = 0;
 
-pub const IF_NEVER: u16 = 1;
+pub const IF_READ_LOST: u16 = 1;
 
 pub const IF_BUILD_ID: u16 = 2;
 
@@ -34,12 +34,14 @@ pub const IF_READ_ID: u16 = 14;
 
 pub const IF_INDEX: u16 = 15;
 
+pub const IF_SAMPLE_LOST: u16 = 16;
+
 // A row is a guard times 32, and a shape.
 const SAMPLE_BIT: u16 = 32;
 
 const ALWAYS: u16 = 32 * (32 + IF_ALWAYS);
 
-const NEVER: u16 = 32 * (32 + IF_NEVER);
+const READ_LOST: u16 = 32 * (32 + IF_READ_LOST);
 
 const BUILD_ID: u16 = 32 * (32 + IF_BUILD_ID);
 
@@ -68,6 +70,8 @@ const READ_RUNNING: u16 = 32 * (32 + IF_READ_RUNNING);
 const READ_ID: u16 = 32 * (32 + IF_READ_ID);
 
 const INDEX: u16 = 32 * (32 + IF_INDEX);
+
+const SAMPLE_LOST: u16 = 32 * (32 + IF_SAMPLE_LOST);
 
 const TRAILER: u16 = 32 * 64;
 
@@ -121,11 +125,11 @@ pub const IGNORED_3: u16 = 22;
 pub const IGNORED_4: u16 = 23;
 
 // The types, with 0, which has no rows; the rows of all types' fields; all rows, with those of the trailer.
-pub const TYPES: u64 = 21;
+pub const TYPES: u64 = 22;
 
-pub const FIELD_ROWS: usize = 121;
+pub const FIELD_ROWS: usize = 122;
 
-pub const ALL_ROWS: usize = 129;
+pub const ALL_ROWS: usize = 130;
 
 // The rows of one type after those of the other, by type; then those of the trailer.
 pub const ROWS: [u16; ALL_ROWS] = [
@@ -171,8 +175,8 @@ pub const ROWS: [u16; ALL_ROWS] = [
     READ_ENABLED + U64, // time enabled
     READ_RUNNING + U64, // time running
     READ_ID + U64, // id
-    NEVER + U64, // kept for a lost count
-    READ_GROUP + VALUES, // n times value, and id where selected
+    READ_LOST + U64, // lost count
+    READ_GROUP + VALUES, // n times value, id and lost count where selected
     // 9 SAMPLE
     SAMPLE_BIT * 16 + U64, // identifier
     SAMPLE_BIT * 0 + U64, // ip
@@ -190,8 +194,8 @@ pub const ROWS: [u16; ALL_ROWS] = [
     SAMPLE_ENABLED + U64, // time enabled
     SAMPLE_RUNNING + U64, // time running
     SAMPLE_ID + U64, // id
-    NEVER + U64, // kept for a lost count
-    SAMPLE_GROUP + VALUES, // n times value, and id where selected
+    SAMPLE_LOST + U64, // lost count
+    SAMPLE_GROUP + VALUES, // n times value, id and lost count where selected
     SAMPLE_BIT * 5 + COUNT_64, // callchain: n
     SAMPLE_BIT * 5 + WORDS, // n words
     SAMPLE_BIT * 10 + SIZE_32, // raw: size
@@ -269,6 +273,8 @@ pub const ROWS: [u16; ALL_ROWS] = [
     ALWAYS + EARLIER_BYTES, // old text
     ALWAYS + BYTES, // new text
     ALWAYS + PADDING, // padding
+    // 21 AUX_OUTPUT_HW_ID
+    ALWAYS + U64, // hardware id
     // the trailer
     TRAILER + SAMPLE_BIT * 1 + U32, // pid
     TRAILER + SAMPLE_BIT * 1 + U32, // tid
@@ -281,7 +287,7 @@ pub const ROWS: [u16; ALL_ROWS] = [
 ];
 
 // Where a type's rows start, from type 0 on; they end where the next one's start.
-pub const STARTS: [usize; 22] = [
+pub const STARTS: [usize; 23] = [
     0,
     0,
     6,
@@ -304,10 +310,11 @@ pub const STARTS: [usize; 22] = [
     113,
     115,
     121,
+    122,
 ];
 
 // "MMAP, MMAP2, COMM, KSYMBOL and CGROUP records gain a flag": its word by type, from type 0 on; 0 where there is none.
-pub const FLAGS: [usize; 21] = [
+pub const FLAGS: [usize; 22] = [
     0,
     10, // MMAP
     0,
@@ -329,4 +336,5 @@ pub const FLAGS: [usize; 21] = [
     0,
     6, // CGROUP
     0, // TEXT_POKE: its padding is no name
+    0,
 ];

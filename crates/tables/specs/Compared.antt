@@ -21,7 +21,7 @@ use Rattle.meaning.specs.Drain.{journalKind, entry, End, run, drain}
 use Rattle.meaning.specs.Names.{nameAnswer, nameBuffer}
 use Rattle.meaning.specs.Misc.{types13, types14, means13, means14, miscMeaning}
 use Rattle.tables.specs.Numbers.{from, among, Limits, editionLimits, exponents, Field, sampleOrder, indexedOrder, trailerOrder, trailerMask, trailerBits, entryBytes, kindsOfTypes, miscBits}
-use Rattle.tables.specs.Rows.{Row, types, mappings, readings, samples, indexed, trailed, flags, orders, laid, said, given, checked, rewritten, clean, Judged, bodies, branchStacks, buildIds, oneRegister, slices, Stop, sizedRing, headersRing, go, stops, Copied, copies}
+use Rattle.tables.specs.Rows.{Row, types, mappings, readings, losses, samples, indexed, trailed, flags, orders, laid, said, given, checked, rewritten, clean, Judged, bodies, branchStacks, lostCounts, buildIds, oneRegister, slices, Stop, sizedRing, headersRing, go, stops, Copied, copies}
 
 -- ---- tools of the comparison
 
@@ -105,8 +105,8 @@ pub editions-branches : every branchesAs editionLimits ≡ true
 unfolding unreadable first known bit
 editions-branches = refl
 
-pub editions-three : map (allowed editions) (0 ∷ 1 ∷ 2 ∷ 3 ∷ 4 ∷ []) ≡ false ∷ true ∷ true ∷ true ∷ false ∷ []
-editions-three = refl
+pub editions-four : map (allowed editions) (0 ∷ 1 ∷ 2 ∷ 3 ∷ 4 ∷ 5 ∷ []) ≡ false ∷ true ∷ true ∷ true ∷ true ∷ false ∷ []
+editions-four = refl
 
 -- ---- the ring's lengths
 
@@ -175,52 +175,60 @@ kinds-same = refl
 abbrev of : Row → Attributes
 of r = record { sample = r .sample; format = r .format; all = r .trails; user = r .user; interrupt = r .interrupt; branch = r .branch }
 
-abbrev reads : Row → Bool
-reads r =
+abbrev reads : ℕ → Row → Bool
+reads e r =
     eqb (8 + length (r .body)) (r .size)
-    && (eqb (check editions 3 (of r) (laid r)) 0
-    && (eqb (recordCheck editions 3 (of r) (laid r)) (checked r)
-    && (same (read editions 3 (of r) (laid r) .words) (said r)
-    && same (cleanedRecord (layout (known editions 3) (of r)) (laid r)) (clean r))))
+    && (eqb (check editions e (of r) (laid r)) 0
+    && (eqb (recordCheck editions e (of r) (laid r)) (checked r)
+    && (same (read editions e (of r) (laid r) .words) (said r)
+    && same (cleanedRecord (layout (known editions e) (of r)) (laid r)) (clean r))))
 
-abbrev writes : Row → Bool
-writes r =
-    eqb (writeAnswer editions 3 (of r) (laid r) (said r) (r .size)) (rewritten r)
-    && (eqb (writeAnswer editions 3 (of r) (laid r) (given r) (r .size)) 0
-    && (eqb (writeAnswer editions 3 (of r) (laid r) (given r) (r .size - 1)) 40
-    && same (writeBuffer editions 3 (of r) (laid r) (given r) (zeros (r .size) ++ (7 ∷ []))) (clean r ++ (7 ∷ []))))
+abbrev writes : ℕ → Row → Bool
+writes e r =
+    eqb (writeAnswer editions e (of r) (laid r) (said r) (r .size)) (rewritten r)
+    && (eqb (writeAnswer editions e (of r) (laid r) (given r) (r .size)) 0
+    && (eqb (writeAnswer editions e (of r) (laid r) (given r) (r .size - 1)) 40
+    && same (writeBuffer editions e (of r) (laid r) (given r) (zeros (r .size) ++ (7 ∷ []))) (clean r ++ (7 ∷ []))))
 
-pub types-read : every reads types ≡ true
+pub types-read : every (reads 3) types ≡ true
 unfolding num bit ones zeroIn allZero stale keep first span rule holds counted before past part settle shapeStep step walk kept cleaned ends named dirty known unreadable layout kindOf miscOf sizeOf roomShape room fieldsOf closed fieldsAnswer judge checkBy check flagBy flagOf recordCheck cleanedBy cleanedRecord slotShape tell flagWords words wordsBy recordWords readAnswered read put
 types-read = refl
 
-pub mappings-read : every reads mappings ≡ true
+pub mappings-read : every (reads 3) mappings ≡ true
 unfolding num bit ones zeroIn allZero stale keep first span rule holds counted before past part settle shapeStep step walk kept cleaned ends named dirty known unreadable layout kindOf miscOf sizeOf roomShape room fieldsOf closed fieldsAnswer judge checkBy check flagBy flagOf recordCheck cleanedBy cleanedRecord slotShape tell flagWords words wordsBy recordWords readAnswered read put
 mappings-read = refl
 
-pub readings-read : every reads readings ≡ true
+pub readings-read : every (reads 3) readings ≡ true
 unfolding num bit ones zeroIn allZero stale keep first span rule holds counted before past part settle shapeStep step walk kept cleaned ends named dirty known unreadable layout kindOf miscOf sizeOf roomShape room fieldsOf closed fieldsAnswer judge checkBy check flagBy flagOf recordCheck cleanedBy cleanedRecord slotShape tell flagWords words wordsBy recordWords readAnswered read put
 readings-read = refl
 
-pub samples-read : every reads samples ≡ true
+pub losses-read : every (reads 4) losses ≡ true
+unfolding num bit ones zeroIn allZero stale keep first span rule holds counted before past part settle shapeStep step walk kept cleaned ends named dirty known unreadable layout kindOf miscOf sizeOf roomShape room fieldsOf closed fieldsAnswer judge checkBy check flagBy flagOf recordCheck cleanedBy cleanedRecord slotShape tell flagWords words wordsBy recordWords readAnswered read put
+losses-read = refl
+
+pub samples-read : every (reads 3) samples ≡ true
 unfolding num bit ones zeroIn allZero stale keep first span rule holds counted before past part settle shapeStep step walk kept cleaned ends named dirty known unreadable layout kindOf miscOf sizeOf roomShape room fieldsOf closed fieldsAnswer judge checkBy check flagBy flagOf recordCheck cleanedBy cleanedRecord slotShape tell flagWords words wordsBy recordWords readAnswered read put
 samples-read = refl
 
-pub indexed-read : every reads indexed ≡ true
+pub indexed-read : every (reads 3) indexed ≡ true
 unfolding num bit ones zeroIn allZero stale keep first span rule holds counted before past part settle shapeStep step walk kept cleaned ends named dirty known unreadable layout kindOf miscOf sizeOf roomShape room fieldsOf closed fieldsAnswer judge checkBy check flagBy flagOf recordCheck cleanedBy cleanedRecord slotShape tell flagWords words wordsBy recordWords readAnswered read put
 indexed-read = refl
 
-pub trailed-read : every reads trailed ≡ true
+pub trailed-read : every (reads 3) trailed ≡ true
 unfolding num bit ones zeroIn allZero stale keep first span rule holds counted before past part settle shapeStep step walk kept cleaned ends named dirty known unreadable layout kindOf miscOf sizeOf roomShape room fieldsOf closed fieldsAnswer judge checkBy check flagBy flagOf recordCheck cleanedBy cleanedRecord slotShape tell flagWords words wordsBy recordWords readAnswered read put
 trailed-read = refl
 
-pub flags-read : every reads flags ≡ true
+pub flags-read : every (reads 3) flags ≡ true
 unfolding num bit ones zeroIn allZero stale keep first span rule holds counted before past part settle shapeStep step walk kept cleaned ends named dirty known unreadable layout kindOf miscOf sizeOf roomShape room fieldsOf closed fieldsAnswer judge checkBy check flagBy flagOf recordCheck cleanedBy cleanedRecord slotShape tell flagWords words wordsBy recordWords readAnswered read put
 flags-read = refl
 
-pub all-written : every writes (types ++ (mappings ++ (readings ++ (samples ++ (indexed ++ (trailed ++ flags)))))) ≡ true
+pub all-written : every (writes 3) (types ++ (mappings ++ (readings ++ (samples ++ (indexed ++ (trailed ++ flags)))))) ≡ true
 unfolding num spell bit ones small nonzero allZero first emit number blank listed fitShape next fit write span rule holds counted before past part settle shapeStep step walk known unreadable layout roomShape room header fieldBytes written writeRecord fitsBy fits lists unit held means beyond anyBeyond tell width slotTold lastTold beforeTold slotsTold ends named flagWords flagTold meant spareBy spare flagged writable writeBy writeAnswer writeBuffer put
 all-written = refl
+
+pub losses-written : every (writes 4) losses ≡ true
+unfolding num spell bit ones small nonzero allZero first emit number blank listed fitShape next fit write span rule holds counted before past part settle shapeStep step walk known unreadable layout roomShape room header fieldBytes written writeRecord fitsBy fits lists unit held means beyond anyBeyond tell width slotTold lastTold beforeTold slotsTold ends named flagWords flagTold meant spareBy spare flagged writable writeBy writeAnswer writeBuffer put
+losses-written = refl
 
 pub flag-orders : every (λ (o : ℕ × List ℕ × ℕ × ℕ). eqb (writeAnswer editions (o .0) (attributes 0 0 false 0 0) (from 1 8) (o .1) (o .2)) (o .3)) orders ≡ true
 unfolding num spell bit ones small nonzero allZero first emit number blank listed fitShape next fit write span rule holds counted before past part settle shapeStep step walk known unreadable layout roomShape room header fieldBytes written writeRecord fitsBy fits lists unit held means beyond anyBeyond tell width slotTold lastTold beforeTold slotsTold ends named flagWords flagTold meant spareBy spare flagged writable writeBy writeAnswer
@@ -239,6 +247,10 @@ bodies-same = refl
 pub branch-stacks-same : every (λ (s : ℕ × List ℕ × ℕ). eqb (check editions 3 (branching 2048 (s .0)) (9 ∷ 0 ∷ 0 ∷ 0 ∷ 0 ∷ 0 ∷ (8 + length (s .1)) ∷ 0 ∷ s .1)) (s .2)) branchStacks ≡ true
 unfolding num bit ones zeroIn first span rule holds counted before past part settle shapeStep step walk known unreadable layout kindOf miscOf sizeOf roomShape room fieldsOf closed fieldsAnswer judge checkBy check
 branch-stacks-same = refl
+
+pub lost-counts-same : every (λ (s : ℕ × ℕ × ℕ × List ℕ × ℕ). eqb (check editions 4 (attributes (s .2) (s .0) false 0 0) (s .1 ∷ 0 ∷ 0 ∷ 0 ∷ 0 ∷ 0 ∷ (8 + length (s .3)) ∷ 0 ∷ s .3)) (s .4)) lostCounts ≡ true
+unfolding num bit ones zeroIn first span rule holds counted before past part settle shapeStep step walk known unreadable layout kindOf miscOf sizeOf roomShape room fieldsOf closed fieldsAnswer judge checkBy check
+lost-counts-same = refl
 
 pub build-ids-same : every (λ (j : Judged). eqb (answers 1 j) (j .answer)) buildIds ≡ true
 unfolding num bit ones zeroIn first span rule holds counted before past part settle shapeStep step walk known unreadable layout kindOf miscOf sizeOf roomShape room fieldsOf closed fieldsAnswer judge checkBy check

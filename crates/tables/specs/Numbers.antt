@@ -36,11 +36,16 @@ pub record Limits : Type 0 where
   pub buildId : Bool
   pub branches : List ℕ
 
-abbrev limits : ℕ → ℕ → ℕ → Bool → List ℕ → Limits
-limits e b t known branches = record { edition = e; lastBit = b; lastType = t; lastFormat = 3; buildId = known; branches = branches }
+abbrev limits : ℕ → ℕ → ℕ → ℕ → Bool → List ℕ → Limits
+limits e b t f known branches = record { edition = e; lastBit = b; lastType = t; lastFormat = f; buildId = known; branches = branches }
 
 abbrev pub editionLimits : List Limits
-editionLimits = limits 1 15 9 false (from 0 17 ++ (18 ∷ [])) ∷ limits 2 18 15 false (from 0 17 ++ (18 ∷ [])) ∷ limits 3 24 20 true (from 0 19) ∷ []
+editionLimits =
+    limits 1 15 9 3 false (from 0 17 ++ (18 ∷ []))
+    ∷ limits 2 18 15 3 false (from 0 17 ++ (18 ∷ []))
+    ∷ limits 3 24 20 3 true (from 0 19)
+    ∷ limits 4 24 21 4 true (from 0 19)
+    ∷ []
 
 -- ---- the ring: lengths are the powers of two with these exponents
 
@@ -60,7 +65,7 @@ field b k = record { bits = b ∷ []; bytes = k }
 abbrev sampleNumbers : List Field
 sampleNumbers = field 16 8 ∷ field 0 8 ∷ field 1 4 ∷ field 1 4 ∷ field 2 8 ∷ field 3 8 ∷ field 6 8 ∷ field 9 8 ∷ field 7 4 ∷ field 7 4 ∷ field 8 8 ∷ []
 
--- a word that is not selected: by no bit of the sample type alone, or in no record yet
+-- a word that is not selected by any bit of the sample type alone
 abbrev unused : Field
 unused = record { bits = []; bytes = 8 }
 
@@ -120,5 +125,5 @@ kindsOfTypes =
 abbrev pub miscBits : List (ℕ × ℕ × ℕ)
 miscBits =
     (0, 0, 0) ∷ (1, 8, 0) ∷ (2, 0, 0) ∷ (3, 16, 0) ∷ (4, 0, 0) ∷ (5, 0, 0) ∷ (6, 0, 0) ∷ (7, 0, 0) ∷ (8, 0, 0) ∷ (9, 0, 64) ∷ (10, 8, 256)
-    ∷ (11, 0, 0) ∷ (12, 0, 0) ∷ (13, 0, 0) ∷ (14, 32, 128) ∷ (15, 32, 128) ∷ (16, 0, 0) ∷ (17, 0, 0) ∷ (18, 0, 0) ∷ (19, 0, 0) ∷ (20, 0, 0) ∷ (21, 0, 0)
+    ∷ (11, 0, 0) ∷ (12, 0, 0) ∷ (13, 0, 0) ∷ (14, 32, 128) ∷ (15, 32, 128) ∷ (16, 0, 0) ∷ (17, 0, 0) ∷ (18, 0, 0) ∷ (19, 0, 0) ∷ (20, 0, 0) ∷ (21, 0, 0) ∷ (22, 0, 0)
     ∷ (65537, 0, 0) ∷ []

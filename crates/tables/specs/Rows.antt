@@ -11,8 +11,8 @@ pub data Told : Type 0 where
   at : ℕ → ℕ → Told
   is : ℕ → Told
 
--- a record of edition 3 that decodes: the high byte of misc, the attributes, the bytes, its words, the flag's word where a byte after its name's zero is not
--- zero, and the places of ignored bytes
+-- a record of edition 3, or of edition 4 if no other has it, that decodes: the high byte of misc, the attributes, the bytes, its words, the flag's word
+-- where a byte after its name's zero is not zero, and the places of ignored bytes
 pub record Row : Type 0 where
   pub kind : ℕ
   pub high : ℕ
@@ -104,7 +104,7 @@ mappings =
     (from 41 3 ++ (from 49 15 ++ from 76 4))
     ∷ []
 
--- READ: the words are value, n, enabled, running, id, one that is in no record yet, the place of the entries
+-- READ: the words are value, n, enabled, running, id, lost count, the place of the entries
 abbrev pub readings : List Row
 readings =
     reading 0 24 (from 16 8) (at 16 8 ∷ is 0 ∷ is 0 ∷ is 0 ∷ is 0 ∷ is 0 ∷ is 0 ∷ [])
@@ -115,6 +115,23 @@ readings =
     ∷ reading 8 48 (word 3 ++ from 24 24) (is 0 ∷ is 3 ∷ is 0 ∷ is 0 ∷ is 0 ∷ is 0 ∷ is 24 ∷ [])
     ∷ reading 12 56 (word 2 ++ from 24 32) (is 0 ∷ is 2 ∷ is 0 ∷ is 0 ∷ is 0 ∷ is 0 ∷ is 24 ∷ [])
     ∷ reading 15 72 (word 2 ++ from 24 48) (is 0 ∷ is 2 ∷ at 24 8 ∷ at 32 8 ∷ is 0 ∷ is 0 ∷ is 40 ∷ [])
+    ∷ []
+
+-- edition 4: read-format bit 4 (16). Without bit 3 the lost count is the last word; with it an entry is value, id, lost count, each where selected: 16
+-- bytes by bit 4 alone, 24 with bit 2. And type 21: one hardware id
+abbrev pub losses : List Row
+losses =
+    reading 16 32 (from 16 16) (at 16 8 ∷ is 0 ∷ is 0 ∷ is 0 ∷ is 0 ∷ at 24 8 ∷ is 0 ∷ [])
+    ∷ reading 20 40 (from 16 24) (at 16 8 ∷ is 0 ∷ is 0 ∷ is 0 ∷ at 24 8 ∷ at 32 8 ∷ is 0 ∷ [])
+    ∷ reading 23 56 (from 16 40) (at 16 8 ∷ is 0 ∷ at 24 8 ∷ at 32 8 ∷ at 40 8 ∷ at 48 8 ∷ is 0 ∷ [])
+    ∷ reading 24 56 (word 2 ++ from 24 32) (is 0 ∷ is 2 ∷ is 0 ∷ is 0 ∷ is 0 ∷ is 0 ∷ is 24 ∷ [])
+    ∷ reading 28 72 (word 2 ++ from 24 48) (is 0 ∷ is 2 ∷ is 0 ∷ is 0 ∷ is 0 ∷ is 0 ∷ is 24 ∷ [])
+    ∷ reading 31 64 (word 1 ++ from 24 40) (is 0 ∷ is 1 ∷ at 24 8 ∷ at 32 8 ∷ is 0 ∷ is 0 ∷ is 40 ∷ [])
+    ∷ plain 21 16 (at 8 8 ∷ [])  -- AUX_OUTPUT_HW_ID: hardware id
+    -- SAMPLE with sample bit 4 alone: ten words to period, then value, n, enabled, running, id, lost count
+    ∷ row 9 0 (2 ^ 4) 20 32 (from 8 24)
+    (is 0 ∷ is 0 ∷ is 0 ∷ is 0 ∷ is 0 ∷ is 0 ∷ is 0 ∷ is 0 ∷ is 0 ∷ is 0 ∷ at 8 8 ∷ is 0 ∷ is 0 ∷ is 0 ∷ at 16 8 ∷ at 24 8 ∷ [])
+    []
     ∷ []
 
 -- SAMPLE with every bit of edition 3 but 14. Numbers to the read value at 80; callchain of 2 at 88; raw of 4 at 112; one branch at 120; two user
@@ -358,6 +375,16 @@ branchStacks =
     ∷ (2 ^ 19, word 0, 25) ∷ (2 ^ 63, word 0, 25)
     ∷ []
 
+-- edition 4: read format, type, sample type, body, answer
+abbrev pub lostCounts : List (ℕ × ℕ × ℕ × List ℕ × ℕ)
+lostCounts =
+    (16, 8, 0, a 8 ++ a 16, 0) ∷ (16, 8, 0, a 8 ++ a 8, 30) ∷ (16, 8, 0, a 8 ++ a 24, 31) ∷ (20, 8, 0, a 8 ++ a 24, 0) ∷ (32, 8, 0, a 8 ++ a 8, 22)
+    ∷ (24, 8, 0, a 8 ++ word 1 ++ a 16, 0) ∷ (24, 8, 0, a 8 ++ word 1 ++ a 8, 30) ∷ (28, 8, 0, a 8 ++ word 1 ++ a 24, 0)
+    ∷ (28, 8, 0, a 8 ++ word 1 ++ a 16, 30) ∷ (28, 8, 0, a 8 ++ word 0, 0)
+    ∷ (28, 9, 16, word 1 ++ a 24, 0) ∷ (28, 9, 16, word 1 ++ a 16, 30) ∷ (16, 9, 16, a 16, 0) ∷ (16, 9, 0, [], 0) ∷ (32, 9, 16, a 8, 22)
+    ∷ (0, 21, 0, a 8, 0) ∷ (0, 21, 0, [], 30) ∷ (0, 21, 0, a 16, 31) ∷ (0, 22, 0, a 8, 20)
+    ∷ []
+
 -- "build id size at most 20"
 abbrev pub buildIds : List Judged
 buildIds = buildId 0 0 ∷ buildId 19 0 ∷ buildId 20 0 ∷ buildId 21 32 ∷ buildId 255 32 ∷ []
@@ -371,7 +398,7 @@ oneRegister = 9 ∷ 0 ∷ 0 ∷ 0 ∷ 0 ∷ 0 ∷ 24 ∷ 0 ∷ (word 1 ++ word 7
 abbrev pub slices : List (ℕ × List ℕ × ℕ)
 slices =
     (0, [], 2)
-    ∷ (4, a 8, 2)
+    ∷ (5, a 8, 2)
     ∷ (1, a 7, 7)
     ∷ (1, 13 ∷ 0 ∷ 0 ∷ 0 ∷ 0 ∷ 0 ∷ 0 ∷ 0 ∷ [], 6)
     ∷ (1, 14 ∷ 0 ∷ 0 ∷ 0 ∷ 0 ∷ 0 ∷ 4 ∷ 0 ∷ [], 6)

@@ -18,10 +18,14 @@ returns-2 c = ap (known editions) (sym (c .match .keys2))
 
 returns-3 : tie.Need-returns-3
 unfolding known
-returns-3 c = let z : 0 ≡ c .before .before .args .e - 1 = omega (arith, c .if1 .taken) in ap (λ (i : ℕ). getD editions i nothingKnown) z
+returns-3 c = ap (known editions) (sym (c .match .keys3))
 
 returns-4 : tie.Need-returns-4
-returns-4 c = known-past editions (c .before .before .args .e) (omega (arith, c .if1 .left, c .before .match .rest .0 .1, c .before .match .rest .1))
+unfolding known
+returns-4 c = let z : 0 ≡ c .before .before .args .e - 1 = omega (arith, c .if1 .taken) in ap (λ (i : ℕ). getD editions i nothingKnown) z
+
+returns-5 : tie.Need-returns-5
+returns-5 c = known-past editions (c .before .before .args .e) (omega (arith, c .if1 .left, c .before .match .rest .0 .0 .1, c .before .match .rest .0 .1, c .before .match .rest .1))
 
 pub edition-spec : {M : Type 1} → statement M
-edition-spec = tie.close (tie.spec returns returns-2 returns-3 returns-4)
+edition-spec = tie.close (tie.spec returns returns-2 returns-3 returns-4 returns-5)
