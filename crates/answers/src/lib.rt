@@ -28,11 +28,20 @@ pub fn origin(at: usize) -> Cursor
 }
 
 // One row. An item that is not selected costs no more than its guard's test.
-fn turn(s: &[u8], kind: u64, misc: u64, a: Attributes, k: usize, c: Cursor) -> Cursor
+fn turn(
+    s: &[u8],
+    kind: u64,
+    misc: u64,
+    a: Attributes,
+    all: &[u16; table::ROWS],
+    k: usize,
+    c: Cursor,
+) -> Cursor
     requires { ⌜ k < allRows ⌝ }
+    requires { ⌜ now all ≡ rows ⌝ }
     ensures { λ r. ⌜ r ≡ step (now (s .entry)) (itemOf a misc kind (getD rows k 0)) c ⌝ }
 {
-    let row = table::row_at(k);
+    let row = table::row_at(all, k);
     let on = table::is_on(a, misc, kind, row);
     if on {
         let shape = table::shape_of(a, row);
@@ -47,11 +56,12 @@ pub fn walk(s: &[u8], kind: u64, misc: u64, a: Attributes, first: Cursor) -> Cur
     ensures { λ r. ⌜ r ≡ walk (now (s .entry)) (schema kind misc a) first ⌝ }
 {
     let p = table::part_of(kind);
+    let all = table::all_rows();
     let mut c = first;
     let mut k = p.from;
     let to = p.to;
     while k < to {
-        c = turn(s, kind, misc, a, k, c);
+        c = turn(s, kind, misc, a, &all, k, c);
         k += 1;
     }
     c

@@ -215,6 +215,9 @@ misc-bit-14-means κs a x y s t p q = same p q
 
 -- ---- table: the rows of the layouts
 
+pub table-all-rows : Result table.all_rows.Kinds.ps table.all_rows.Kinds.r table.all_rows.Reads.Learnt
+table-all-rows κs a x y s t p q = same p q
+
 pub table-row-at : Result table.row_at.Kinds.ps table.row_at.Kinds.r table.row_at.Reads.Learnt
 table-row-at κs a x y s t p q = same p q
 

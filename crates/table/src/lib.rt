@@ -47,16 +47,28 @@ pub fn flag_at(kind: u64) -> usize
     }
 }
 
+// How many rows there are.
+pub const ROWS: usize = rows::ALL_ROWS;
+
 // The rows of the trailer are the same for every type: `trailer-rows` of specs/Same.antt says what they stand for.
 pub const TRAILER_FROM: usize = rows::FIELD_ROWS;
 
 pub const TRAILER_TO: usize = rows::ALL_ROWS;
 
-pub fn row_at(k: usize) -> u16
+// All rows. A constant array that is indexed by a variable is copied at each use, so a walk takes it once and lends it.
+pub fn all_rows() -> [u16; ROWS]
+    ensures { λ r. ⌜ r ≡ rows ⌝ }
+{
+    rows::ROWS
+}
+
+// Row k of those lent.
+pub fn row_at(all: &[u16; ROWS], k: usize) -> u16
     requires { ⌜ k < allRows ⌝ }
+    requires { ⌜ now all ≡ rows ⌝ }
     ensures { λ r. ⌜ r ≡ getD rows k 0 ⌝ }
 {
-    rows::ROWS[k]
+    all[k]
 }
 
 // "If sample_id_all is set, every record but SAMPLE ends with these eight-byte items where selected."
@@ -188,5 +200,6 @@ pub fn item_at(a: Attributes, misc: u64, kind: u64, k: usize) -> Item
     requires { ⌜ k < allRows ⌝ }
     ensures { λ r. ⌜ r ≡ itemOf a misc kind (getD rows k 0) ⌝ }
 {
-    item_of(a, misc, kind, row_at(k))
+    let all = all_rows();
+    item_of(a, misc, kind, row_at(&all, k))
 }

@@ -14,17 +14,17 @@ use Rattle.answers.proofs.walk.Statement.{statement}
 use Rattle.answers.proofs.walk.Tie as tie
 
 abbrev Inv-loop : tie.InvT-loop
-Inv-loop s kind misc a c₀ k₀ to c k =
+Inv-loop s kind misc a all c₀ k₀ to c k =
     (k ≤ to) × (to ≤ fieldRows) × (walk s (map (itemOf a misc kind) (slice k₀ to rows)) c₀ ≡ walk s (map (itemOf a misc kind) (slice k to rows)) c)
 
 abbrev μ-loop : tie.MeasureT-loop
-μ-loop s kind misc a c₀ k₀ to c k = to - k
+μ-loop s kind misc a all c₀ k₀ to c k = to - k
 
 loop-holds : tie.Need-loop-holds Inv-loop μ-loop
-loop-holds c = (c .part-of .ensures .ordered, c .part-of .ensures .within, refl)
+loop-holds c = (c .before .part-of .ensures .ordered, c .before .part-of .ensures .within, refl)
 
 turn-requires : tie.Need-turn-requires Inv-loop μ-loop
-turn-requires c κs = omega arith
+turn-requires c κs = (omega arith, c .before .before .before .all-rows .ensures)
 
 add-k : tie.Need-add-k Inv-loop μ-loop
 add-k c = omega arith
@@ -34,20 +34,20 @@ loop-less c = omega arith
 
 loop-again : tie.Need-loop-again Inv-loop μ-loop
 loop-again c =
-    let l = c .before .before in
-    let a = l .before .before .before .args in
-    let to = l .before .part-of .result .to in (
+    let l = c .before .before .before in
+    let a = l .before .before .before .before .args in
+    let to = l .before .before .part-of .result .to in (
       omega arith,
       l .loop .inv .1,
       l .loop .inv .2
-          ∙ walk-next (itemOf (a .a) (a .misc) (a .kind)) (now (a .s)) (l .loop .k) to (l .loop .c) (c .turn .result) (c .before .loop-test .taken) (omega arith) (c .turn .ensures),
+          ∙ walk-next (itemOf (a .a) (a .misc) (a .kind)) (now (a .s)) (l .loop .k) to (l .loop .c) (c .turn .result) (c .before .before .loop-test .taken) (omega arith) (c .turn .ensures),
     )
 
 returns : tie.Need-returns Inv-loop μ-loop
 returns c =
     let l = c .before in
-    let a = l .before .before .before .args in
-    let p = l .before .part-of in
+    let a = l .before .before .before .before .args in
+    let p = l .before .before .part-of in
     let f = itemOf (a .a) (a .misc) (a .kind) in
     let e : l .loop .k ≡ p .result .to = omega arith in
     sym
@@ -62,6 +62,7 @@ walk-spec =
     (tie.spec
     Inv-loop
     μ-loop
+    (λ c κs. search needs)
     (λ c κs. search needs)
     loop-holds
     turn-requires

@@ -8,8 +8,8 @@ use Rattle.table.proofs.item_at.Tie as tie
 
 returns : tie.Need-returns
 returns c =
-    let a = c .before .before .args in
+    let a = c .before .before .before .before .args in
     c .item-of .ensures ∙ ap (λ (row : ℕ). itemOf (a .a) (a .misc) (a .kind) row) (c .before .row-at .ensures)
 
 pub item-at-spec : {M : Type 1} → statement M
-item-at-spec = tie.close (tie.spec (λ c κs. search needs) (λ c κs. search needs) returns)
+item-at-spec = tie.close (tie.spec (λ c κs. search needs) (λ c κs. search needs) (λ c κs. search needs) returns)
