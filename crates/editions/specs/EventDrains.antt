@@ -32,7 +32,7 @@ use Rattle.editions.specs.Demand3.{entry-fair}
 use Rattle.editions.specs.EventPromise.{EventWords, asksTable, tableCutting, Demand3Events}
 use Rattle.editions.specs.EventRecord.{event-fair, event-small}
 
--- under a sound table the records are those that a call without one finds
+-- under a sound table the records are those that a call without one finds. kept: it says so of any table
 pub cutting-sound : (limit : ℕ) (es : List Event) (ring : List ℕ) (head tail budget room : ℕ) (scratch : List ℕ) → sound limit es ≡ true
     → tableCutting limit es ring head tail budget room scratch ≡ cutting ring head tail budget room scratch
 cutting-sound limit es ring head tail budget room scratch h = ap (λ (b : Bool). cuttingBy (askingWith true b) ring head tail budget room scratch) h

@@ -29,6 +29,8 @@ index-next x l i h e =
     ap (indexOf x) (drop-cons l i 0 h) ∙ rw (ne-eqb (getD l i 0) x e) (ap (λ (k : ℕ). suc (indexOf x (drop k l))) (sym (add-one i)))
 
 -- ---- is it there, and where
+
+-- kept: the bound of the number inspected (M-112)
 pub index-most : (x : ℕ) (l : List ℕ) → indexOf x l ≤ length l
 unfolding indexOf
 index-most x [] = omega arith
@@ -71,7 +73,7 @@ in-there x l h = in-index x l ∙ lt-ltb (indexOf x l) (length l) h
 pub in-none : (x : ℕ) (l : List ℕ) → length l ≤ indexOf x l → isIn x l ≡ false
 in-none x l h = in-index x l ∙ le-ltb (indexOf x l) (length l) h
 
--- what stands at that index is x
+-- what stands at that index is x. kept: for the number inspected (M-112)
 pub index-is : (x : ℕ) (l : List ℕ) → indexOf x l < length l → getD l (indexOf x l) 0 ≡ x
 unfolding indexOf
 index-is x [] h = absurd (omega arith)
@@ -118,6 +120,7 @@ in-at (y ∷ ys) (suc i) h = by (eqb (getD ys i 0) y) (in-at ys i (omega arith))
     by true q = refl
     by false q = q
 
+-- where no two are equal, a row that matches is the first. kept: for a drain that remembers the event found last
 pub index-unique : (l : List ℕ) (i : ℕ) → distinct l ≡ true → i < length l → indexOf (getD l i 0) l ≡ i
 unfolding distinct indexOf
 index-unique [] i d h = absurd (omega arith)
