@@ -287,20 +287,29 @@ case $? in
   *) wrong "record --events failed: $(tail -n 1 $out/record.txt)" ;;
 esac
 
-# ---- examples/decode.c on this kernel: a program that starts on cpu 0 is named, mapped and switched to
-if [ -x target/examples/decode ]; then
+# ---- examples/decode.c on this kernel: a program that starts on cpu 0 is named, mapped and switched to. A busy machine may take
+# longer than the second that it looks: three tries
+decodes() {
   timeout 1 target/examples/decode 0 >$out/decode.txt 2>$out/decode.err &
   for _ in 1 2 3 4 5; do sleep 0.1; taskset -c 0 /bin/true; done
   wait $!
   ended=$?
+  missing=
+  if [ $ended -eq 124 ]; then
+    for words in ' is called true$' ' maps .*/true$' ' in$' ' out$'; do
+      grep -q -- "$words" $out/decode.txt || missing="$missing '$words'"
+    done
+    [ -z "$missing" ]
+  fi
+}
+if [ -x target/examples/decode ]; then
+  decodes || decodes || decodes
   if [ $ended -eq 1 ] && grep -qE 'ermi|not implemented|No such file' $out/decode.err; then
     echo "decode: not tried live: $(cat $out/decode.err)"
   elif [ $ended -ne 124 ]; then
     wrong "decode ended with $ended: $(cat $out/decode.err)"
-  else
-    for words in ' is called true$' ' maps .*/true$' ' in$' ' out$'; do
-      grep -q -- "$words" $out/decode.txt || wrong "decode does not print '$words'"
-    done
+  elif [ -n "$missing" ]; then
+    wrong "decode does not print$missing"
   fi
 fi
 
