@@ -272,9 +272,6 @@ extern "C" {
  * 0. What else is ignored raises no flag: res, the padding of TEXT_POKE, the unused
  * and reserved bytes of a build id. Only a value whose flag is 0 can be written.
  *
- * Words marked "kept" are kept free for fields that may come later: they read
- * 0 and must be 0 to be written.
- *
  * pid and tid (ppid, ptid) are read as they stand in the record, as unsigned
  * numbers of 32 bits: the kernel's -1 is 4294967295. It writes that for a thread
  * that has ended and has no number any more (in its last switches), and 0 for
