@@ -146,7 +146,7 @@ module _ (rows : List Known) (e : ℕ) (a : Attributes) where
     pub clean-same : cleanedRecord lay xs ≡ xs → bytesOf xs (recordWords lay xs) ≡ xs
     pub same-clean : bytesOf xs (recordWords lay xs) ≡ xs → cleanedRecord lay xs ≡ xs
 
-  -- words with the flag are 43, past 2 and 20 to 24
+  -- words with the flag are 43, past 2 and 20 to 25
   pub flagged-43 : (src ws : List ℕ) (space : ℕ) → allowed rows e ≡ true → lay .unknown (getD ws 0 0) (getD ws 1 0) ≡ 0 → flagged lay ws ≡ true
       → writeAnswer rows e a src ws space ≡ 43
   unfolding writeAnswer writeBy
