@@ -22,6 +22,7 @@ run:
 	@tools/needs.sh run
 	@test -x target/bin/ringdump || echo "$(PROVES_FIRST)" >&2
 	@tools/prove.sh check ringdump
+	@tools/x86.sh ready
 	@target/bin/ringdump < "$(RING)"
 
 PROVES_FIRST = proving ringdump and what it stands on, before it is built: some four minutes of one core, once

@@ -108,7 +108,9 @@ fi
 part "document 01's examples on the independent reader" "$out/reader" examples
 part "kept cases that other readers get wrong" "$out/reader" cases tests/cases
 part "every export from C" "$out/exports"
-if command -v valgrind >/dev/null; then
+if [ -n "${OLLSKUVAN_EMULATED:-}" ]; then
+    echo "== programs run under an emulator: the calls from C ran without valgrind"
+elif command -v valgrind >/dev/null; then
     part "every export from C, under valgrind" \
         valgrind -q --error-exitcode=9 --leak-check=full "$out/exports"
 else

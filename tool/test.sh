@@ -29,7 +29,10 @@ shared='tool/image.c tool/command.c examples/events.c examples/messages.c exampl
 {
   build values -O1 tool/tests/values.c tool/show.c $shared
   build stack -O1 -fno-optimize-sibling-calls -Wl,-z,now tool/tests/stack.c $shared
-  build damage -O1 -fsanitize=address,undefined -fno-sanitize-recover=all tool/tests/damage.c tool/dump.c \
+  # under an emulator the sanitizers do not run
+  sanitizers='-fsanitize=address,undefined -fno-sanitize-recover=all'
+  [ -z "${OLLSKUVAN_EMULATED:-}" ] || sanitizers=
+  build damage -O1 $sanitizers tool/tests/damage.c tool/dump.c \
     tool/journal.c tool/show.c words/ollskuvan_words.c $shared
 }
 

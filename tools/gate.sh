@@ -38,6 +38,16 @@ part() {
 }
 part 'the tree itself' bash tools/selfcheck.sh
 part 'the library for C' sh tools/library.sh
+# compiled code is for x86-64: elsewhere it is built and run by an emulator, with fewer random cases, or not at all
+if ! sh tools/x86.sh native; then
+  if ! sh tools/x86.sh ready; then
+    echo "this machine is $(uname -m): everything is proved, and nothing that is compiled was run"
+    echo "$last"
+    exit 0
+  fi
+  echo "this machine is $(uname -m): what is compiled runs under an emulator; valgrind, fuzzing and live rings are left out"
+  export OLLSKUVAN_EMULATED=1 PATH="$PWD/tools/x86:$PATH" RUSTC=rustc CC=cc DRAINS=${DRAINS:-20000} VALUES=${VALUES:-20000}
+fi
 part 'tests from outside' bash tests/run.sh
 part 'careful C beside ours' bash bench/run.sh --short
 part 'the program for people' make -s tool-test

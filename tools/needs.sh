@@ -6,8 +6,9 @@
 #   tools/needs.sh line    prints the line that installs these packages
 #
 # A package that is missing is installed where this may be done (root, apt-get); elsewhere the line is printed and the
-# status is 1. valgrind is wanted and not needed: without it its part of the tests is skipped with a word. A toolchain
-# other than that of toolchain.txt is a warning.
+# status is 1. On a machine that is not x86-64 tools/x86.sh adds cross compilers and an emulator for the tests. valgrind
+# is wanted and not needed: without it its part of the tests is skipped with a word. A toolchain other than that of
+# toolchain.txt is a warning.
 set -u
 cd "$(dirname "$0")/.." || exit 2
 line='apt-get install -y gcc libc6-dev make rustc pkg-config valgrind'
@@ -64,7 +65,11 @@ packages() {
 
 case ${1:-} in
   run) toolchain ;;
-  test) toolchain && packages ;;
+  test)
+    toolchain && packages
+    # where it is not ready the gate says what it left out
+    sh tools/x86.sh native || sh tools/x86.sh ready || true
+    ;;
   line) echo "$line" ;;
   *) say "use: tools/needs.sh run|test|line"; exit 2 ;;
 esac

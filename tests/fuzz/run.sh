@@ -32,6 +32,7 @@ case $runs in
 esac
 seed=${2:-1}
 
+[ -z "${OLLSKUVAN_EMULATED:-}" ] || skip "programs run under an emulator, where the sanitizers do not"
 command -v clang >/dev/null || skip "clang is missing (Debian: apt-get install clang)"
 command -v "$rustc" >/dev/null || skip "$rustc is missing: the independent reader is written in Rust"
 command -v objcopy >/dev/null || skip "objcopy is missing (Debian: apt-get install binutils)"
