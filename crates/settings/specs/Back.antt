@@ -203,6 +203,22 @@ past-last v ks rows ring edition budget xs lent t l =
     ∙ first-none _
     ∙ first-no (refusal (not (sound (v .limit) (eventsOf (rowsOf v xs n)))) 11) _ _ (ap (λ (r : List (List ℕ)). not (sound (v .limit) (eventsOf r))) (l .held) ∙ ap not (kept-sound (v .limit) rows (t .sound)))
 
+-- the same up to the edition, which is not one of this build's
+pub other-edition : (vs : List Version) (ks others : List Known) (v : Version) (rows : List (List ℕ)) (ring edition budget lent : ℕ) → Proper v
+    → versionOf vs (v .number) ≡ v → Taken v others rows ring edition budget → allowed ks edition ≡ false
+    → storeAnswer vs ks (storeBytes v rows ring edition budget) lent ≡ 52
+unfolding restAnswer fits isEventOf
+other-edition vs ks others v rows ring edition budget lent ok h t out =
+    let xs : List ℕ = storeBytes v rows ring edition budget in
+    let l = laid-by v others rows ring edition budget ok t in
+    let p : ℕ = placeOf v (length rows) in
+    past-first vs ks v xs lent (ok .known) (l .head) (shown-is vs v xs (l .number) h)
+    ∙ ap (λ (n : ℕ). restAnswer v ks xs n lent) (l .count)
+    ∙ first-no (refusal (not (fits (v ∷ []) (entryAt xs p))) 51) _ _ (ap (λ (e : Entry). not (fits (v ∷ []) e)) (l .tail))
+    ∙ first-no (refusal (not (eqb (entryAt xs p .kind) 3)) 52) _ _ (ap (λ (e : Entry). not (eqb (e .kind) 3)) (l .tail))
+    ∙ first-no (refusal (not (lengthAllowed (numberAt 8 xs (p + 6)))) 52) _ _ (ap (λ (x : ℕ). not (lengthAllowed x)) (l .ring-at) ∙ ap not (t .ring-allowed))
+    ∙ first-yes (refusal (not (allowed ks (numberAt 1 xs (p + 14)))) 52) _ _ (ap (λ (x : ℕ). not (allowed ks x)) (l .edition-at) ∙ ap not out)
+
 -- the answer is 0, or 40 where the lent table is too short
 pub back-answer : (vs : List Version) (ks : List Known) (v : Version) (rows : List (List ℕ)) (ring edition budget lent : ℕ) → Proper v → versionOf vs (v .number) ≡ v
     → Taken v ks rows ring edition budget
