@@ -1,7 +1,7 @@
 -- A store that is written reads back. Assumes nothing.
-use mathlib.Core.Path.{_≡_, refl, sym, ap, _∙_}
+use mathlib.Core.Path.{_≡_, refl, sym, ap, ap₂, _∙_}
 use mathlib.Core.Bool.{Bool, true, false, cond, not, _&&_}
-use mathlib.Core.List.{List, [], _∷_, _++_, append-nil}
+use mathlib.Core.List.{List, [], _∷_, _++_, append-nil, map}
 use Prim.Native.Nat.{ℕ, zero, suc, _+_, _-_, _^_, _<_, _≤_}
 use native.Mathlib.Nat.{add-zero}
 use native.Mathlib.Omega.{arith}
@@ -20,7 +20,8 @@ use Rattle.entries.specs.declared.Entry.{Entry}
 use Rattle.entries.specs.Entries.{entry, entryAt, entryBytes}
 use Rattle.entries.specs.Numbers.{ends-by}
 use Rattle.entries.specs.Laws.{entry-length, written}
-use Rattle.meaning.specs.Events.{identifiers, eventOf, eventsOf, distinct, marked, allMarked, sound}
+use Rattle.meaning.specs.declared.Attributes.{Attributes}
+use Rattle.meaning.specs.Events.{attributesOf, identifiers, eventOf, eventsOf, distinct, marked, allMarked, sound}
 use Rattle.events.specs.Sound.{sound-limit}
 use Rattle.settings.specs.declared.Version.{Version}
 use Rattle.settings.specs.declared.Settings.{Settings}
@@ -49,6 +50,17 @@ kept-marked (r ∷ rs) h =
     let p = and-true (marked (eventOf r)) (allMarked (eventsOf rs)) h in
     let q = and-true (bit (getD r 1 0) 16) (not (eqb (getD r 6 0) 0)) (p .0) in
     true-and (marked (eventOf (kept r))) (allMarked (eventsOf (keptRows rs))) (true-and (bit (getD r 1 0) 16) true (q .0) refl) (kept-marked rs (p .1))
+
+-- sample_id_all is set where its word is not 0, and 1 is such a word: the attributes are the same
+pub kept-attributes : (rows : List (List ℕ)) → allMarked (eventsOf rows) ≡ true → map attributesOf (eventsOf (keptRows rows)) ≡ map attributesOf (eventsOf rows)
+unfolding allMarked eventOf attributesOf
+kept-attributes [] h = refl
+kept-attributes (r ∷ rs) h =
+    let p = and-true (marked (eventOf r)) (allMarked (eventsOf rs)) h in
+    let q = and-true (bit (getD r 1 0) 16) (not (eqb (getD r 6 0) 0)) (p .0) in
+    ap₂ (λ (b : Bool) (l : List Attributes).
+    record { sample = getD r 1 0; format = getD r 2 0; all = b; user = getD r 3 0; interrupt = getD r 4 0; branch = getD r 5 0 } ∷ l)
+    (sym (q .1)) (kept-attributes rs (p .1))
 
 pub kept-sound : (limit : ℕ) (rows : List (List ℕ)) → sound limit (eventsOf rows) ≡ true → sound limit (eventsOf (keptRows rows)) ≡ true
 unfolding sound
