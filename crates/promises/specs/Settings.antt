@@ -74,6 +74,18 @@ module _ (xs : List ℕ) (lent : List (List ℕ)) where
       (readStore versions editions xs (length lent) .ring) (readStore versions editions xs (length lent) .edition) (readStore versions editions xs (length lent) .budget)
   only-encoding = store.only-encoding versions editions xs lent
 
+  -- and the writer takes it again, in that version, where there is room
+  pub writes-again : (room : ℕ) → small xs ≡ true → readStore versions editions xs (length lent) .answer ≡ 0 → length xs ≤ room
+      → writeStore (shown versions xs) editions (take (readStore versions editions xs (length lent) .events) (rowsAfter versions editions xs lent))
+      (readStore versions editions xs (length lent) .ring) (readStore versions editions xs (length lent) .edition) (readStore versions editions xs (length lent) .budget)
+      room .answer
+      ≡ 0
+  writes-again room s h l =
+      store.write-told (shown versions xs) editions (take (readStore versions editions xs (length lent) .events) (rowsAfter versions editions xs lent))
+      (readStore versions editions xs (length lent) .ring) (readStore versions editions xs (length lent) .edition) (readStore versions editions xs (length lent) .budget)
+      room
+      ∙ store.writes-again versions editions xs lent room s h l
+
   -- two stores of one version that read alike are the same bytes
   pub same-settings : (ys : List ℕ) → small xs ≡ true → small ys ≡ true → readStore versions editions xs (length lent) .answer ≡ 0
       → readStore versions editions xs (length lent) ≡ readStore versions editions ys (length lent)

@@ -1,4 +1,4 @@
--- What M-103 and M-112 promise of the store, in terms of what a caller sees: the bytes, what is told, the lent table, the buffer.
+-- What M-103 promises of the store, in terms of what a caller sees: the bytes, what is told, the lent table, the buffer.
 -- Assumes nothing.
 use mathlib.Core.Path.{_≡_, refl, sym, ap, _∙_}
 use mathlib.Core.Bool.{Bool, true, false, cond, not}
@@ -19,22 +19,19 @@ use Rattle.meaning.specs.Events.{eventsOf, sound}
 use Rattle.settings.specs.declared.Version.{Version}
 use Rattle.settings.specs.declared.Settings.{Settings}
 use Rattle.settings.specs.declared.Stored.{Stored}
-use Rattle.settings.specs.Versions.{one, two, versionOf, placeOf}
+use Rattle.settings.specs.Versions.{one, versionOf, placeOf}
 use Rattle.settings.specs.Reading.{countOf, rowsOf, firstRows, lastRows, afterRows, tableRows, restAnswer, shown, storeAnswer, settingsAt, refused, readStore, rowsAfter}
 use Rattle.settings.specs.Writing.{storeBytes, writeRows, writeAnswer, stored, writeStore, bufferAfter}
 use Rattle.meaning.specs.Refusals.{Refusal, refusal, first}
 use Rattle.laws.specs.Rows.{gives, before, Passed, stopped-reason, first-passed, first-stops, first-in, first-no, first-none}
 use Rattle.settings.specs.Firsts.{passed, first-app}
 use Rattle.settings.specs.Turns.{keptRows, Words, Proper}
-use Rattle.settings.specs.Back.{Taken, settings, reads-back, old-build, other-edition}
+use Rattle.settings.specs.Back.{Taken, settings, reads-back, other-edition}
 use Rattle.settings.specs.Puts.{store-length, write-refused, write-given}
 use Rattle.settings.specs.Only.{accepted, encoded, rows-length}
 
 pub proper-one : Proper one
 proper-one = record { known = omega arith; narrow = omega arith; indexes = omega arith; word = omega arith }
-
-pub proper-two : Proper two
-proper-two = record { known = omega arith; narrow = omega arith; indexes = omega arith; word = omega arith }
 
 -- ---- what is told, and what the lent table holds, by the answer
 
@@ -275,10 +272,3 @@ pub unknown-edition : (vs : List Version) (ks others : List Known) (v : Version)
     → readStore vs ks (storeBytes v rows ring edition budget) lent .answer ≡ 52
 unknown-edition vs ks others v rows ring edition budget lent ok h t out =
     told vs ks (storeBytes v rows ring edition budget) lent ∙ other-edition vs ks others v rows ring edition budget lent ok h t out
-
--- "An old build answers 50": one that reads version 1 alone, to every store of version 2
-pub old-build-50 : (ks : List Known) (rows : List (List ℕ)) (ring edition budget lent : ℕ) → readStore (one ∷ []) ks (storeBytes two rows ring edition budget) lent .answer ≡ 50
-unfolding versionOf
-old-build-50 ks rows ring edition budget lent =
-    told (one ∷ []) ks (storeBytes two rows ring edition budget) lent
-    ∙ old-build (one ∷ []) ks two rows ring edition budget lent (proper-two .word) refl
