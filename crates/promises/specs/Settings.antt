@@ -16,7 +16,7 @@ use Rattle.settings.specs.Versions.{one, versions, versionOf, isKnown}
 use Rattle.settings.specs.Reading.{shown, refused, readStore, rowsAfter}
 use Rattle.settings.specs.Writing.{writes, storeBytes, writeRows, writeStore, bufferAfter}
 use Rattle.settings.specs.Turns.{keptRows, Words}
-use Rattle.settings.specs.Back.{Taken, settings, old-build, kept-identifiers, kept-attributes}
+use Rattle.settings.specs.Back.{settings, old-build, kept-identifiers, kept-attributes}
 use Rattle.settings.specs.Promises as store
 
 -- ---- "Write the table, ring length, edition and budget into lent bytes, and read them back"

@@ -7,7 +7,7 @@ use native.Mathlib.Nat.{add-zero}
 use native.Mathlib.Omega.{arith}
 use lib.Dec.{eqb, leb, ltb}
 use lib.ListN.{length, getD, drop, length-append}
-use borrow.Author.Tests.{eq-eqb, ne-eqb, le-ltb, leb-true}
+use borrow.Author.Tests.{eq-eqb, ne-eqb, le-ltb}
 use Rattle.meaning.specs.Bytes.{numberAt, spell, bit}
 use Rattle.meaning.specs.Refusals.{refusal, first}
 use Rattle.meaning.specs.declared.Known.{Known}

@@ -7,7 +7,7 @@ ghost use Rattle.meaning.specs.Bytes.{numberAt, spell, put};
 ghost use Rattle.meaning.specs.Refusals.{first};
 ghost use Rattle.meaning.specs.Editions.{editions};
 ghost use Rattle.meaning.specs.Events.{identifiers, eventsOf, allMarked, sound};
-ghost use Rattle.settings.specs.Versions.{version, versions, versionOf, placeOf};
+ghost use Rattle.settings.specs.Versions.{versions, versionOf, placeOf};
 ghost use Rattle.settings.specs.Reading.{showsVersion, isEvent, isLast, isEventOf, fits, inTurn, countOf, rowFrom, rowsOf, firstRows, lastRows, afterRows, refused, readStore, rowsAfter};
 ghost use Rattle.settings.specs.Writing.{wordBytes, rowBytes, rowsBytes, lastBytes, writes, stored, writeStore, bufferAfter};
 ghost use Rattle.settings.specs.Narrow.{Narrow};
