@@ -2,7 +2,7 @@
 -- version; 51 if cut short, shorter than 6 or not fitting a known kind; 52 for any other departure; a store that ends before kind 3, the
 -- empty one too, is 51, a ring length or edition not allowed is 52. Last come 11, as in M-100, and 40 if the lent table is too short;
 -- refused, it is unchanged; accepted, rows past those read are."
--- Assumes nothing: these are definitions.
+-- The versions and the editions that a build knows are arguments. Assumes nothing: these are definitions.
 use Prim.Native.Nat.{ℕ, zero, suc, _+_}
 use mathlib.Core.Bool.{Bool, false, cond, not, _&&_, _||_}
 use mathlib.Core.List.{List, [], _∷_, _++_}

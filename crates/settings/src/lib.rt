@@ -233,7 +233,8 @@ fn refuse(answer: u16) -> Settings
     }
 }
 
-// The identifiers (eventsOf of) the first n events of a store, and whether each has sample bit 16. No table of rows is needed for that.
+// The identifiers of the first n events of a store, and whether each has sample bit 16. No second table of rows is needed for
+// that, and the lent one stays as it is.
 fn list_events(bytes: &[u8], v: Version, n: usize, ids: &mut [u64]) -> bool
     requires { ⌜ Narrow v × (placeOf v n ≤ length (now bytes)) × (n ≤ length (now ids)) ⌝ }
     ensures { λ r. ⌜ r ≡ allMarked (eventsOf (rowsOf v (now (bytes .entry)) n)) ⌝ }

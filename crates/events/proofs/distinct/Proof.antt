@@ -20,44 +20,8 @@ abbrev μ-loop : tie.MeasureT-loop
 loop-holds : tie.Need-loop-holds Inv-loop μ-loop
 loop-holds c = behind-start (now (c .before .args .ids)) (zeros 8192) refl
 
-sub-x : tie.Need-sub-x Inv-loop μ-loop
-sub-x c = search needs
-
-mul-x : tie.Need-mul-x Inv-loop μ-loop
-mul-x c = search needs
-
-shared-slice-read-x : tie.Need-shared-slice-read-x Inv-loop μ-loop
-shared-slice-read-x c = search needs
-
-mul-met : tie.Need-mul-met Inv-loop μ-loop
-mul-met c = search needs
-
-sub-met : tie.Need-sub-met Inv-loop μ-loop
-sub-met c = search needs
-
-part-met-start : tie.Need-part-met-start Inv-loop μ-loop
-part-met-start c = search needs
-
-part-met-end : tie.Need-part-met-end Inv-loop μ-loop
-part-met-end c = search needs
-
-array-read-met : tie.Need-array-read-met Inv-loop μ-loop
-array-read-met c = search needs
-
-met-requires : tie.Need-met-requires Inv-loop μ-loop
-met-requires c κs = search needs
-
 returns : tie.Need-returns Inv-loop μ-loop
 returns c = let l = c .before .before .before .before .before .loop in sym (behind-met (now (c .before .before .before .before .before .before .before .args .ids)) (l .seen) (l .i) (l .inv) (c .before .before .before .before .loop-test .taken) (sym (c .before .met .ensures) ∙ c .if1 .taken))
-
-array-write-seen : tie.Need-array-write-seen Inv-loop μ-loop
-array-write-seen c = search needs
-
-sub-i : tie.Need-sub-i Inv-loop μ-loop
-sub-i c = search needs
-
-loop-less : tie.Need-loop-less Inv-loop μ-loop
-loop-less c = search needs
 
 loop-again : tie.Need-loop-again Inv-loop μ-loop
 loop-again c = let l = c .before .before .before .before .before .loop in behind-next (now (c .before .before .before .before .before .before .before .args .ids)) (l .seen) (l .i) (l .inv) (c .before .before .before .before .loop-test .taken) (sym (c .before .met .ensures) ∙ c .if1 .left)
@@ -75,18 +39,18 @@ distinct-spec =
     Inv-loop
     μ-loop
     loop-holds
-    sub-x
-    mul-x
-    shared-slice-read-x
-    mul-met
-    sub-met
-    part-met-start
-    part-met-end
-    array-read-met
-    met-requires
+    (λ c. search needs)
+    (λ c. search needs)
+    (λ c. search needs)
+    (λ c. search needs)
+    (λ c. search needs)
+    (λ c. search needs)
+    (λ c. search needs)
+    (λ c. search needs)
+    (λ c κs. search needs)
     returns
-    array-write-seen
-    sub-i
-    loop-less
+    (λ c. search needs)
+    (λ c. search needs)
+    (λ c. search needs)
     loop-again
     returns-2)
