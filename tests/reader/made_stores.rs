@@ -27,7 +27,7 @@ fn some_event(r: &mut Random) -> Event {
     }
 }
 
-pub fn some_ring_length(r: &mut Random) -> u64 {
+pub fn some_stored_length(r: &mut Random) -> u64 {
     match r.below(12) {
         0 => r.pick(&[0, 1, 8, 32, 63, 65, 96, 127, 4095, 1 << 21, 1 << 32, 1 << 63, (1 << 32) + 64, u64::MAX]),
         1 => r.next(),
@@ -68,7 +68,7 @@ pub fn some_settings(r: &mut Random) -> Settings {
             _ => events[at].identifier = events[other].identifier,
         }
     }
-    Settings { events, ring_length: some_ring_length(r), edition: some_edition(r), budget: some_word(r) as u32 }
+    Settings { events, ring_length: some_stored_length(r), edition: some_edition(r), budget: some_word(r) as u32 }
 }
 
 /// Where the entries begin, as far as their lengths lead; the last is what is left.
@@ -179,7 +179,7 @@ fn damage_field(r: &mut Random, bytes: &mut [u8], version: &Version) {
             }
         }
         3 => {
-            let (at, length) = (place_of(r, bytes, REST) + HEAD, some_ring_length(r));
+            let (at, length) = (place_of(r, bytes, REST) + HEAD, some_stored_length(r));
             put(bytes, at, length, 8);
         }
         _ => {
