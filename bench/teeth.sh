@@ -17,7 +17,7 @@ plant() { # WORDS SED-EXPRESSION (over the whole file at once) [tables: in the c
     echo "bench/teeth.sh: '$1' changes nothing: careful.c has moved on" >&2
     exit 2
   fi
-  gcc -std=c11 -O2 -w -DWITHOUT_VALUES -Iinclude -Ibench -o "$out/bench" bench/bench.c bench/compare.c bench/timing.c bench/made.c bench/kinds.c bench/careful_check.c \
+  gcc -std=c11 -O2 -w -DWITHOUT_VALUES -Iinclude -Ibench -o "$out/bench" bench/bench.c bench/compare.c bench/timing.c bench/made.c bench/kinds.c bench/careful_check.c bench/careful_store.c bench/stores.c \
     bench/floor.c "$out/careful.c" "$library" || exit 2
   # in a shell of its own: some mistakes end in a crash, which is found too
   if bash -c '"$@"; exit $?' teeth "$out/bench" "${3:-compare}" "${RINGS:-20000}" "${SEED:-1}" >"$out/log" 2>&1; then
