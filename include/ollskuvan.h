@@ -17,10 +17,10 @@
  * that drain a ring from one tail take the same records; two readers of one ring
  * keep a tail each, and ollskuvan_publish tells which one the kernel gets.
  *
- * Stack: no call needs more than 2,560 bytes, its return address and what it
- * calls included (measured on a painted stack); besides its own code it calls
- * the C library's memcpy and memset alone. No function calls itself, so no input
- * makes it more.
+ * Stack: no call needs more than 2,560 bytes, but for ollskuvan_read_store, which
+ * needs up to 16,640: its return address and what it calls included (measured on a
+ * painted stack). Besides its own code a call needs the C library's memcpy and
+ * memset alone. No function calls itself, so no input makes it more.
  *
  * What the caller owes:
  *

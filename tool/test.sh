@@ -235,7 +235,7 @@ refuses 1 '10 is no stop or refusal any more: it could never be given, and is ne
 $tool dump -- rings/tasks.img | cmp -s - $out/tasks.txt || wrong "dump -- IMAGE"
 
 # ---- stores of settings: written, shown; what is wrong with one is said with its number and place
-stores=$out/stores
+stores=$out/kept-stores
 mkdir -p $stores/cut $stores/changed $stores/links
 writes() { # FILE OPTION..
   $tool settings write "$@" >$out/printed.txt 2>$out/said.txt || wrong "settings write $*: $(cat $out/said.txt)"
