@@ -1,13 +1,13 @@
 -- A store that is written reads back. Assumes nothing.
-use mathlib.Core.Path.{_≡_, refl, sym, ap, _∙_}
+use mathlib.Core.Path.{_≡_, refl, sym, ap, ap₂, _∙_}
 use mathlib.Core.Bool.{Bool, true, false, cond, not, _&&_}
-use mathlib.Core.List.{List, [], _∷_, _++_, append-nil}
+use mathlib.Core.List.{List, [], _∷_, _++_, append-nil, map}
 use Prim.Native.Nat.{ℕ, zero, suc, _+_, _-_, _^_, _<_, _≤_}
 use native.Mathlib.Nat.{add-zero}
 use native.Mathlib.Omega.{arith}
 use lib.Dec.{eqb, leb, ltb}
 use lib.ListN.{length, getD, drop, length-append}
-use borrow.Author.Tests.{eq-eqb, ne-eqb, le-ltb, leb-true}
+use borrow.Author.Tests.{eq-eqb, ne-eqb, le-ltb}
 use Rattle.meaning.specs.Bytes.{numberAt, spell, bit}
 use Rattle.meaning.specs.Refusals.{refusal, first}
 use Rattle.meaning.specs.declared.Known.{Known}
@@ -20,7 +20,8 @@ use Rattle.entries.specs.declared.Entry.{Entry}
 use Rattle.entries.specs.Entries.{entry, entryAt, entryBytes}
 use Rattle.entries.specs.Numbers.{ends-by}
 use Rattle.entries.specs.Laws.{entry-length, written}
-use Rattle.meaning.specs.Events.{identifiers, eventOf, eventsOf, distinct, marked, allMarked, sound}
+use Rattle.meaning.specs.declared.Attributes.{Attributes}
+use Rattle.meaning.specs.Events.{attributesOf, identifiers, eventOf, eventsOf, distinct, marked, allMarked, sound}
 use Rattle.events.specs.Sound.{sound-limit}
 use Rattle.settings.specs.declared.Version.{Version}
 use Rattle.settings.specs.declared.Settings.{Settings}
@@ -49,6 +50,17 @@ kept-marked (r ∷ rs) h =
     let p = and-true (marked (eventOf r)) (allMarked (eventsOf rs)) h in
     let q = and-true (bit (getD r 1 0) 16) (not (eqb (getD r 6 0) 0)) (p .0) in
     true-and (marked (eventOf (kept r))) (allMarked (eventsOf (keptRows rs))) (true-and (bit (getD r 1 0) 16) true (q .0) refl) (kept-marked rs (p .1))
+
+-- sample_id_all is set where its word is not 0, and 1 is such a word: the attributes are the same
+pub kept-attributes : (rows : List (List ℕ)) → allMarked (eventsOf rows) ≡ true → map attributesOf (eventsOf (keptRows rows)) ≡ map attributesOf (eventsOf rows)
+unfolding allMarked eventOf attributesOf
+kept-attributes [] h = refl
+kept-attributes (r ∷ rs) h =
+    let p = and-true (marked (eventOf r)) (allMarked (eventsOf rs)) h in
+    let q = and-true (bit (getD r 1 0) 16) (not (eqb (getD r 6 0) 0)) (p .0) in
+    ap₂ (λ (b : Bool) (l : List Attributes).
+    record { sample = getD r 1 0; format = getD r 2 0; all = b; user = getD r 3 0; interrupt = getD r 4 0; branch = getD r 5 0 } ∷ l)
+    (sym (q .1)) (kept-attributes rs (p .1))
 
 pub kept-sound : (limit : ℕ) (rows : List (List ℕ)) → sound limit (eventsOf rows) ≡ true → sound limit (eventsOf (keptRows rows)) ≡ true
 unfolding sound
@@ -202,6 +214,22 @@ past-last v ks rows ring edition budget xs lent t l =
     ∙ first-no (refusal (not (eqb (p + 19) (length xs))) 52) _ _ (ap not z)
     ∙ first-none _
     ∙ first-no (refusal (not (sound (v .limit) (eventsOf (rowsOf v xs n)))) 11) _ _ (ap (λ (r : List (List ℕ)). not (sound (v .limit) (eventsOf r))) (l .held) ∙ ap not (kept-sound (v .limit) rows (t .sound)))
+
+-- the same up to the edition, which is not one of this build's
+pub other-edition : (vs : List Version) (ks others : List Known) (v : Version) (rows : List (List ℕ)) (ring edition budget lent : ℕ) → Proper v
+    → versionOf vs (v .number) ≡ v → Taken v others rows ring edition budget → allowed ks edition ≡ false
+    → storeAnswer vs ks (storeBytes v rows ring edition budget) lent ≡ 52
+unfolding restAnswer fits isEventOf
+other-edition vs ks others v rows ring edition budget lent ok h t out =
+    let xs : List ℕ = storeBytes v rows ring edition budget in
+    let l = laid-by v others rows ring edition budget ok t in
+    let p : ℕ = placeOf v (length rows) in
+    past-first vs ks v xs lent (ok .known) (l .head) (shown-is vs v xs (l .number) h)
+    ∙ ap (λ (n : ℕ). restAnswer v ks xs n lent) (l .count)
+    ∙ first-no (refusal (not (fits (v ∷ []) (entryAt xs p))) 51) _ _ (ap (λ (e : Entry). not (fits (v ∷ []) e)) (l .tail))
+    ∙ first-no (refusal (not (eqb (entryAt xs p .kind) 3)) 52) _ _ (ap (λ (e : Entry). not (eqb (e .kind) 3)) (l .tail))
+    ∙ first-no (refusal (not (lengthAllowed (numberAt 8 xs (p + 6)))) 52) _ _ (ap (λ (x : ℕ). not (lengthAllowed x)) (l .ring-at) ∙ ap not (t .ring-allowed))
+    ∙ first-yes (refusal (not (allowed ks (numberAt 1 xs (p + 14)))) 52) _ _ (ap (λ (x : ℕ). not (allowed ks x)) (l .edition-at) ∙ ap not out)
 
 -- the answer is 0, or 40 where the lent table is too short
 pub back-answer : (vs : List Version) (ks : List Known) (v : Version) (rows : List (List ℕ)) (ring edition budget lent : ℕ) → Proper v → versionOf vs (v .number) ≡ v

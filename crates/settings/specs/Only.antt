@@ -10,7 +10,7 @@ use lib.ListN.{length, take, drop, length-append, length-drop, take-append-drop}
 use lib.Seq.{take-add, take-all}
 use borrow.Author.Tests.{not-false, eq-eqb, eqb-true, eqb-false, ltb-false}
 use Rattle.meaning.specs.Bytes.{numberAt, spell, small}
-use Rattle.meaning.specs.Refusals.{refusal, first}
+use Rattle.meaning.specs.Refusals.{first}
 use Rattle.meaning.specs.declared.Known.{Known}
 use Rattle.meaning.specs.Editions.{allowed}
 use Rattle.meaning.specs.Ring.{lengthAllowed}

@@ -7,7 +7,7 @@ ghost use Rattle.meaning.specs.Bytes.{numberAt, spell, put};
 ghost use Rattle.meaning.specs.Refusals.{first};
 ghost use Rattle.meaning.specs.Editions.{editions};
 ghost use Rattle.meaning.specs.Events.{identifiers, eventsOf, allMarked, sound};
-ghost use Rattle.settings.specs.Versions.{version, versions, versionOf, placeOf};
+ghost use Rattle.settings.specs.Versions.{versions, versionOf, placeOf};
 ghost use Rattle.settings.specs.Reading.{showsVersion, isEvent, isLast, isEventOf, fits, inTurn, countOf, rowFrom, rowsOf, firstRows, lastRows, afterRows, refused, readStore, rowsAfter};
 ghost use Rattle.settings.specs.Writing.{wordBytes, rowBytes, rowsBytes, lastBytes, writes, stored, writeStore, bufferAfter};
 ghost use Rattle.settings.specs.Narrow.{Narrow};
@@ -381,23 +381,21 @@ fn told(answer: u32, bytes: u64) -> Stored
     Stored { bytes, answer }
 }
 
-// The store of a table, a ring length, an edition and a budget into a lent buffer: 11, 1, 2, 40, and then the buffer unchanged.
-pub fn write_store(
+// The store of a table, a ring length, an edition and a budget, in a version, into a lent buffer: 11, 1, 2, 40, and then the
+// buffer unchanged.
+fn write_in(
+    v: Version,
     rows: &[[u64; 7]],
     ring: u64,
     edition: u64,
     budget: u32,
     buffer: &mut [u8],
 ) -> Stored
-    ensures { λ r. ⌜ r ≡ writeStore writes editions (now (rows .entry)) ring edition budget (length (now (buffer .entry))) ⌝ }
-    ensures { λ _. ⌜ now (buffer .exit) ≡ bufferAfter writes editions (now (rows .entry)) ring edition budget (now (buffer .entry)) ⌝ }
+    requires { ⌜ Narrow v ⌝ }
+    ensures { λ r. ⌜ r ≡ writeStore v editions (now (rows .entry)) ring edition budget (length (now (buffer .entry))) ⌝ }
+    ensures { λ _. ⌜ now (buffer .exit) ≡ bufferAfter v editions (now (rows .entry)) ring edition budget (now (buffer .entry)) ⌝ }
 {
-    let v = Version {
-        number: 1,
-        width: 1,
-        limit: 32,
-    };
-    if !events::sound(rows, 32) {
+    if !events::sound(rows, v.limit) {
         return told(11, 0);
     }
     if !ring::length_allowed(ring as usize) {
@@ -410,9 +408,28 @@ pub fn write_store(
     if buffer.len() < at + 19 {
         return told(40, 0);
     }
-    let shown = put::le16(1);
+    let shown = put::le16(v.number);
     entries::put_entry(buffer, 0, 1, &shown);
     put_rows(buffer, v, rows);
     put_last(buffer, at, ring, edition, budget);
     told(0, (at + 19) as u64)
+}
+
+// The same in the version that this build writes.
+pub fn write_store(
+    rows: &[[u64; 7]],
+    ring: u64,
+    edition: u64,
+    budget: u32,
+    buffer: &mut [u8],
+) -> Stored
+    ensures { λ r. ⌜ r ≡ writeStore writes editions (now (rows .entry)) ring edition budget (length (now (buffer .entry))) ⌝ }
+    ensures { λ _. ⌜ now (buffer .exit) ≡ bufferAfter writes editions (now (rows .entry)) ring edition budget (now (buffer .entry)) ⌝ }
+{
+    let one = Version {
+        number: 1,
+        width: 1,
+        limit: 32,
+    };
+    write_in(one, rows, ring, edition, budget, buffer)
 }

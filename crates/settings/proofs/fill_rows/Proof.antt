@@ -1,3 +1,4 @@
+-- The rows filled so far are the first of the store, and the others are as they were; each turn adds one row.
 use borrow.Author.Needs.{needs}
 use mathlib.Core.Path.{_≡_, refl, ap, _∙_}
 use mathlib.Core.List.{List, _++_}

@@ -1,3 +1,4 @@
+-- An entry that shows a version is 50 or passes by its number; another that fits is 52, and what fits nothing is 51.
 use mathlib.Core.Path.{_≡_, refl, sym, ap, _∙_}
 use mathlib.Core.Bool.{true, false, not}
 use Prim.Native.Nat.{_-_}

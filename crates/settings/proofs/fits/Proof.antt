@@ -1,3 +1,4 @@
+-- The three tests are those of the definition, with one version alone.
 use mathlib.Core.Path.{sym, _∙_}
 use mathlib.Core.List.{[], _∷_}
 use Prim.Native.Nat.{_-_}

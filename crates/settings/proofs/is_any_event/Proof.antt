@@ -1,3 +1,4 @@
+-- There is one version, so an event of any is an event of it.
 use mathlib.Core.Path.{sym, _∙_}
 use Prim.Native.Nat.{_-_}
 use Rattle.settings.specs.Versions.{one}

@@ -1,3 +1,4 @@
+-- The tests go down the rows of the last entry, and then those of what follows it; a row that is not refused passes to the next.
 use mathlib.Core.Path.{_≡_, sym, ap, _∙_}
 use mathlib.Core.Bool.{true}
 use mathlib.Core.List.{[], _∷_}

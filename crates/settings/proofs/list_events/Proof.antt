@@ -1,3 +1,4 @@
+-- What is listed so far are the identifiers of the first events, and whether each has its bit; each turn adds one event.
 use borrow.Author.Needs.{needs}
 use mathlib.Core.Path.{_≡_, refl, ap, _∙_}
 use mathlib.Core.Bool.{_&&_}

@@ -1,3 +1,4 @@
+-- The place grows by one event entry a turn, as the definition adds it.
 use borrow.Author.Needs.{needs}
 use mathlib.Core.Path.{_≡_, refl, ap, _∙_}
 use Prim.Native.Nat.{_-_, _≤_}

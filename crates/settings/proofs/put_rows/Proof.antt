@@ -1,3 +1,4 @@
+-- The entries put so far are those of the first rows; the next stands right after them.
 use borrow.Author.Needs.{needs}
 use mathlib.Core.Path.{_≡_, refl, ap, _∙_}
 use mathlib.Core.List.{List, []}

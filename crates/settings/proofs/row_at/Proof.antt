@@ -1,3 +1,4 @@
+-- Word by word; the last is the constant 1.
 use mathlib.Core.List.{[], _∷_}
 use Prim.Native.Nat.{_-_}
 use borrow.Author.Needs.{needs}
