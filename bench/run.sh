@@ -3,7 +3,7 @@
 #
 #   bench/run.sh                 all of it: the comparison, times, ring sizes, values, instructions
 #   bench/run.sh --short         the comparison alone, without a table and with one: fails only if careful C and ours differ (the gate)
-#   bench/run.sh --time | --sizes | --values | --instructions | --kinds | --tables    one part, after a short comparison
+#   bench/run.sh --time | --sizes | --values | --instructions | --kinds | --tables | --stores    one part, after a short comparison
 #   bench/run.sh --sanitize      the comparison with address and undefined-behaviour sanitizers on the C side
 #
 # Options before the part: --library FILE (an archive other than target/staticlib/libollskuvan.a),
@@ -25,7 +25,7 @@ while [ $# -gt 0 ]; do
     --rings) [ $# -gt 1 ] || die "--rings needs a number"; rings=$2; shift ;;
     --seed) [ $# -gt 1 ] || die "--seed needs a number"; seed=$2; shift ;;
     --rounds) [ $# -gt 1 ] || die "--rounds needs a number"; rounds=$2; shift ;;
-    --short | --time | --sizes | --values | --instructions | --kinds | --tables | --sanitize) part=${1#--} ;;
+    --short | --time | --sizes | --values | --instructions | --kinds | --tables | --stores | --sanitize) part=${1#--} ;;
     -h | --help) sed -n '2,13p' "$0" | sed 's/^# \{0,1\}//'; exit 0 ;;
     *) die "unknown argument: $1 (see --help)" ;;
   esac
@@ -91,7 +91,7 @@ if [ "$part" = sanitize ]; then
   program=$out/bench-sanitized
 fi
 # shellcheck disable=SC2086 # the flags are words
-gcc $flags -o "$program" bench/bench.c bench/compare.c bench/timing.c bench/made.c bench/kinds.c bench/careful.c bench/careful_check.c bench/floor.c "$library" $link ||
+gcc $flags -o "$program" bench/bench.c bench/compare.c bench/timing.c bench/made.c bench/kinds.c bench/careful.c bench/careful_check.c bench/careful_store.c bench/stores.c bench/floor.c "$library" $link ||
   die "the bench does not build"
 
 # instructions of one drain under callgrind, which repeat exactly
@@ -143,6 +143,25 @@ tables() { # [BUDGET]
   paste "$out/tables.ours" "$out/tables.careful" | awk '{ printf "%18.3f", $1 / $2 } END { print "" }'
 }
 
+# times and instructions of reading and writing a store of settings, of both
+stores() {
+  local whose call events log=$out/callgrind.log
+  "$program" store-times $rounds || exit 1
+  command -v valgrind >/dev/null || { echo "bench: instructions of stores skipped: valgrind is missing"; return 0; }
+  printf '\ninstructions of a store of 1, 11 and 32 events, by callgrind\n'
+  for call in read write; do
+    for whose in careful ours; do
+      printf '%-6s%-8s' "$call" "$whose"
+      for events in 1 11 32; do
+        valgrind --tool=callgrind --toggle-collect="$([ $whose = ours ] && echo ollskuvan || echo careful)_${call}_store" --callgrind-out-file=/dev/null \
+          "$program" store "$whose" "$call" $events >"$log" 2>&1 </dev/null || { cat "$log"; die "callgrind failed"; }
+        awk '/Collected/ { printf "%16d", $NF }' "$log"
+      done
+      printf '\n'
+    done
+  done
+}
+
 # instructions of one record check
 checks() {
   local whose name which log=$out/callgrind.log
@@ -177,9 +196,10 @@ kinds() { # kinds|table-kinds
 }
 
 case "$part" in
-  short) "$program" kinds || exit 1; "$program" table-kinds || exit 1; "$program" compare "$rings" "$seed" || exit 1; "$program" tables $((rings / 2)) "$seed" || exit 1 ;;
-  sanitize) "$program" compare "$rings" "$seed" || exit 1; "$program" tables $((rings / 2)) "$seed" || exit 1 ;;
+  short) "$program" stores $((rings / 2)) "$seed" || exit 1; "$program" kinds || exit 1; "$program" table-kinds || exit 1; "$program" compare "$rings" "$seed" || exit 1; "$program" tables $((rings / 2)) "$seed" || exit 1 ;;
+  sanitize) "$program" stores $((rings / 2)) "$seed" || exit 1; "$program" compare "$rings" "$seed" || exit 1; "$program" tables $((rings / 2)) "$seed" || exit 1 ;;
   *)
+    "$program" stores $((rings / 2)) "$seed" || die "no times: the two differ on a store"
     "$program" kinds || die "no times: the drains differ, or a kind is missing"
     "$program" table-kinds || die "no times: the drains with a table differ"
     "$program" compare "$rings" "$seed" || die "no times: the drains differ"
@@ -189,6 +209,7 @@ case "$part" in
     case "$part" in all | sizes) "$program" sizes $rounds || exit 1 ;; esac
     case "$part" in all | values) "$program" values $rounds || exit 1 ;; esac
     case "$part" in all | instructions) instructions && instructions 1 && checks || exit 1 ;; esac
+    case "$part" in all | stores) stores || exit 1 ;; esac
     case "$part" in all | instructions | tables) tables && tables 1 && tables 32 || exit 1 ;; esac
     case "$part" in all | kinds) kinds kinds || exit 1; echo; echo "with a table of eleven events"; kinds table-kinds || exit 1 ;; esac ;;
 esac

@@ -1,6 +1,6 @@
 #!/usr/bin/env bash
-# Does the comparison bite? Plants one mistake at a time in a copy of careful.c and runs the comparison: each must be
-# found. Not part of the gate; run it after a change of made.c or compare.c.
+# Does the comparison bite? Plants one mistake at a time in a copy of careful.c, or of careful_store.c, and runs the
+# comparison: each must be found. Not part of the gate; run it after a change of made.c or compare.c.
 #
 #   bench/teeth.sh [ARCHIVE]       target/staticlib/libollskuvan.a; RINGS=20000 SEED=1
 set -u
@@ -11,14 +11,17 @@ out=target/bench/teeth
 mkdir -p "$out" || exit 2
 found=0 missed=0
 
-plant() { # WORDS SED-EXPRESSION (over the whole file at once) [tables: in the comparison with a table]
-  sed -z "$2" bench/careful.c >"$out/careful.c" || exit 2
-  if cmp -s bench/careful.c "$out/careful.c"; then
-    echo "bench/teeth.sh: '$1' changes nothing: careful.c has moved on" >&2
+plant() { # WORDS SED-EXPRESSION (over the whole file at once) [tables, stores: in the comparison with a table, of stores]
+  local file=careful.c
+  [ "${3:-}" = stores ] && file=careful_store.c
+  cp bench/careful.c bench/careful_store.c "$out" || exit 2
+  sed -z "$2" bench/$file >"$out/$file" || exit 2
+  if cmp -s bench/$file "$out/$file"; then
+    echo "bench/teeth.sh: '$1' changes nothing: $file has moved on" >&2
     exit 2
   fi
-  gcc -std=c11 -O2 -w -DWITHOUT_VALUES -Iinclude -Ibench -o "$out/bench" bench/bench.c bench/compare.c bench/timing.c bench/made.c bench/kinds.c bench/careful_check.c \
-    bench/floor.c "$out/careful.c" "$library" || exit 2
+  gcc -std=c11 -O2 -w -DWITHOUT_VALUES -Iinclude -Ibench -o "$out/bench" bench/bench.c bench/compare.c bench/timing.c bench/made.c bench/kinds.c bench/careful_check.c bench/stores.c \
+    bench/floor.c "$out/careful.c" "$out/careful_store.c" "$library" || exit 2
   # in a shell of its own: some mistakes end in a crash, which is found too
   if bash -c '"$@"; exit $?' teeth "$out/bench" "${3:-compare}" "${RINGS:-20000}" "${SEED:-1}" >"$out/log" 2>&1; then
     echo "MISSED: $1"
@@ -85,6 +88,17 @@ plant "an event without bit 16" 's/!bit(events\[i\].sample_type, 16) || //' tabl
 plant "sample_id_all narrowed" 's/events\[i\].sample_id_all == 0/(uint32_t)events[i].sample_id_all == 0/' tables
 plant "identifiers by their low halves" 's/t->events\[i\].identifier != identifier)\n        i++/(uint32_t)t->events[i].identifier != (uint32_t)identifier)\n        i++/' tables
 plant "the event's branch bits are not looked at" 's/v->branch_sample_type);/0);/' tables
+plant "an index that is not looked at" 's/!= count)/!= count \&\& 0)/' stores
+plant "a version that is not looked at" 's/!= 1)\n        return 50/!= 1 \&\& 0)\n        return 50/' stores
+plant "edition 5 in a store" 's/store\[at + 14\] - 1u > 3/store[at + 14] - 1u > 4/' stores
+plant "52 for a first entry that is none" 's/kind == 0 ? 51 : 52;\n    if (load16/52;\n    if (load16/' stores
+plant "a row too few" 's/if (events_room < count)/if (events_room + 1 < count)/' stores
+plant "what follows the last entry" 's/if (at != length)/if (at > length)/' stores
+plant "the edition of a writing narrowed" 's/edition - 1 > 3/(uint8_t)edition - 1u > 3/' stores
+plant "a buffer a byte short" 's/if (buffer_len < bytes)/if (buffer_len + 1 < bytes)/' stores
+plant "equal identifiers in a store" 's/identifiers\[i - 1\] < identifiers/identifiers[i - 1] <= identifiers/' stores
+plant "sample_id_all that is not looked at" 's/ && events\[i\].sample_id_all != 0//' stores
+plant "1 before 11" 's/){ 0, 11 };\n    if (!ring/){ 0, ring_allowed(ring_length) ? 11 : 1 };\n    if (!ring/' stores
 rm -rf "$out"
 echo "planted mistakes: $found found, $missed missed"
 [ "$missed" -eq 0 ]

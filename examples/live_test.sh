@@ -358,6 +358,28 @@ grep -q -E ' [1-9][0-9]* refused' "$work/several.txt" && wrong "a saved ring of 
 "$programs/controller" --seconds 0.1 --save "$work/several" >/dev/null 2>&1
 ! ls "$work"/several-cpu*.table >/dev/null 2>&1 || wrong "a table of an earlier recording is left beside a ring of one event"
 
+# ---- settings that are kept: a second start is as the first, without its arguments; what the kernel does not open is not kept
+kept=$work/kept.store
+"$programs/controller" --seconds 0.2 --settings "$kept" --events page-faults,cpu-clock --budget 5 --pages 2 --edition 3 >"$work/kept1.txt" 2>&1 ||
+  wrong "controller --settings failed: $(tail -n 1 "$work/kept1.txt")"
+grep -q "^kept in $kept: 3 events, .*, edition 3, a budget of 5\$" "$work/kept1.txt" || wrong "controller --settings does not say what it keeps"
+cp "$kept" "$kept.first"
+"$programs/controller" --seconds 0.2 --settings "$kept" >"$work/kept2.txt" 2>&1 || wrong "controller does not start from its settings"
+grep -q "^settings of $kept: 3 events" "$work/kept2.txt" || wrong "controller --settings does not say what it starts from"
+grep -q ' drains\{0,1\} of at most 5 records;' "$work/kept2.txt" || wrong "controller starts with another budget than it kept"
+for event in switches cpu-clock page-faults; do
+  grep -q -E "^  of event $event +[0-9]" "$work/kept2.txt" || wrong "controller starts without event $event that it kept"
+done
+cmp -s "$kept" "$kept.first" || wrong "controller changes settings that it starts from as they are"
+said=$("$programs/controller" --seconds 0.1 --settings "$kept" --branch 0xffffffffffffffff 2>&1) && wrong "a branch sample type that no kernel knows is opened"
+cmp -s "$kept" "$kept.first" || wrong "settings that the kernel does not open are kept: $said"
+"$programs/controller" --seconds 0.1 --settings "$kept" --budget 6 >"$work/kept3.txt" 2>&1 || wrong "controller --settings --budget failed"
+grep -q "^kept in $kept: 3 events, .*, edition 3, a budget of 6\$" "$work/kept3.txt" || wrong "what is given at a start is not kept, or the rest is lost"
+head -c 100 "$kept" >"$kept.cut" && cp "$kept.cut" "$kept.before"
+"$programs/controller" --seconds 0.1 --settings "$kept.cut" >/dev/null 2>"$work/kept.err" && wrong "controller starts from a store that is cut short"
+grep -q 'refused with 51 at byte 63' "$work/kept.err" || wrong "a store that is cut short: $(cat "$work/kept.err")"
+cmp -s "$kept.cut" "$kept.before" || wrong "controller writes over a store that it cannot read"
+
 # ---- under load
 for budget in 1 16 40; do
   "$programs/load_test" 100000 "$budget" || wrong "records do not add up with a budget of $budget"

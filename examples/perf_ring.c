@@ -118,6 +118,53 @@ static const struct {
     { PERF_COUNT_SW_CPU_MIGRATIONS, 1, 0 },
 };
 
+static void counter_attr(struct perf_event_attr *attr, size_t number)
+{
+    common(attr);
+    attr->config = counters[number].config;
+    attr->sample_period = counters[number].period;
+    attr->sample_type |= counters[number].bits;
+}
+
+/* The ring's first event: the switches of the whole cpu. */
+static void first_attr(struct perf_event_attr *attr, const struct perf_want *want)
+{
+    common(attr);
+    attr->context_switch = 1;
+    attr->comm = 1;
+    attr->comm_exec = 1;
+    attr->task = 1;
+    if (want->program == 0)
+        with_mappings(attr);
+    if (want->clock)
+        with_clock(attr);
+    if (want->branch != 0)
+        with_branches(attr, want->branch);
+}
+
+/* An event's row in a table, as it is opened. */
+static void add_row(struct event_table *table, uint64_t identifier, const struct perf_event_attr *attr, const char *name)
+{
+    table->names[table->count] = name;
+    table->events[table->count++] = (struct ollskuvan_event){
+        .identifier = identifier, .sample_type = attr->sample_type, .read_format = attr->read_format,
+        .branch_sample_type = attr->branch_sample_type, .sample_id_all = 1,
+    };
+}
+
+void perf_want_table(const struct perf_want *want, struct event_table *table)
+{
+    struct perf_event_attr attr;
+    table->count = 0;
+    first_attr(&attr, want);
+    add_row(table, SWITCHES_NUMBER, &attr, "switches");
+    for (size_t i = 0; i < COUNTERS; i++)
+        if ((want->counters >> i & 1) != 0) {
+            counter_attr(&attr, i);
+            add_row(table, COUNTER_NUMBER + i, &attr, counter_names[i]);
+        }
+}
+
 /* An older kernel refuses what it does not know: then without build ids. */
 static int open_or_without_build_id(struct perf_event_attr *attr, pid_t pid, int cpu)
 {
@@ -180,21 +227,14 @@ static bool add_to_table(struct event_table *table, int fd, const struct perf_ev
     uint64_t identifier;
     if (ioctl(fd, PERF_EVENT_IOC_ID, &identifier) != 0)
         return false;
-    table->names[table->count] = name;
-    table->events[table->count++] = (struct ollskuvan_event){
-        .identifier = identifier, .sample_type = attr->sample_type, .read_format = attr->read_format,
-        .branch_sample_type = attr->branch_sample_type, .sample_id_all = 1,
-    };
+    add_row(table, identifier, attr, name);
     return true;
 }
 
 static enum perf_answer open_counter(struct perf_ring *ring, int cpu, size_t number, char why[WHY_ROOM])
 {
     struct perf_event_attr attr;
-    common(&attr);
-    attr.config = counters[number].config;
-    attr.sample_period = counters[number].period;
-    attr.sample_type |= counters[number].bits;
+    counter_attr(&attr, number);
     int fd = ring->counter_fds[number] = open_event(&attr, -1, cpu);
     if (fd < 0)
         return refuse_open(why, counter_names[number], errno);
@@ -225,17 +265,7 @@ static enum perf_answer open_counters(struct perf_ring *ring, const struct perf_
 static enum perf_answer open_events(struct perf_ring *ring, const struct perf_want *want, char why[WHY_ROOM])
 {
     struct perf_event_attr attr;
-    common(&attr);
-    attr.context_switch = 1;
-    attr.comm = 1;
-    attr.comm_exec = 1;
-    attr.task = 1;
-    if (want->program == 0)
-        with_mappings(&attr);
-    if (want->clock)
-        with_clock(&attr);
-    if (want->branch != 0)
-        with_branches(&attr, want->branch);
+    first_attr(&attr, want);
     ring->fd = open_or_without_build_id(&attr, -1, want->cpu);
     if (ring->fd < 0)
         return want->branch != 0 ? refuse_branches(why, errno) : refuse_open(why, "the switches of a cpu", errno);

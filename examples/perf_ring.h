@@ -56,6 +56,12 @@ struct perf_ring {
     size_t mapped_length;
 };
 
+/* The events that are wanted, as they will be opened, but for the program's own.
+ * In place of an identifier each has this program's own number: the kernel hands
+ * out others each time that they are opened. */
+enum { SWITCHES_NUMBER = 1, COUNTER_NUMBER = 2 /* and on, in the order of counter_names */ };
+void perf_want_table(const struct perf_want *want, struct event_table *table);
+
 /* Room for the reason of a failure. */
 enum { WHY_ROOM = 256 };
 

@@ -7,7 +7,8 @@
  * libollskuvan.a, handles every stop, hands back each tail, and names what is
  * refused. With --events more events write into the same ring, and it is drained
  * with a table of all of them. With --save nothing is drained until the end; the rings are then
- * written as images that the report takes.
+ * written as images that the report takes. With --settings it starts from a store of settings, and
+ * keeps in it what it was started with.
  */
 #define _GNU_SOURCE
 #include <getopt.h>
@@ -20,6 +21,7 @@
 #include "bytes.h"
 #include "commands.h"
 #include "events.h"
+#include "kept.h"
 #include "live.h"
 #include "memory.h"
 #include "messages.h"
@@ -27,12 +29,13 @@
 #include "ollskuvan.h"
 #include "readers.h"
 
-enum { BUDGET_MAX = 4096, REFUSALS_SHOWN = 20, PATH_ROOM = 512, STOPS = 12, REFUSALS = 64, TURNS = 64 };
+enum { BUDGET_MAX = KEPT_BUDGET_MAX, REFUSALS_SHOWN = 20, PATH_ROOM = 512, STOPS = 12, REFUSALS = 64, TURNS = 64 };
 
 struct options {
     struct live_want want;
     uint64_t budget;
     const char *save;
+    const char *settings; /* the store that it keeps them in */
     bool again; /* each ring's drains once more, as one */
     uint64_t report; /* records that a second reader takes a look; 0: there is none */
 };
@@ -358,6 +361,9 @@ static void usage(FILE *out)
         "  --events LIST events that sample too, in the same ring: cpu-clock, page-faults,\n"
         "                context-switches, cpu-migrations; with commas, each once\n"
         "  --edition N   what the reader knows: 1, 2, 3 or 4 (4)\n"
+        "  --settings FILE\n"
+        "                start from the budget, pages, edition and events that FILE keeps, but\n"
+        "                for those given here, and keep in it what was started with\n"
         "  --report N    two readers of each ring: a logger that is served first, in\n"
         "                drains of --budget, and a report that takes N records a look\n"
         "  --again       drain what fits a ring once more, as one, and compare\n"
@@ -401,6 +407,11 @@ static bool take_option(struct options *o, int letter)
     case 'w':
         o->save = optarg;
         return true;
+    case 't':
+        if (strcmp(optarg, "-") == 0)
+            complain("--settings: a file is wanted, not '-'");
+        o->settings = optarg;
+        return strcmp(optarg, "-") != 0;
     case 'g':
         return o->again = true;
     case 'o':
@@ -419,8 +430,8 @@ static bool read_options(struct options *o, int argc, char **argv, bool *help)
     static const struct option names[] = {
         { "seconds", 1, NULL, 's' }, { "budget", 1, NULL, 'b' }, { "pages", 1, NULL, 'p' }, { "cpu", 1, NULL, 'c' },
         { "clock", 0, NULL, 'k' }, { "branch", 1, NULL, 'r' }, { "events", 1, NULL, 'v' }, { "edition", 1, NULL, 'e' },
-        { "save", 1, NULL, 'w' }, { "again", 0, NULL, 'g' }, { "report", 1, NULL, 'o' }, { "help", 0, NULL, 'h' },
-        { NULL, 0, NULL, 0 },
+        { "save", 1, NULL, 'w' }, { "again", 0, NULL, 'g' }, { "report", 1, NULL, 'o' }, { "settings", 1, NULL, 't' },
+        { "help", 0, NULL, 'h' }, { NULL, 0, NULL, 0 },
     };
     int letter;
     optind = 0; /* a program of several commands has looked at its own arguments before */
@@ -430,14 +441,8 @@ static bool read_options(struct options *o, int argc, char **argv, bool *help)
         if (!take_option(o, letter))
             return false;
     }
-    if (o->want.clock && o->want.branch != 0) {
-        complain("--branch and --clock are one event: choose --branch and --events %s", counter_names[0]);
+    if (!kept_events_go(&o->want))
         return false;
-    }
-    if (o->want.clock && (o->want.counters & 1) != 0) { /* one software counter twice in a table */
-        complain("--clock and --events %s are the same counter: choose one", counter_names[0]);
-        return false;
-    }
     if (o->report != 0 && (o->save != NULL || o->again)) {
         complain("--report goes with neither --save nor --again: each of the two readers drains by its own tail");
         return false;
@@ -445,18 +450,70 @@ static bool read_options(struct options *o, int argc, char **argv, bool *help)
     o->want.program = optind < argc ? argv + optind : NULL;
     if (o->want.seconds == 0 && o->want.program == NULL)
         o->want.seconds = 2;
+    return true;
+}
+
+/* ---- settings that are kept ---- */
+
+/* What the store does not tell, or nobody asked it for. */
+static void fill_in(struct options *o)
+{
     if (o->want.pages == 0)
         o->want.pages = o->save != NULL ? PAGES_MAX : 4;
+    if (o->want.edition == 0)
+        o->want.edition = OLLSKUVAN_EDITION_4;
+    if (o->budget == 0)
+        o->budget = 32;
+}
+
+/* A store that is there and cannot be used ends it: it is not taken for none, and nothing is written over it. */
+static bool start_from_store(struct options *o)
+{
+    struct settings settings;
+    char why[WHY_ROOM], text[KEPT_TEXT];
+    switch (settings_load(o->settings, &settings, why)) {
+    case SETTINGS_MISSING:
+        return true;
+    case SETTINGS_READ:
+        if (kept_start(&settings, &o->want, &o->budget, why)) {
+            printf("settings of %s: %s\n", o->settings, kept_text(&settings, text));
+            return true;
+        }
+        /* fall through */
+    default:
+        complain("%s: %s", o->settings, why);
+        return false;
+    }
+}
+
+/* Once the kernel has opened it all: what it does not open is not kept. */
+static bool keep_settings(const struct options *o)
+{
+    struct settings now, before;
+    char why[WHY_ROOM], text[KEPT_TEXT];
+    kept_settings(&o->want, o->budget, &now);
+    if (settings_load(o->settings, &before, why) == SETTINGS_READ && settings_equal(&now, &before))
+        return true;
+    if (!settings_save(o->settings, &now, why)) {
+        complain("%s: %s", o->settings, why);
+        return false;
+    }
+    printf("kept in %s: %s\n", o->settings, kept_text(&now, text));
     return true;
 }
 
 static int control(struct controller *c)
 {
+    if (c->options.settings != NULL && !start_from_store(&c->options))
+        return STATUS_FAILED;
+    fill_in(&c->options);
     if (c->options.save != NULL && !save_names(c)) /* none yet: where nothing can be written it is said before anything is recorded */
         return STATUS_FAILED;
     int status = live_open(&c->live, &c->options.want);
     if (status != STATUS_DONE)
         return status;
+    if (c->options.settings != NULL && !keep_settings(&c->options))
+        return STATUS_FAILED;
     if (c->options.save != NULL)
         names_from_proc(&c->names, false);
     c->full = must(calloc(c->live.count + 1, sizeof *c->full));
@@ -489,7 +546,7 @@ int record_command(int argc, char **argv)
     bool help = false;
     called_as(argv[0]);
     struct controller *c = must(calloc(1, sizeof *c)); /* its buffers are long for a stack */
-    c->options = (struct options){ .budget = 32, .want = { .cpu = -1, .edition = OLLSKUVAN_EDITION_4 } };
+    c->options = (struct options){ .want = { .cpu = -1 } };
     c->live.program = PROGRAM_NONE;
     int status = read_options(&c->options, argc, argv, &help) ? STATUS_DONE : STATUS_USAGE;
     if (help)

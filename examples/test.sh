@@ -199,6 +199,12 @@ for list in '' faults page-faults, page-faults,page-faults 'page-faults cpu-cloc
 done
 refuses 2 '--clock and --events cpu-clock are the same counter' controller --clock --events page-faults,cpu-clock
 refuses 1 'No such file' controller --save "$out/none/saved"
+# a store that is none is named with its number and place, and left as it is
+printf '\010\000\000\000\001\000\001\000\007' >"$out/broken.store" && cp "$out/broken.store" "$out/broken.kept"
+refuses 1 'broken.store: no settings: refused with 51 at byte 8: 1 byte is left' controller --settings "$out/broken.store"
+cmp -s "$out/broken.store" "$out/broken.kept" || wrong "controller --settings writes over a store that it cannot read"
+refuses 1 'Is a directory' controller --settings "$out"
+refuses 2 "--settings: a file is wanted, not '-'" controller --settings -
 "$late" --help | grep -q '^usage: late ' || wrong "late --help"
 (exec -a 'x/two words' "$late" --help) | grep -q '^usage: two words ' || wrong "the usage does not take its name from argv[0]"
 

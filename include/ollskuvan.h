@@ -17,10 +17,10 @@
  * that drain a ring from one tail take the same records; two readers of one ring
  * keep a tail each, and ollskuvan_publish tells which one the kernel gets.
  *
- * Stack: no call needs more than 2,560 bytes, its return address and what it
- * calls included (measured on a painted stack); besides its own code it calls
- * the C library's memcpy and memset alone. No function calls itself, so no input
- * makes it more.
+ * Stack: no call needs more than 2,560 bytes, but for ollskuvan_read_store, which
+ * needs up to 16,640: its return address and what it calls included (measured on a
+ * painted stack). Besides its own code a call needs the C library's memcpy and
+ * memset alone. No function calls itself, so no input makes it more.
  *
  * What the caller owes:
  *
@@ -28,9 +28,9 @@
  *    for that many elements for the time of the call, for writing too where it
  *    is not const, and the u64 slices must be aligned to 8 bytes. A slice of
  *    length 0 may have any pointer, also a null pointer.
- *  - A slice that is written (scratch, journal, buffer, fields) must not
- *    overlap any other slice of the same call. Slices that are only read may
- *    overlap each other.
+ *  - A slice that is written (scratch, journal, buffer, fields, the table of
+ *    read_store) must not overlap any other slice of the same call. Slices that
+ *    are only read may overlap each other.
  *  - Nobody else may write to a lent slice during the call. For a live ring
  *    this means: read data_head, then issue your own read barrier, then call;
  *    after the call issue your own full barrier and only then store the new
@@ -90,6 +90,18 @@ extern "C" {
 /* The most events of a table; the fewest is 1. */
 #define OLLSKUVAN_EVENTS_MAX 32u
 
+/* The store of settings (ollskuvan_write_store): the version that is written, the
+ * kinds of its entries, and the bytes that a store of so many events takes, by
+ * version: 8 for the version, 55 an event, 19 for the rest. Version 1 holds 1 to 32
+ * events. OLLSKUVAN_STORE_BYTES is for the version that is written: a buffer of so
+ * many bytes is long enough. */
+#define OLLSKUVAN_STORE_VERSION 1u
+#define OLLSKUVAN_KIND_VERSION 1u /* the first entry: the store's version */
+#define OLLSKUVAN_KIND_EVENT 2u   /* an event: its index, identifier and attributes */
+#define OLLSKUVAN_KIND_RING 3u    /* the last entry: ring length, edition, budget */
+#define OLLSKUVAN_STORE_BYTES_1(events) (27u + 55u * (events))
+#define OLLSKUVAN_STORE_BYTES(events) OLLSKUVAN_STORE_BYTES_1(events)
+
 /* The bytes of one journal entry. */
 #define OLLSKUVAN_JOURNAL_ENTRY 16u
 /* Where the parts of an entry lie in it. */
@@ -121,10 +133,12 @@ extern "C" {
 /* 10 is never used again. It was kept for a header that crosses the ring's end, which cannot be once 1 and 5 pass. */
 #define OLLSKUVAN_STOP_TABLE 11u         /* the table of events is not allowed */
 
-/* The same numbers as answers of check, read and write, where nothing stops. */
-#define OLLSKUVAN_REFUSED_EDITION 2u /* check, read, write: the edition is not 1, 2, 3 or 4 */
+/* The same numbers as answers of check, read and write, and of the store's two calls, where nothing stops. */
+#define OLLSKUVAN_REFUSED_RING_LENGTH 1u /* write_store: the ring's length is not allowed */
+#define OLLSKUVAN_REFUSED_EDITION 2u /* check, read, write, write_store: the edition is not 1, 2, 3 or 4 */
 #define OLLSKUVAN_REFUSED_SIZE 6u    /* check, read: as OLLSKUVAN_STOP_SIZE */
 #define OLLSKUVAN_REFUSED_LENGTH 7u  /* check, read: the slice is shorter than 8 bytes, or the size is not its length */
+#define OLLSKUVAN_REFUSED_TABLE 11u  /* read_store, write_store: the table of events is not allowed */
 
 /* Name copy alone: the name and one zero do not fit the buffer. */
 #define OLLSKUVAN_REFUSED_NAME_ROOM 12u
@@ -147,13 +161,19 @@ extern "C" {
 #define OLLSKUVAN_REFUSED_NAME 33u        /* no zero byte in the name's room, or the first is not among its last 8 bytes */
 
 /* Refusals by what is lent: room, places and values. */
-#define OLLSKUVAN_REFUSED_ROOM 40u  /* write: the record doesn't fit the buffer; read, read_one: fewer than OLLSKUVAN_FIELDS words */
+#define OLLSKUVAN_REFUSED_ROOM 40u  /* write, write_store: it doesn't fit the buffer; read, read_one: fewer than OLLSKUVAN_FIELDS words; read_store: too few rows */
 #define OLLSKUVAN_REFUSED_PLACE 41u /* copy_name, write: place plus bytes, as plain numbers, passes the end */
 #define OLLSKUVAN_REFUSED_VALUE 42u /* write: no record decodes to this value; or fewer than OLLSKUVAN_FIELDS words */
 #define OLLSKUVAN_REFUSED_DIRTY_VALUE 43u /* write: the value has a name's flag set: its word is not 0 */
 /* Record check alone, in place of 0: the record is sound, and its name has stale
  * bytes. Every other call takes it as accepted. */
 #define OLLSKUVAN_DIRTY_NAME 44u /* check: a byte after the name's zero, within its room, is not zero */
+
+/* Refusals of a store (ollskuvan_read_store), at its first faulty entry, tested
+ * there in this order. */
+#define OLLSKUVAN_REFUSED_VERSION 50u /* the store's first entry is whole, and shows a version that this build does not read */
+#define OLLSKUVAN_REFUSED_ENTRY 51u   /* an entry is cut short, shorter than 6, or fits no known kind; or the store ends before kind 3 */
+#define OLLSKUVAN_REFUSED_DEPARTURE 52u /* any other: a kind or an index out of turn; a ring length or an edition that is not allowed */
 
 /* ------------------------------------------------------------------------
  * Record types: what stands in word OLLSKUVAN_TYPE of a value.
@@ -739,6 +759,80 @@ struct ollskuvan_published {
  * store it in data_tail after your own full barrier, as after a drain.
  */
 struct ollskuvan_published ollskuvan_publish(uint64_t ring_length, uint64_t head, uint64_t first, uint64_t second);
+
+/* ------------------------------------------------------------------------
+ * A store of settings: what a controller has to know again after its board was
+ * swapped, in bytes that the caller keeps.
+ *
+ * A store is entries end to end, without a gap. An entry is a length of 4 bytes
+ * that covers itself, a kind of 2 bytes, then the body. Little-endian:
+ *
+ *     kind 1, length 8      the store's version, 2 bytes: 1
+ *     kind 2, length 55     for each event its index in one byte, from 0 upward, then identifier, sample type,
+ *                           read format, user mask, interrupt mask and branch sample type, 8 bytes each
+ *     kind 3, length 19     ring length (8 bytes), edition (1), budget (4)
+ *
+ * sample_id_all is not stored, since every event of a table has it. Identifiers
+ * are stored as they are given; mind that a kernel hands out new ones to events
+ * that are opened anew. A store has no sum over its bytes: of a changed byte it is
+ * seen whether the store still is one, and not that it is another.
+ */
+
+struct ollskuvan_settings {
+    uint64_t events;      /* how many rows of the table were written */
+    uint64_t ring_length; /* allowed: a power of two from 64 to 1,048,576 */
+    uint32_t edition;     /* 1, 2, 3 or 4 */
+    uint32_t budget;      /* any */
+    uint32_t answer;      /* 0: read. Any other: all else here is 0 */
+};
+
+/*
+ * ollskuvan_read_store reads a store, which is the whole slice. In this order,
+ * at the first entry that is faulty:
+ *   50 if it is the store's first, has length 8 and kind 1, and shows a version
+ *      that is not 1;
+ *   51 if it is cut short (fewer than 4 bytes are left, or fewer than its length
+ *      says), its length is below 6, its kind is not 1, 2 or 3, or its length is
+ *      not that of its kind. A store that ends before kind 3, the empty one too,
+ *      is 51;
+ *   52 otherwise: the first entry is of kind 2 or 3, or a later one of kind 1; an
+ *      index is not the number of events before it (so that a 257th event is 52);
+ *      a ring length or an edition is not allowed; something follows kind 3 (51, if
+ *      it is no entry that fits a known kind).
+ * Where no entry is faulty:
+ *   11 if there is no event or more than 32, two identifiers are equal, or an
+ *      event lacks sample bit 16;
+ *   40 if events_room is below the number of events;
+ *   otherwise 0.
+ * Refused: the lent table is unchanged. Accepted: its first rows are the events,
+ * each with sample_id_all 1, in the order of the store; its other rows are
+ * unchanged. A table of OLLSKUVAN_EVENTS_MAX rows is always long enough.
+ *
+ * An older build answers 52 to an edition that it does not know, and 50 to a
+ * version that it does not know.
+ */
+struct ollskuvan_settings ollskuvan_read_store(const uint8_t *store, size_t store_len, struct ollskuvan_event *events,
+    size_t events_room);
+
+struct ollskuvan_stored {
+    uint64_t bytes;  /* the store's length: OLLSKUVAN_STORE_BYTES(event_count); 0 if answer is not 0 */
+    uint32_t answer; /* 0; or 11, 1, 2 or 40 */
+};
+
+/*
+ * ollskuvan_write_store writes a store to the start of the buffer. In this order:
+ *   11 if the table is not allowed, as for ollskuvan_drain_events;
+ *   1 if the ring length is not allowed;
+ *   2 if the edition is not 1, 2, 3 or 4;
+ *   40 if the buffer is shorter than the store;
+ *   otherwise 0.
+ * Refused: the buffer is unchanged. Accepted: it begins with the store, its other
+ * bytes are unchanged. What is written reads back as the same settings, with
+ * sample_id_all 1. A store that reads is the only one of its version that reads
+ * as its settings: written again, it has the same bytes.
+ */
+struct ollskuvan_stored ollskuvan_write_store(const struct ollskuvan_event *events, size_t event_count,
+    uint64_t ring_length, uint32_t edition, uint32_t budget, uint8_t *buffer, size_t buffer_len);
 
 /* ------------------------------------------------------------------------
  * The numbers in words, for messages. These four are plain C and stand in

@@ -23,7 +23,7 @@ awk -F'|' '
             split(substr($0, RSTART, RLENGTH), part, " ")
             due[part[2]] = part[3] + 0
             if (area == "word" && part[2] != "OLLSKUVAN_FIELDS" ||
-                    part[2] ~ /^OLLSKUVAN_(TYPE_|STOP_|REFUSED_|DIRTY_|MEANS_|JOURNAL_[KLAT]|EVENTS_)/)
+                    part[2] ~ /^OLLSKUVAN_(TYPE_|STOP_|REFUSED_|DIRTY_|MEANS_|JOURNAL_[KLAT]|EVENTS_|KIND_[VER]|STORE_)/)
                 must[part[2]] = 1
         }
         next

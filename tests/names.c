@@ -57,7 +57,8 @@ enum kind {
     LEAST_WORDS_READ, OLDEST_EDITION, RING_SHORTEST, RING_LONGEST, RECORD_LONGEST,
     ENTRY_BYTES, ENTRY_OFFSET, ENTRY_KIND_GIVEN,
     MEANING_GIVEN, STOP_GIVEN, CHECK_GIVEN, COPY_GIVEN, WRITE_GIVEN, DIRTY_CHECK_GIVEN, DIRTY_WRITE_GIVEN,
-    EVENTS_MOST, TABLE_STOP_GIVEN, EVENT_ANSWER_GIVEN
+    EVENTS_MOST, TABLE_STOP_GIVEN, EVENT_ANSWER_GIVEN,
+    STORE_BYTE_WRITTEN, STORE_READ_GIVEN, STORE_WRITE_GIVEN
 };
 
 struct row {
@@ -107,6 +108,9 @@ struct row {
 #define MOST_EVENTS(w) ROW(EVENTS_MOST, #w, w, NULL, 0)
 #define TABLE_STOP(w, ...) ROW(TABLE_STOP_GIVEN, #w, w, NULL, __VA_ARGS__)
 #define EVENT_ANSWER(w, ...) ROW(EVENT_ANSWER_GIVEN, #w, w, NULL, __VA_ARGS__)
+#define STORE_BYTE(w, place) ROW(STORE_BYTE_WRITTEN, #w, w, NULL, place)
+#define STORE_READ(w, ...) ROW(STORE_READ_GIVEN, #w, w, NULL, __VA_ARGS__)
+#define STORE_WRITTEN(w, ...) ROW(STORE_WRITE_GIVEN, #w, w, NULL, __VA_ARGS__)
 
 /* The entry that ENTRY_PLACE looks at: a type that no edition knows, at this tail. */
 #define ENTRY_KIND 0x7766
@@ -248,6 +252,34 @@ static uint64_t most_events(void)
     return count;
 }
 
+/* A store of the one event 1: with this ring length and edition, into so many bytes. */
+static uint32_t stored(uint64_t length, uint64_t edition, uint8_t *buffer, uint64_t room)
+{
+    const struct ollskuvan_event event = {1, 1 << 16, 0, 0, 0, 0, 1};
+    return ollskuvan_write_store(&event, 1, length, (uint32_t)edition, 7, buffer, (size_t)room).answer;
+}
+
+/* Such a store of version 1, laid out by hand, with another byte at this place; so many bytes of it, into so many rows. */
+static uint32_t read_changed(uint64_t place, uint64_t byte, uint64_t length, uint64_t rows)
+{
+    struct ollskuvan_event table[2];
+    uint8_t store[82] = {8, 0, 0, 0, 1, 0, 1, 0, 55, 0, 0, 0, 2};
+    store[15] = 1; /* the identifier, behind the index */
+    store[25] = 1; /* sample bit 16 */
+    store[63] = 19;
+    store[67] = 3;
+    store[69] = 64;
+    store[77] = 3;
+    store[place] = (uint8_t)byte;
+    return ollskuvan_read_store(store, (size_t)length, table, (size_t)rows).answer;
+}
+
+static uint64_t store_byte(uint64_t place)
+{
+    uint8_t store[128] = {0};
+    return stored(64, 3, store, sizeof store) ? 999 : (uint64_t)store[place];
+}
+
 /* A LOST with this size word, into a buffer of this length: words 0, 1 and 2 are type, misc and size. */
 static uint64_t written(uint64_t size, uint64_t length)
 {
@@ -298,6 +330,9 @@ static uint64_t shown(const struct row *row)
     case EVENTS_MOST: return most_events();
     case TABLE_STOP_GIVEN: return answered(n[0], 14, 16, 1, buffer);
     case EVENT_ANSWER_GIVEN: return answered(1, n[0], n[1], n[2], buffer) ? 999 : (uint64_t)buffer[6];
+    case STORE_BYTE_WRITTEN: return store_byte(n[0]);
+    case STORE_READ_GIVEN: return read_changed(n[0], n[1], n[2], n[3]);
+    case STORE_WRITE_GIVEN: return stored(n[0], n[1], buffer, n[2]);
     default: return n[0]; /* SAME_NUMBER */
     }
 }

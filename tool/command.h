@@ -14,6 +14,7 @@
 int dump_command(int argc, char **argv);
 int journal_command(int argc, char **argv);
 int explain_command(int argc, char **argv);
+int settings_command(int argc, char **argv);
 
 /* A word of the command line that begins with "-". */
 struct flag {

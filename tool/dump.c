@@ -22,26 +22,13 @@ static const struct takes takes = {
     flags, 1, 1,
 };
 
-static void print_attributes(uint64_t sample_type, uint64_t read_format, uint64_t user_mask, uint64_t interrupt_mask,
-    uint64_t branch_sample_type)
-{
-    fputs("sample type ", stdout);
-    show_sample_type(sample_type);
-    fputs("\nread format ", stdout);
-    show_read_format(read_format);
-    printf("\nmasks       user 0x%" PRIx64 ", interrupt 0x%" PRIx64 "\n", user_mask, interrupt_mask);
-    fputs("branch type ", stdout);
-    show_branch_type(branch_sample_type);
-    putchar('\n');
-}
-
 static void print_image(const struct image *image)
 {
     printf("ring        %zu bytes, head %" PRIu64 ", tail %" PRIu64 "\n", image->length, image->head, image->tail);
     if (image->table.count == 0) {
         printf("edition     %" PRIu32 ", sample_id_all %s\n", image->edition,
             image->sample_id_all != 0 ? "set" : "not set");
-        print_attributes(image->sample_type, image->read_format, image->user_mask, image->interrupt_mask,
+        show_attributes(image->sample_type, image->read_format, image->user_mask, image->interrupt_mask,
             image->branch_sample_type);
         return;
     }
@@ -49,7 +36,7 @@ static void print_image(const struct image *image)
     for (size_t i = 0; i < image->table.count; i++) {
         const struct ollskuvan_event *v = &image->table.events[i];
         printf("event       %" PRIu64 ", sample_id_all %s\n", v->identifier, v->sample_id_all != 0 ? "set" : "not set");
-        print_attributes(v->sample_type, v->read_format, v->user_mask, v->interrupt_mask, v->branch_sample_type);
+        show_attributes(v->sample_type, v->read_format, v->user_mask, v->interrupt_mask, v->branch_sample_type);
     }
 }
 

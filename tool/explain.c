@@ -63,7 +63,9 @@ static const struct {
         "    most the stack size; a build id has at most 20 bytes." },
     { OLLSKUVAN_REFUSED_NAME,
         "The first zero must be among the last 8 bytes before the trailer or the record's end." },
-    { OLLSKUVAN_REFUSED_ROOM, "The buffer is too short, or there are fewer words than OLLSKUVAN_FIELDS." },
+    { OLLSKUVAN_REFUSED_ROOM,
+        "The buffer is too short, or there are fewer words than OLLSKUVAN_FIELDS, or fewer rows than a store\n"
+        "    has events." },
     { OLLSKUVAN_REFUSED_PLACE, "Of a name in its record, or of a list or name in the source of a writing." },
     { OLLSKUVAN_REFUSED_VALUE, "ollskuvan.h says how a value is built from nothing." },
     { OLLSKUVAN_REFUSED_DIRTY_VALUE,
@@ -72,6 +74,13 @@ static const struct {
     { OLLSKUVAN_DIRTY_NAME,
         "Of record check alone, in place of 0: the record is sound, and a byte after its name's zero, before the\n"
         "    trailer or the record's end, is not zero. A drain and the readers answer 0." },
+    { OLLSKUVAN_REFUSED_VERSION, "This build reads version 1. A newer program wrote the store." },
+    { OLLSKUVAN_REFUSED_ENTRY,
+        "The store is damaged: a length is below 6, passes the end or is not that of its kind, or the last\n"
+        "    entry, which has the ring's length, is missing." },
+    { OLLSKUVAN_REFUSED_DEPARTURE,
+        "A kind or an index out of turn; a ring length that is no power of two from 64 to 1,048,576; or an\n"
+        "    edition that this build does not know." },
 };
 
 static void print_note(uint32_t number)

@@ -358,3 +358,18 @@ void show_fields(const struct value *value)
         show_field(value, row);
     }
 }
+
+/* ---- attributes ---- */
+
+void show_attributes(uint64_t sample_type, uint64_t read_format, uint64_t user_mask, uint64_t interrupt_mask,
+    uint64_t branch_sample_type)
+{
+    fputs("sample type ", stdout);
+    show_sample_type(sample_type);
+    fputs("\nread format ", stdout);
+    show_read_format(read_format);
+    printf("\nmasks       user 0x%" PRIx64 ", interrupt 0x%" PRIx64 "\n", user_mask, interrupt_mask);
+    fputs("branch type ", stdout);
+    show_branch_type(branch_sample_type);
+    putchar('\n');
+}

@@ -36,6 +36,10 @@ void show_sample_type(uint64_t sample_type);
 void show_read_format(uint64_t read_format);
 void show_branch_type(uint64_t branch_sample_type);
 
+/* The attributes of an event, four lines. */
+void show_attributes(uint64_t sample_type, uint64_t read_format, uint64_t user_mask, uint64_t interrupt_mask,
+    uint64_t branch_sample_type);
+
 /* Sixteen bytes a line; a few of them unless the whole is wanted. */
 void show_bytes(const uint8_t *bytes, size_t count, bool whole);
 

@@ -25,8 +25,11 @@ build() { # NAME FLAGS.. FILES..: C99 with the tool's own files
     $archives || { echo "tool/test.sh: $name does not build"; exit 1; }
 }
 shared='tool/image.c tool/command.c examples/events.c examples/messages.c examples/text.c'
+# what a writing of a store is made of, so that it can end or fail at each step
+steps='-Wl,--wrap=write,--wrap=fsync,--wrap=rename,--wrap=fchmod,--wrap=close'
 # shellcheck disable=SC2086
 {
+  build stores -O1 $steps tool/tests/stores.c examples/settings.c
   build values -O1 tool/tests/values.c tool/show.c $shared
   build stack -O1 -fno-optimize-sibling-calls -Wl,-z,now tool/tests/stack.c $shared
   # under an emulator the sanitizers do not run
@@ -34,6 +37,8 @@ shared='tool/image.c tool/command.c examples/events.c examples/messages.c exampl
   [ -z "${OLLSKUVAN_EMULATED:-}" ] || sanitizers=
   build damage -O1 $sanitizers tool/tests/damage.c tool/dump.c \
     tool/journal.c tool/show.c words/ollskuvan_words.c $shared
+  build stores-checked -O1 -fsanitize=address,undefined -fno-sanitize-recover=all $steps tool/tests/stores.c \
+    examples/settings.c
 }
 
 # ---- the header's constants and the one table of words
@@ -232,9 +237,142 @@ refuses 1 '10 is no stop or refusal any more: it could never be given, and is ne
 (exec <&-; $tool dump - 2>&1 >/dev/null) | grep -q 'dump: standard input: ' || wrong "a closed standard input"
 $tool dump -- rings/tasks.img | cmp -s - $out/tasks.txt || wrong "dump -- IMAGE"
 
+# ---- stores of settings: written, shown; what is wrong with one is said with its number and place
+stores=$out/kept-stores
+mkdir -p $stores/cut $stores/changed $stores/links
+writes() { # FILE OPTION..
+  $tool settings write "$@" >$out/printed.txt 2>$out/said.txt || wrong "settings write $*: $(cat $out/said.txt)"
+  grep -q "^kept in $1: " $out/printed.txt || wrong "settings write $*: it does not say what it kept"
+  tried=$((tried + 1))
+}
+shows() { # FILE WORDS..: a line each
+  local file=$1
+  shift
+  $tool settings show "$file" >$out/shown.txt || wrong "settings show $file failed"
+  for words in "$@"; do grep -q "^$words\$" $out/shown.txt || wrong "settings show $file: no line '$words'"; done
+  tried=$((tried + 1))
+}
+writes $stores/one
+shows $stores/one 'store       version 1, 82 bytes, 1 event' 'edition     4' 'budget      32' 'event 0     identifier 1'
+[ "$(wc -c <$stores/one)" -eq 82 ] || wrong "a store of one event has other than 82 bytes"
+writes $stores/three --events page-faults,cpu-clock --edition 3 --budget 7 --pages 1
+shows $stores/three 'store       version 1, 192 bytes, 3 events' 'budget      7' 'event 2     identifier 3'
+writes $stores/branch --branch 0x20009
+shows $stores/branch 'branch type 0x20009.*' 'sample type 0x10987 .*'
+cp $stores/three $stores/again
+writes $stores/again --events page-faults,cpu-clock --edition 3 --budget 7 --pages 1
+cmp -s $stores/three $stores/again || wrong "the same settings are kept in other bytes"
+ln -s ../one $stores/links/one && cp $stores/one $stores/kept
+writes $stores/links/one --budget 9
+[ -L $stores/links/one ] && shows $stores/one 'budget      9' || wrong "a link to a store is replaced, and not the store"
+writes $stores/one
+[ "$(ls $stores | grep -c new)" -eq 0 ] || wrong "settings write leaves files behind"
+$tool settings show - <$stores/three | cmp -s - <($tool settings show $stores/three) || wrong "settings show of standard input"
+$tool settings show $stores/one $stores/three >$out/both.txt || wrong "settings show of two stores"
+[ "$(grep -c '^store ' $out/both.txt)" -eq 2 ] && grep -q "^$stores/three\$" $out/both.txt || wrong "settings show of two stores"
+if [ "${1:-}" = --write ]; then
+  $tool settings show $stores/three >tool/expected/settings.txt
+else
+  $tool settings show $stores/three | diff -u tool/expected/settings.txt - >$out/expected.diff ||
+    { wrong "settings show is not as expected"; head -n 20 $out/expected.diff; }
+fi
+# of a saved ring with its table: the identifiers that its records have
+writes $stores/image --image rings/events/counters.img --budget 5
+shows $stores/image 'store       version 1, 247 bytes, 4 events' 'budget      5' 'edition     3'
+for id in $(sed -n 's/^\([0-9][0-9]*\) .*/\1/p' rings/events/counters.table); do
+  grep -q "^event .* identifier $id\$" $out/shown.txt || wrong "settings write --image: no event $id"
+done
+# a store of 32 events, and a table of 33
+cp rings/events/counters.img $stores/many.img
+seq 1 32 | sed 's/$/ 0x10000 0 0 0 0 1/' >$stores/many.table
+writes $stores/many --image $stores/many.img
+shows $stores/many 'store       version 1, 1787 bytes, 32 events' 'event 31    identifier 32'
+seq 1 33 | sed 's/$/ 0x10000 0 0 0 0 1/' >$stores/many.table
+refuses 1 'one more event than a table may have' settings write $stores/many --image $stores/many.img
+# what cannot be kept replaces nothing
+seq 1 3 | sed 's/$/ 0x86 0 0 0 0 1/' >$stores/many.table
+cp $stores/many $out/kept
+refuses 1 'these settings cannot be kept: 11, the table of events is not allowed' settings write $stores/many --image $stores/many.img
+refuses 1 'no table of events beside it' settings write $stores/many --image rings/tasks.img
+refuses 1 'No such file' settings write $stores/many --image $out/none.img
+refuses 1 'no ring image' settings write $stores/many --image $out/49.img
+(trap '' XFSZ; ulimit -f 0; exec $tool settings write $stores/many --budget 3) >/dev/null 2>&1
+[ $? -eq 1 ] || wrong "settings write where nothing can be written"
+cmp -s $stores/many $out/kept || wrong "a store that could not be written replaces one"
+[ "$(ls $stores | grep -c 'new-')" -eq 0 ] || wrong "settings write leaves files behind"
+refuses 1 'it is no file' settings write /dev/null
+refuses 1 'it is no file' settings write $stores
+refuses 1 'No such file' settings write $out/none/store
+# each fault by its number and place; the place is that of the first faulty entry
+fault() { # NAME OFFSET OCTAL-BYTES WORDS: store three with other bytes
+  cp $stores/three "$stores/$1" && printf "$3" | dd of="$stores/$1" bs=1 seek="$2" conv=notrunc status=none
+  refuses 1 "$stores/$1: no settings: refused with $4" settings show "$stores/$1"
+}
+fault version 6 '\011' '50 at byte 0: version 9'
+fault kind 4 '\002' '51 at byte 0: an entry of kind 2 and 8 bytes, which fits no known kind'
+fault length 8 '\005' '51 at byte 8: an entry of 5 bytes, where 6 to 184 are possible'
+fault long 11 '\001' '51 at byte 8: an entry of 16777271 bytes'
+fault index 69 '\005' '52 at byte 63: index 5, where 1 is due'
+fault ring 180 '\003' '52 at byte 173: a ring of 768 bytes, which is not allowed'
+fault edition 187 '\005' '52 at byte 173: edition 5, which this build does not know'
+fault twins 70 '\001' '11 at byte 63: events 0 and 1 have the identifier 1'
+fault unmarked 80 '\000' '11 at byte 63: event 1 lacks sample bit 16'
+head -c 191 $stores/three >$stores/cut-191
+refuses 1 'refused with 51 at byte 173: an entry of 19 bytes, where 6 to 18 are possible' settings show $stores/cut-191
+head -c 173 $stores/three >$stores/cut-173
+refuses 1 "refused with 51 at byte 173: it ends before the ring's length" settings show $stores/cut-173
+head -c 64 $stores/three >$stores/cut-64
+refuses 1 'refused with 51 at byte 63: 1 byte is left' settings show $stores/cut-64
+: >$stores/empty
+refuses 1 'refused with 51 at byte 0: it is empty' settings show $stores/empty
+cat $stores/three $stores/three >$stores/doubled
+refuses 1 'refused with 52 at byte 192: an entry behind the last one' settings show $stores/doubled
+{ head -c 8 $stores/three; cat $stores/three; } >$stores/second
+refuses 1 'refused with 52 at byte 8: a version for the second time' settings show $stores/second
+tail -c +9 $stores/three >$stores/headless
+refuses 1 'refused with 52 at byte 0: the first entry does not tell the version' settings show $stores/headless
+{ head -c 8 $stores/three; tail -c 19 $stores/three; } >$stores/eventless
+refuses 1 'refused with 11 at byte 27: 0 events, where 1 to 32 are allowed' settings show $stores/eventless
+refuses 1 'refused with 51 at byte 0' settings show rings/tasks.img
+refuses 1 'No such file' settings show $stores/none
+refuses 1 'Is a directory' settings show $stores
+says 1 'refused with 50 at byte 0' settings show $stores/version $stores/one
+grep -q '^store       version 1, 82 bytes' $out/printed.txt || wrong "after a store that is none, the next is not shown"
+refuses 2 'show or write?' settings
+refuses 2 'show or write is wanted, not read' settings read
+refuses 2 'which FILE?' settings show
+refuses 2 'one FILE is wanted' settings write
+refuses 2 'one FILE is wanted' settings write $stores/one $stores/two
+refuses 2 'a FILE is wanted, not -' settings write -
+refuses 2 '--budget: a number from 1 to 4096 is wanted' settings write $stores/one --budget 0
+refuses 2 '--edition: a number from 1 to 4 is wanted' settings write $stores/one --edition 5
+refuses 2 '--pages: a power of two' settings write $stores/one --pages 3
+refuses 2 'are the same counter' settings write $stores/one --clock --events cpu-clock
+refuses 2 '--image tells the events' settings write $stores/one --image rings/events/counters.img --pages 1
+refuses 2 "try 'ollskuvan settings --help'" settings write $stores/one --nonsense
+# of every byte of a store one change, and of damaged ones: the number and the place are those of the independent reader
+if [ -x target/tests/reader ]; then
+  target/tests/reader store-damage $stores/three $stores/changed --count 400 || wrong "no damaged stores"
+  target/tests/reader store-told $stores/changed/*.store |
+    sed -E -e 's/: (1?[0-9]*) at byte /: refused with \1 at byte /' -e 's/: 11$/: refused with 11 at byte .*/' >$out/due.txt
+  $tool settings show $stores/changed/*.store >$out/shown.txt 2>$out/said.txt
+  sed -E -e 's/^ollskuvan settings: //' -e 's/: no settings: (refused with [0-9]+ at byte [0-9]+): .*/: \1/' \
+    -e 's/: (refused with 11 at byte) .*/: \1 .*/' $out/said.txt >$out/told.txt
+  grep ': refused with' $out/due.txt | cmp -s - $out/told.txt ||
+    { wrong "settings show tells other numbers or places than the independent reader"; grep ': refused with' $out/due.txt | diff - $out/told.txt | head -n 6; }
+  [ "$(grep -c ': version 1, ' $out/due.txt)" -eq "$(grep -c '^store ' $out/shown.txt)" ] || wrong "settings show reads other stores than the independent reader"
+  for number in 11 50 51 52; do grep -q "refused with $number at" $out/told.txt || wrong "no damaged store was refused with $number"; done
+  $out/stores-checked show $stores/changed/*.store $stores/[a-z]* >$out/checked.txt 2>&1 ||
+    wrong "a damaged store under the sanitizers: $(head -n 5 $out/checked.txt)"
+  echo "settings: $(wc -l <$out/due.txt) changed stores, $(wc -l <$out/told.txt) of them refused, by the numbers and places of the independent reader"
+else
+  echo "settings: places not compared: target/tests/reader is not built (tests/run.sh)"
+fi
+$out/stores cut $stores/cut || wrong "a writing of a store that is cut short"
+
 # ---- output that cannot be written
 for words in 'dump rings/tasks.img' 'journal rings/tasks.img' 'report rings/tasks.img' 'explain 7' --help --version \
-  'dump --help'; do
+  'dump --help' "settings show $stores/three" 'settings --help'; do
   # shellcheck disable=SC2086
   {
     said=$($tool $words 2>&1 >/dev/full) && wrong "ollskuvan $words to a full device: exit 0"
@@ -246,7 +384,7 @@ for words in 'dump rings/tasks.img' 'journal rings/tasks.img' 'report rings/task
 done
 
 # ---- help, version, explain
-for words in --help -h 'dump --help' 'dump -h' 'journal -h' 'explain -h' 'report -h' 'record -h'; do
+for words in --help -h 'dump --help' 'dump -h' 'journal -h' 'explain -h' 'report -h' 'record -h' 'settings -h'; do
   # shellcheck disable=SC2086
   $tool $words 2>/dev/null | grep -q '^usage: ollskuvan' || wrong "ollskuvan $words is no help"
 done
@@ -289,6 +427,43 @@ case $? in
   3) ;;
   *) wrong "record --events failed: $(tail -n 1 $out/record.txt)" ;;
 esac
+
+# ---- settings that are kept: written at a start, started from, and replaced by nothing that is none
+kept=$stores/live
+$tool record --seconds 0.1 --settings $kept --events page-faults --budget 9 --pages 2 >$out/record.txt 2>&1
+case $? in
+  0)
+    grep -q "^kept in $kept: 2 events, .*, edition 4, a budget of 9\$" $out/record.txt || wrong "record --settings does not say what it keeps"
+    $tool settings write $stores/same --events page-faults --budget 9 --pages 2 >/dev/null
+    cmp -s $kept $stores/same || wrong "record --settings keeps other settings than settings write"
+    $tool record --seconds 0.1 --settings $kept >$out/record.txt 2>&1 || wrong "record does not start from its settings: $(tail -n 1 $out/record.txt)"
+    grep -q "^settings of $kept: 2 events" $out/record.txt && grep -q ' drains of at most 9 records' $out/record.txt && grep -q '^  of event page-faults' $out/record.txt ||
+      wrong "record starts from other settings than it kept"
+    ! grep -q '^kept in' $out/record.txt && cmp -s $kept $stores/same || wrong "record --settings writes settings that are there already"
+    $tool record --seconds 0.1 --settings $kept --budget 11 >/dev/null 2>&1 || wrong "record --settings with another budget"
+    shows $kept 'budget      11' 'event 1     identifier 3'
+    ;;
+  3) ;;
+  *) wrong "record --settings failed: $(tail -n 1 $out/record.txt)" ;;
+esac
+# a store that is none ends it, whatever the kernel allows, and is left alone; so are settings that it does not open
+starts() { # FILE WORDS
+  cp "$1" $out/kept
+  refuses 1 "$2" record --seconds 0.1 --settings "$1"
+  cmp -s "$1" $out/kept || wrong "record --settings $1 changes a store that it does not start from"
+}
+starts $stores/edition "$stores/edition: no settings: refused with 52 at byte 173: edition 5"
+starts $stores/cut-191 'refused with 51 at byte 173'
+starts $stores/empty 'refused with 51 at byte 0: it is empty'
+starts $stores/image 'is none that this program opens'
+other() { cp $stores/three "$stores/$1" && printf "$3" | dd of="$stores/$1" bs=1 seek="$2" conv=notrunc status=none; }
+other budget-0 188 '\000'
+starts $stores/budget-0 'a budget of 0 records: 1 to 4096 are taken here'
+other ring-64 179 '\100\000'
+starts $stores/ring-64 'a ring of 64 bytes: a live one has at least a page'
+other sampled 70 '\011'
+starts $stores/sampled 'event 1, number 9, is none that this program opens'
+refuses 2 "--settings: a file is wanted, not '-'" record --settings -
 
 # ---- examples/decode.c on this kernel: a program that starts on cpu 0 is named, mapped and switched to. A busy machine may take
 # longer than the second that it looks: three tries

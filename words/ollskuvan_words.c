@@ -39,11 +39,14 @@ const struct ollskuvan_answer ollskuvan_answers[] = {
     { OLLSKUVAN_REFUSED_LEFT_OVER, NULL, "bytes are left over after the last field" },
     { OLLSKUVAN_REFUSED_INNER, NULL, "a size or length inside breaks its rule" },
     { OLLSKUVAN_REFUSED_NAME, NULL, "the name has no zero where it must end" },
-    { OLLSKUVAN_REFUSED_ROOM, NULL, "no room for the record, or for its words" },
+    { OLLSKUVAN_REFUSED_ROOM, NULL, "no room for the record or the store, or for the words or events" },
     { OLLSKUVAN_REFUSED_PLACE, NULL, "place plus bytes passes the end" },
     { OLLSKUVAN_REFUSED_VALUE, NULL, "no record has this value" },
     { OLLSKUVAN_REFUSED_DIRTY_VALUE, NULL, "the value has a name's flag set" },
     { OLLSKUVAN_DIRTY_NAME, NULL, "accepted, with stale bytes after the name" },
+    { OLLSKUVAN_REFUSED_VERSION, NULL, "a store of a version that is not known" },
+    { OLLSKUVAN_REFUSED_ENTRY, NULL, "an entry that is cut short or fits no known kind" },
+    { OLLSKUVAN_REFUSED_DEPARTURE, NULL, "an entry that may not stand there, or holds what is not allowed" },
 };
 const size_t ollskuvan_answers_count = LENGTH(ollskuvan_answers);
 

@@ -28,6 +28,10 @@ size_t reader_find_event(const struct ollskuvan_event *, size_t, uint64_t);
 struct ollskuvan_one reader_read_one_events(const uint8_t *, size_t, uint64_t, uint64_t, const struct ollskuvan_event *,
     size_t, uint32_t, uint8_t *, size_t, uint64_t *, size_t);
 
+struct ollskuvan_settings reader_read_store(const uint8_t *, size_t, struct ollskuvan_event *, size_t);
+struct ollskuvan_stored reader_write_store(const struct ollskuvan_event *, size_t, uint64_t, uint32_t, uint32_t, uint8_t *,
+    size_t);
+
 static int fault(int number) { return FAULT == number; }
 
 /* The word of a name's flag; 0 for a type that has no name. */
@@ -280,4 +284,30 @@ struct ollskuvan_one ollskuvan_read_one_events(const uint8_t *ring, size_t ring_
     if (fault(51) && one.answer == OLLSKUVAN_REFUSED_IDENTIFIER && fields_len) /* a word changed although refused */
         fields[0] = 0;
     return one;
+}
+
+struct ollskuvan_settings ollskuvan_read_store(const uint8_t *store, size_t store_len, struct ollskuvan_event *events,
+    size_t events_room)
+{
+    struct ollskuvan_settings s;
+
+    if (fault(55) && store_len > 20 && store[store_len - 20] == 19 && store[store_len - 16] == OLLSKUVAN_KIND_RING)
+        store_len--; /* a byte behind kind 3 is not looked at */
+    s = reader_read_store(store, store_len, events, events_room);
+    if (fault(56) && s.answer == OLLSKUVAN_REFUSED_DEPARTURE && events_room) /* a row is written though the store is refused */
+        events[0].sample_id_all = 1;
+    return s;
+}
+
+struct ollskuvan_stored ollskuvan_write_store(const struct ollskuvan_event *events, size_t event_count, uint64_t ring_length,
+    uint32_t edition, uint32_t budget, uint8_t *buffer, size_t buffer_len)
+{
+    struct ollskuvan_stored w = reader_write_store(events, event_count, ring_length, edition, budget, buffer, buffer_len);
+
+    if (fault(57) && w.answer == OLLSKUVAN_REFUSED_TABLE
+        && reader_write_store(events, event_count ? 1 : 0, ring_length, edition, budget, NULL, 0).answer == OLLSKUVAN_REFUSED_RING_LENGTH)
+        w.answer = OLLSKUVAN_REFUSED_RING_LENGTH; /* 1 before 11 */
+    if (fault(58) && w.answer == OLLSKUVAN_OK && event_count > 1) /* one index for all events */
+        buffer[8 + 55 + 6] = 0;
+    return w;
 }

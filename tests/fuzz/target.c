@@ -12,15 +12,16 @@
  * tail, sample type, read format, user mask, interrupt mask (8 bytes each), edition, sample_id_all (1 byte
  * each), and bytes.
  * What is missing is zero. The control block:
- *   0  the call, modulo 5: drain (and read one), ringdump, record (check, misc, name copy, read, write again), write,
- *      drain with a table of events (and read one with it, and the lookup)
+ *   0  the call, modulo TRIED: drain (and read one), ringdump, record (check, misc, name copy, read, write again), write,
+ *      drain with a table of events (and read one with it, and the lookup), store of settings (read, written again; written
+ *      of the table, with the head's ring length or LAID's, the edition and the tail's budget, and read back)
  *   1  flags, see below            2  LAID: the ring's length is 64 << (this modulo 9)
  *   3  what buffers hold before    4, 5  scratch: choice and number; ringdump: 4 cuts the input below 50
  *   6, 7  journal                  8  budget: 0 is without end, else this minus 1
  *   9, 10  ringdump reads and writes at most so many bytes a call (0: all)
- *   11  words lent for a value     12  write: changes to the value, modulo 4
+ *   11  words lent for a value, rows lent for a store    12  write: changes to the value, modulo 4
  *   13  write: bytes cut from the source
- *   14  room for a written record  15  room for a name
+ *   14  room for a written record or store    15  room for a name
  *   16 to 45  three changes of ten bytes: word, what to do, number
  *   46, 47  with a table: its events, modulo 40, and how many of them are given (0: all): these are the first of the
  *      bytes, 56 each, and the others copies of the last, with identifiers that count up
@@ -38,6 +39,7 @@
 #include "ollskuvan.h"
 
 enum { CONTROL = 48, BRANCH = 8, HEADER = 50, LONGEST = 65536, FIELDS = OLLSKUVAN_FIELDS };
+enum { TABLED_CALL = 4, STORE_CALL = 5, TRIED = 6 };
 
 enum {
     LAID = 1,          /* the bytes are records, laid into a ring from the tail on; else they are the ring */
@@ -68,6 +70,9 @@ struct ollskuvan_drained reader_drain_events(const uint8_t *, size_t, uint64_t, 
 size_t reader_find_event(const struct ollskuvan_event *, size_t, uint64_t);
 struct ollskuvan_one reader_read_one_events(const uint8_t *, size_t, uint64_t, uint64_t, const struct ollskuvan_event *,
     size_t, uint32_t, uint8_t *, size_t, uint64_t *, size_t);
+struct ollskuvan_settings reader_read_store(const uint8_t *, size_t, struct ollskuvan_event *, size_t);
+struct ollskuvan_stored reader_write_store(const struct ollskuvan_event *, size_t, uint64_t, uint32_t, uint32_t, uint8_t *,
+    size_t);
 size_t reader_print(const uint8_t *, size_t, uint8_t *, size_t);
 size_t reader_mutate(uint8_t *, size_t, size_t, uint32_t);
 int ringdump_main(void);
@@ -96,9 +101,11 @@ static struct {
 
 /* ---- What was reached: told to libFuzzer as if it were coverage, and counted for the end's report. ---- */
 
-enum call { DRAIN, PROGRAM, CHECK, COPY, READ, WRITE, MEANING, ONE_STOP, ONE, TABLED, TABLED_RECORD, CALLS };
+enum call { DRAIN, PROGRAM, CHECK, COPY, READ, WRITE, MEANING, ONE_STOP, ONE, TABLED, TABLED_RECORD, STORE_READ,
+    STORE_WRITTEN, CALLS };
 static const char *const call_names[CALLS] = { "drain", "ringdump", "check", "name copy", "read", "write",
-    "misc meaning, without the CPU mode,", "read one, its stops:", "read one", "drain with a table", "records under a table" };
+    "misc meaning, without the CPU mode,", "read one, its stops:", "read one", "drain with a table", "records under a table",
+    "read store", "write store" };
 
 /* by call, type (0, or 22 for every other) and answer */
 enum { TYPES = 23, ANSWERS = 64 };
@@ -172,7 +179,7 @@ static void differs(const char *words, ...)
 
 /* ---- Lent slices. ---- */
 
-enum slice { RING, SCRATCH, JOURNAL, RECORD, NAME, VALUE, SOURCE, BUFFER, TABLE, SLICES };
+enum slice { RING, SCRATCH, JOURNAL, RECORD, NAME, VALUE, SOURCE, BUFFER, TABLE, STORE, ROWS, SLICES };
 enum { AREA = 1 << 18, GUARD = 64 };
 static uint8_t *areas[SLICES];
 
@@ -832,6 +839,109 @@ static void try_write(void)
 }
 #endif
 
+/* ---- The store of settings. ---- */
+
+enum { ROWS_MOST = 300 };
+static struct ollskuvan_event rows[ROWS_MOST];
+static const size_t ROW = sizeof(struct ollskuvan_event);
+
+static int same_settings(const struct ollskuvan_settings *a, const struct ollskuvan_settings *b)
+{
+    return a->events == b->events && a->ring_length == b->ring_length && a->edition == b->edition && a->budget == b->budget
+        && a->answer == b->answer;
+}
+
+/* Reads into so many rows; the independent reader's rows are left in `rows`. */
+static struct ollskuvan_settings read_store(const uint8_t *bytes, size_t count, size_t room)
+{
+    struct ollskuvan_settings library, independent;
+    uint8_t *lent, *lent_rows;
+
+    memset(rows, in.control[3], room * ROW);
+    lent = lend(STORE, bytes, count);
+    lent_rows = lend(ROWS, rows, room * ROW);
+    library = ollskuvan_read_store(lent, count, (struct ollskuvan_event *)(void *)lent_rows, room);
+    independent = reader_read_store(bytes, count, rows, room);
+    if (!same_settings(&library, &independent)) {
+        print_hex("store", bytes, count);
+        differs("read store into %zu rows: library %" PRIu64 " events, %" PRIu64 " bytes, edition %" PRIu32 ", budget %" PRIu32
+            ", answer %" PRIu32 "; independent %" PRIu64 ", %" PRIu64 ", %" PRIu32 ", %" PRIu32 ", %" PRIu32, room,
+            library.events, library.ring_length, library.edition, library.budget, library.answer, independent.events,
+            independent.ring_length, independent.edition, independent.budget, independent.answer);
+    }
+    is_kept(STORE, lent, bytes, count);
+    is_as(ROWS, lent_rows, rows, room * ROW, "read store: the rows");
+    reach(STORE_READ, library.events < 4 ? library.events : 4, library.answer);
+    return library;
+}
+
+/* Writes into so many bytes; the independent writer's are left in `stored`. */
+static uint8_t stored[OLLSKUVAN_STORE_BYTES(ROWS_MOST) + 300];
+
+static struct ollskuvan_stored write_store(const struct ollskuvan_event *table, size_t count, uint64_t length, uint32_t edition,
+    uint32_t budget, size_t room)
+{
+    struct ollskuvan_stored library, independent;
+    uint8_t *lent, *buffer;
+
+    memset(stored, in.control[3], room);
+    lent = lend(TABLE, table, count * ROW);
+    buffer = lend(BUFFER, stored, room);
+    library = ollskuvan_write_store((const struct ollskuvan_event *)(void *)lent, count, length, edition, budget, buffer, room);
+    independent = reader_write_store(table, count, length, edition, budget, stored, room);
+    if (library.bytes != independent.bytes || library.answer != independent.answer) {
+        print_hex("table", table, count * ROW);
+        differs("write store of length %" PRIu64 ", edition %" PRIu32 ", room %zu: library %" PRIu64 " bytes, answer %" PRIu32
+            "; independent %" PRIu64 ", %" PRIu32, length, edition, room, library.bytes, library.answer, independent.bytes,
+            independent.answer);
+    }
+    is_kept(TABLE, lent, table, count * ROW);
+    is_as(BUFFER, buffer, stored, room, "write store: the buffer");
+    reach(STORE_WRITTEN, count < 4 ? count : 4, library.answer);
+    return library;
+}
+
+static size_t store_room(size_t bytes)
+{
+    switch (in.control[14]) {
+    case 0: return bytes;
+    case 1: return bytes - 1;
+    case 2: return 0;
+    default: return bytes + in.control[14];
+    }
+}
+
+/* The input's bytes as a store; what reads is written again by the same bytes. Then its table, written and read back. */
+static void try_store(void)
+{
+    static struct ollskuvan_event kept[ROWS_MOST];
+    size_t room = in.control[11] ? in.control[11] - 1u : ROWS_MOST, bytes = OLLSKUVAN_STORE_BYTES(in.event_count);
+    uint64_t length = in.control[1] & LAID ? UINT64_C(64) << in.control[2] % 16 : in.head;
+    struct ollskuvan_settings s = read_store(in.bytes, in.count, room);
+    struct ollskuvan_stored w;
+
+    if (s.answer == 0) {
+        memcpy(kept, rows, s.events * ROW);
+        w = write_store(kept, s.events, s.ring_length, s.edition, s.budget, in.count);
+        if (w.answer != 0 || w.bytes != in.count || memcmp(stored, in.bytes, in.count)) {
+            print_hex("store", in.bytes, in.count);
+            differs("a store that reads is not what is written of it");
+        }
+    }
+    w = write_store(in.events, in.event_count, length, in.edition, (uint32_t)in.tail, store_room(bytes));
+    if (w.answer == 0) {
+        uint8_t back[OLLSKUVAN_STORE_BYTES(40)];
+
+        memcpy(back, stored, w.bytes);
+        s = read_store(back, w.bytes, in.event_count);
+        if (s.answer != 0 || s.events != in.event_count || s.ring_length != length || s.edition != in.edition
+            || s.budget != (uint32_t)in.tail) {
+            print_hex("store", back, w.bytes);
+            differs("what was written does not read back");
+        }
+    }
+}
+
 /* ---- What libFuzzer calls. ---- */
 
 static uint64_t get64(const uint8_t *at)
@@ -883,7 +993,7 @@ static void take_input(const uint8_t *data, size_t size)
     if (in.control[1] & HIGH_ID_ALL)
         in.sample_id_all <<= 24;
     in.count = size > sizeof head ? size - sizeof head : 0;
-    in.tabled = in.control[0] % 5 == 4;
+    in.tabled = in.control[0] % TRIED == TABLED_CALL || in.control[0] % TRIED == STORE_CALL;
     data += size - in.count;
     take_table(&data);
     memcpy(in.bytes, data, in.count);
@@ -915,10 +1025,11 @@ int LLVMFuzzerTestOneInput(const uint8_t *data, size_t size)
         return 0;
     executions++;
     take_input(data, size);
-    switch (in.control[0] % 5) {
+    switch (in.control[0] % TRIED) {
     case 0: try_drain(); break;
     case 1: try_program(); break;
-    case 4: try_events(); break;
+    case TABLED_CALL: try_events(); break;
+    case STORE_CALL: try_store(); break;
 #ifndef WITHOUT_VALUES
     case 3: try_write(); break;
 #endif

@@ -29,6 +29,29 @@ pub struct CPublished {
     pub answer: u32,
 }
 
+#[repr(C)]
+pub struct CSettings {
+    pub events: u64,
+    pub ring_length: u64,
+    pub edition: u32,
+    pub budget: u32,
+    pub answer: u32,
+}
+
+#[repr(C)]
+pub struct CStored {
+    pub bytes: u64,
+    pub answer: u32,
+}
+
+extern "C" {
+    pub fn ollskuvan_read_store(store: *const u8, store_len: usize, events: *mut Event, events_room: usize) -> CSettings;
+    pub fn ollskuvan_write_store(
+        events: *const Event, event_count: usize, ring_length: u64, edition: u32, budget: u32, buffer: *mut u8,
+        buffer_len: usize,
+    ) -> CStored;
+}
+
 extern "C" {
     pub fn ollskuvan_publish(ring_length: u64, head: u64, first: u64, second: u64) -> CPublished;
 }
@@ -96,6 +119,19 @@ pub fn drain(
 pub fn publish(length: u64, head: u64, first: u64, second: u64) -> Published {
     let p = unsafe { ollskuvan_publish(length, head, first, second) };
     Published { tail: p.tail, answer: p.answer }
+}
+
+/// Seven words a row of the lent table.
+pub fn read_store(store: &[u8], rows: &mut [u64]) -> CSettings {
+    unsafe { ollskuvan_read_store(store.as_ptr(), store.len(), rows.as_mut_ptr().cast(), rows.len() / 7) }
+}
+
+pub fn write_store(words: &[u64], ring_length: u64, edition: u32, budget: u32, buffer: &mut [u8]) -> CStored {
+    unsafe {
+        ollskuvan_write_store(
+            words.as_ptr().cast(), words.len() / 7, ring_length, edition, budget, buffer.as_mut_ptr(), buffer.len(),
+        )
+    }
 }
 
 pub fn check(record: &[u8], a: &Attributes, edition: u32) -> u32 {

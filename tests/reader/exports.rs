@@ -5,11 +5,12 @@
 //! and says nothing about the library. Under names of its own (`own_names`: reader_drain and so on) it
 //! stands beside the library in one program: the fuzz target, tests/fuzz.
 
-use crate::abi::{CDrained, COne, CPublished};
+use crate::abi::{CDrained, COne, CPublished, CSettings, CStored};
 use crate::events::{self, Event};
 use crate::record;
 use crate::ring::{self, One, Ring};
 use crate::rules::{self, Attributes};
+use crate::store::{self, Settings};
 use crate::words::FIELDS;
 use crate::writer;
 
@@ -147,4 +148,35 @@ pub unsafe extern "C" fn ollskuvan_write(
 pub extern "C" fn ollskuvan_publish(ring_length: u64, head: u64, first: u64, second: u64) -> CPublished {
     let p = ring::publish(ring_length, head, first, second);
     CPublished { tail: p.tail, answer: p.answer }
+}
+
+#[cfg_attr(own_names, export_name = "reader_read_store")]
+#[cfg_attr(not(own_names), no_mangle)]
+pub unsafe extern "C" fn ollskuvan_read_store(
+    bytes: *const u8, store_len: usize, events: *mut Event, events_room: usize,
+) -> CSettings {
+    match store::read(lent(bytes, store_len), events_room) {
+        Err(fault) => CSettings { events: 0, ring_length: 0, edition: 0, budget: 0, answer: fault.reason.number() },
+        Ok((s, _)) => {
+            lent_mut(events, events_room)[..s.events.len()].copy_from_slice(&s.events);
+            let events = s.events.len() as u64;
+            CSettings { events, ring_length: s.ring_length, edition: s.edition, budget: s.budget, answer: 0 }
+        }
+    }
+}
+
+#[cfg_attr(own_names, export_name = "reader_write_store")]
+#[cfg_attr(not(own_names), no_mangle)]
+pub unsafe extern "C" fn ollskuvan_write_store(
+    events: *const Event, event_count: usize, ring_length: u64, edition: u32, budget: u32, buffer: *mut u8,
+    buffer_len: usize,
+) -> CStored {
+    let settings = Settings { events: lent(events, event_count).to_vec(), ring_length, edition, budget };
+    match store::write(&settings, buffer_len) {
+        Err(answer) => CStored { bytes: 0, answer },
+        Ok(bytes) => {
+            lent_mut(buffer, buffer_len)[..bytes.len()].copy_from_slice(&bytes);
+            CStored { bytes: bytes.len() as u64, answer: 0 }
+        }
+    }
 }

@@ -4,12 +4,13 @@
 //! An input is a control block, the branch sample type, then what the program ringdump takes: head, tail, the
 //! other attributes and the ring's bytes. `LAID` in the flags says that the bytes are records, laid into a ring from the
 //! tail on; otherwise they are the ring as it is. The target's calls on records take them as one record; the
-//! call with a table takes the first of them as events.
+//! call with a table takes the first of them as events, that on stores too, and the others as a store.
 
 #![allow(dead_code)] // the program makes the seeds, the archive the mutations
 
 use crate::events::{Event, WORDS};
 use crate::made::*;
+use crate::made_stores::{damage, some_store, some_stored_length};
 use crate::record::{le16, le32, number};
 use crate::ring::Image;
 use crate::rules::{edition, Attributes};
@@ -34,7 +35,8 @@ const PROGRAM: u8 = 1;
 const RECORD: u8 = 2;
 const WRITE: u8 = 3;
 const TABLED: u8 = 4;
-const CALLS: u8 = 5;
+const STORE: u8 = 5;
+const CALLS: u8 = 6;
 
 // Flags.
 const LAID: u8 = 1;
@@ -60,7 +62,7 @@ impl Input {
         let mut image = Image::parse(rest).unwrap();
         image.attributes.branch_sample_type = number(branch);
         let mut events = Vec::new();
-        if control[CALL] % CALLS == TABLED {
+        if has_table(control[CALL]) {
             let given = if control[GIVEN] != 0 { control[GIVEN] } else { control[EVENTS] };
             let count = usize::from(given % 40).min(image.ring.len() / (8 * WORDS));
             let ring = image.ring.split_off(8 * WORDS * count);
@@ -74,7 +76,7 @@ impl Input {
     fn bytes(&self) -> Vec<u8> {
         let mut control = self.control;
         let mut image = self.image.clone();
-        if self.call() == TABLED {
+        if has_table(self.call()) {
             let at = if control[GIVEN] != 0 && !self.events.is_empty() { GIVEN } else { EVENTS };
             control[at] = self.events.len() as u8;
             let words = self.events.iter().flat_map(Event::words).flat_map(u64::to_le_bytes);
@@ -104,6 +106,10 @@ impl Input {
     fn records(&self) -> Vec<Vec<u8>> {
         cut(&self.image.ring)
     }
+}
+
+fn has_table(call: u8) -> bool {
+    call % CALLS == TABLED || call % CALLS == STORE
 }
 
 /// The bytes cut into records by their sizes; what is left, or a bad size, is a last piece.
@@ -138,7 +144,8 @@ pub fn mutated(bytes: &[u8], most: usize, seed: u64) -> Vec<u8> {
     }
     for _ in 0..1 + r.below(3) {
         match r.below(12) {
-            4 | 5 if input.call() == TABLED => mutate_events(&mut r, &mut input),
+            4 | 5 if has_table(input.call()) => mutate_events(&mut r, &mut input),
+            6..=11 if input.call() == STORE => mutate_store(&mut r, &mut input),
             0 => mutate_control(&mut r, &mut input.control),
             1 => mutate_attributes(&mut r, &mut input.image),
             2 => input.image.tail = some_tail(&mut r),
@@ -178,6 +185,18 @@ fn mend_events(r: &mut Random, input: &mut Input) {
     }
     if input.call() == TABLED && input.image.edition == 1 {
         input.image.edition = r.pick(&[3, 4]);
+    }
+}
+
+/// The bytes that are read as a store: damaged, or others; and the ring length that is written.
+fn mutate_store(r: &mut Random, input: &mut Input) {
+    match r.below(8) {
+        0 | 1 => input.image.ring = some_store(r),
+        2 => {
+            input.control[FLAGS] ^= LAID;
+            input.image.head = some_stored_length(r);
+        }
+        _ => damage(r, &mut input.image.ring),
     }
 }
 
@@ -364,6 +383,10 @@ pub fn seeds(rings: &[(String, Vec<u8>)], seed: u64, count: u64) -> Vec<(String,
             seeds.push((format!("made-{number}"), tabled_seed(&mut r, image)));
             continue;
         }
+        if call == STORE {
+            seeds.push((format!("made-{number}"), store_seed(&mut r, image)));
+            continue;
+        }
         let records = if call < RECORD { 1 + r.below(5) } else { 1 };
         let ring: Vec<u8> = (0..records)
             .flat_map(|_| {
@@ -394,6 +417,22 @@ fn tabled_seed(r: &mut Random, image: Image) -> Vec<u8> {
     input.control[CALL] = TABLED;
     input.control[FLAGS] = LAID;
     input.control[LENGTH] = length_for(input.image.ring.len());
+    input.bytes()
+}
+
+/// A store, mostly a short one, and a table to be written.
+fn store_seed(r: &mut Random, image: Image) -> Vec<u8> {
+    let mut input = Input { control: [0; CONTROL], image, events: Vec::new() };
+    for _ in 0..1 + r.below(4) {
+        mutate_events(r, &mut input);
+    }
+    while input.image.ring.is_empty() || input.image.ring.len() > 600 {
+        input.image.ring = some_store(r);
+    }
+    input.image.head = some_stored_length(r);
+    input.control[CALL] = STORE;
+    input.control[FLAGS] = r.pick(&[0, LAID]);
+    input.control[LENGTH] = r.below(16) as u8;
     input.bytes()
 }
 

@@ -7,9 +7,11 @@ mod events;
 mod exports;
 mod fuzz;
 mod made;
+mod made_stores;
 mod record;
 mod ring;
 mod rules;
+mod store;
 mod words;
 mod writer;
 

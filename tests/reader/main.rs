@@ -14,6 +14,7 @@ mod fuzz;
 mod guard;
 mod images;
 mod made;
+mod made_stores;
 mod meanings;
 mod ones;
 mod readers;
@@ -22,6 +23,8 @@ mod ring;
 mod rules;
 mod series;
 mod soak;
+mod store;
+mod stores;
 mod tables;
 mod tally;
 mod values;
@@ -46,6 +49,10 @@ reader table-rings FOLDER [OPTIONS]   the real rings of several events, each wit
 reader ones [OPTIONS]                 the reader of one record: the library against the independent reader
 reader series [OPTIONS]               drains cut anywhere against one drain, by the library; --rings FOLDER: real rings too
 reader readers [OPTIONS]              two readers of one ring: the tail for the kernel, and each beside itself alone
+reader stores [OPTIONS]               the store of settings: read and write by the library and by the independent reader
+reader store-told FILE..              what is wrong with each store, and where, or what it holds: a line each
+reader store-damage FILE FOLDER [OPTIONS]
+                                      damaged copies of a store, each to a file of its own
 reader meanings [OPTIONS]             what misc means: the library against the independent reader
 reader bits                           each sample bit, read format, branch bit, type and trailer bit: written, read, compared
 reader images PROGRAM [WORDS...] [OPTIONS]
@@ -131,6 +138,9 @@ fn run(command: &str, o: &Options) -> Result<(), String> {
         "meanings" => run_meanings(o),
         "series" => run_series(o),
         "readers" => run_readers(o),
+        "stores" => run_stores(o),
+        "store-told" => store_told(o),
+        "store-damage" => store_damage(o),
         "values" | "bits" | "ones" if cfg!(without_values) => Err("built without read and write".to_string()),
         "values" => run_values(o),
         "ones" => run_ones(o),
@@ -409,6 +419,54 @@ fn run_readers(o: &Options) -> Result<(), String> {
     tally.print_answers("publish");
     all_reached(tally.missing(readers::MUST, &[], false), count, 1_000)?;
     println!("readers: seed {}, {count} pairs of tails, {} rings read by two in turn, no difference", o.seed, count.div_euclid(16));
+    Ok(())
+}
+
+fn run_stores(o: &Options) -> Result<(), String> {
+    let start = Instant::now();
+    let count = o.count.unwrap_or(50_000);
+    let mut tally = Tally::default();
+    let (mut by_hand, mut changed) = (0, 0);
+    if o.from == 0 {
+        by_hand = fixed_part("by hand", stores::by_hand, &mut tally)?;
+        changed = fixed_part("every change of a small store", stores::changed, &mut tally)?;
+    }
+    run_cases("stores", o, count, &mut tally, stores::one_case)?;
+    for call in ["read store", "write store"] {
+        tally.print_answers(call);
+    }
+    for reason in store::REASONS {
+        println!("  {}: {}", reason.name(), tally.notes.get(reason.name()).unwrap_or(&0));
+    }
+    all_reached(stores::missing(&tally), count, 5_000)?;
+    println!(
+        "stores: seed {}, {count} made stores, {by_hand} by hand, {changed} changes and cuts of stores of 1, 2 and 32 events; {} \
+         that read were written again by the same bytes, {} that were written read back; no difference, {:.1} s",
+        o.seed,
+        tally.notes.get("stores written again").unwrap_or(&0),
+        tally.notes.get("stores read back").unwrap_or(&0),
+        start.elapsed().as_secs_f64()
+    );
+    Ok(())
+}
+
+fn store_told(o: &Options) -> Result<(), String> {
+    for path in &o.words {
+        let bytes = std::fs::read(path).map_err(|e| format!("{path}: {e}"))?;
+        println!("{path}: {}", stores::told(&bytes));
+    }
+    Ok(())
+}
+
+fn store_damage(o: &Options) -> Result<(), String> {
+    let (path, folder) = match &o.words[..] {
+        [path, folder] => (path, folder),
+        _ => return Err("store-damage needs a store and a folder".to_string()),
+    };
+    let bytes = std::fs::read(path).map_err(|e| format!("{path}: {e}"))?;
+    for (number, other) in stores::damaged(&bytes, o.seed, o.count.unwrap_or(100)).iter().enumerate() {
+        std::fs::write(Path::new(folder).join(format!("{number:05}.store")), other).map_err(|e| e.to_string())?;
+    }
     Ok(())
 }
 

@@ -1,4 +1,4 @@
-//! The soak: drains, drains with a table, values, damaged real rings and printed images, until the time is up.
+//! The soak: drains, drains with a table, values, stores of settings, damaged real rings and printed images, until the time is up.
 //!
 //! Each case depends on the seed and its number alone. The first difference ends the soak and says how
 //! to run that case again.
@@ -8,6 +8,7 @@ use crate::images;
 use crate::made::*;
 use crate::ones;
 use crate::ring::Image;
+use crate::stores;
 use crate::tables;
 use crate::tally::Tally;
 use crate::values;
@@ -20,6 +21,7 @@ use std::time::{Duration, Instant};
 const DRAINS: u64 = 1000;
 const TABLES: u64 = 500;
 const VALUES: u64 = 500;
+const STORES: u64 = 200;
 const DAMAGED: u64 = 100;
 const PRINTED: u64 = 5;
 
@@ -99,6 +101,7 @@ struct Done {
     drains: u64,
     tables: u64,
     values: u64,
+    stores: u64,
     damaged: u64,
     printed: u64,
 }
@@ -107,12 +110,13 @@ impl Done {
     fn text(&self, seed: u64, since: Instant) -> String {
         let seconds = since.elapsed().as_secs();
         format!(
-            "soak: {} min {:02} s, seed {seed}: {} drains, {} with a table, {} values, {} damaged real rings, {} images printed",
+            "soak: {} min {:02} s, seed {seed}: {} drains, {} with a table, {} values, {} stores, {} damaged real rings, {} images printed",
             seconds / 60,
             seconds % 60,
             self.drains,
             self.tables,
             self.values,
+            self.stores,
             self.damaged,
             self.printed
         )
@@ -154,6 +158,10 @@ pub fn run(
             }
             done.values += VALUES;
         }
+        for number in done.stores..done.stores + STORES {
+            caught(|| stores::one_case(seed, number, &mut tally)).map_err(|d| again("stores", seed, number, "", d))?;
+        }
+        done.stores += STORES;
         for number in done.damaged..done.damaged + DAMAGED {
             caught(|| damaged_case(rings, seed, number, &mut tally))
                 .map_err(|d| again("damaged", seed, number, &more, d))?;
@@ -170,7 +178,7 @@ pub fn run(
     }
     tally.print_records();
     tally.print_accepted();
-    for call in ["drain", "drain with a table", "check", "name copy", "read", "write"] {
+    for call in ["drain", "drain with a table", "check", "name copy", "read", "write", "read store", "write store"] {
         tally.print_answers(call);
     }
     println!("{}; no difference", done.text(seed, start));

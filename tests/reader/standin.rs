@@ -7,5 +7,6 @@ mod exports;
 mod record;
 mod ring;
 mod rules;
+mod store;
 mod words;
 mod writer;

@@ -2,8 +2,8 @@
  * How much stack the calls use, on a stack of their own that was painted before:
  * every record of the given images is drained, checked, read (by its bytes and by
  * its tail), written back and its name copied; drained, read and looked up with the
- * image's table of events, or with a full one where it has none. Prints the greatest use of each call; more than ollskuvan.h
- * says is a failure.
+ * image's table of events, or with a full one where it has none. A store of a full table is written and read, the
+ * identifiers rising and not. Prints the greatest use of each call; more than ollskuvan.h says is a failure.
  */
 #define _XOPEN_SOURCE 700
 #include <inttypes.h>
@@ -15,11 +15,12 @@
 #include "bytes.h"
 #include "image.h"
 
-enum { STACK = 1 << 16, PAINT = 0xa5, MOST = 2560 };
-enum { NOTHING, DRAIN, CHECK, COPY_NAME, READ, READ_ONE, WRITE, DRAIN_EVENTS, FIND_EVENT, READ_ONE_EVENTS, CALLS };
+enum { STACK = 1 << 16, PAINT = 0xa5, MOST = 2560, MOST_OF_STORE = 16640 };
+enum { NOTHING, DRAIN, CHECK, COPY_NAME, READ, READ_ONE, WRITE, DRAIN_EVENTS, FIND_EVENT, READ_ONE_EVENTS,
+    WRITE_STORE, READ_STORE, CALLS };
 
 static const char *const names[CALLS] = { "nothing", "drain", "check", "copy_name", "read", "read_one", "write",
-    "drain_events", "find_event", "read_one_events" };
+    "drain_events", "find_event", "read_one_events", "write_store", "read_store" };
 static uint8_t stack[STACK] __attribute__((aligned(64)));
 static size_t used[CALLS];
 static ucontext_t here, there;
@@ -34,8 +35,9 @@ static uint64_t tail;
 static uint64_t fields[OLLSKUVAN_FIELDS];
 static volatile uint32_t answer;
 
-static struct ollskuvan_event events[OLLSKUVAN_EVENTS_MAX];
+static struct ollskuvan_event events[OLLSKUVAN_EVENTS_MAX], rows[OLLSKUVAN_EVENTS_MAX];
 static size_t event_count;
+static uint8_t store[OLLSKUVAN_STORE_BYTES(OLLSKUVAN_EVENTS_MAX)];
 
 #define ATTRIBUTES \
     image->sample_type, image->read_format, image->sample_id_all, image->user_mask, image->interrupt_mask, \
@@ -81,6 +83,12 @@ static void make_the_call(void)
         answer = ollskuvan_read_one_events(image->ring, image->length, image->head, tail, events, event_count,
             image->edition, scratch, sizeof scratch, fields, OLLSKUVAN_FIELDS).answer;
         break;
+    case WRITE_STORE:
+        answer = ollskuvan_write_store(events, event_count, 4096, OLLSKUVAN_EDITION_4, 32, store, sizeof store).answer;
+        break;
+    case READ_STORE:
+        answer = ollskuvan_read_store(store, OLLSKUVAN_STORE_BYTES(event_count), rows, OLLSKUVAN_EVENTS_MAX).answer;
+        break;
     default:
         nothing();
     }
@@ -119,6 +127,36 @@ static void measure(int which)
         used[which] = STACK - untouched;
 }
 
+/* The last event first, and back. */
+static void turn_round(void)
+{
+    struct ollskuvan_event first = events[0];
+    events[0] = events[event_count - 1];
+    events[event_count - 1] = first;
+}
+
+/* A store of as many events as there may be, whose identifiers rise or do not; 0: it was written and read. */
+static int measure_store(void)
+{
+    measure(WRITE_STORE);
+    uint32_t written = answer;
+    measure(READ_STORE);
+    if (written == OLLSKUVAN_OK && answer == OLLSKUVAN_OK)
+        return 0;
+    printf("stack: a store is answered with %u, then %u\n", written, answer);
+    return 1;
+}
+
+static int measure_stores(void)
+{
+    event_count = OLLSKUVAN_EVENTS_MAX;
+    for (size_t i = 0; i < event_count; i++)
+        events[i] = (struct ollskuvan_event){ .identifier = i, .sample_type = OLLSKUVAN_BIT_IDENTIFIER, .sample_id_all = 1 };
+    int wrong = measure_store();
+    turn_round();
+    return measure_store() | wrong;
+}
+
 static void measure_image(const struct image *of)
 {
     image = of;
@@ -126,6 +164,9 @@ static void measure_image(const struct image *of)
     measure(NOTHING);
     measure(DRAIN_EVENTS);
     measure(FIND_EVENT);
+    turn_round();
+    measure(DRAIN_EVENTS);
+    turn_round();
     measure(DRAIN);
     uint64_t taken = 0;
     while (little(journal + taken * 16, 4) == 16 && taken < sizeof journal / 16) {
@@ -147,7 +188,7 @@ static void measure_image(const struct image *of)
 
 int main(int argc, char **argv)
 {
-    int status = 0;
+    int status = measure_stores();
     for (int i = 1; i < argc; i++) {
         struct image one;
         if (!image_read(&one, argv[i]))
@@ -159,7 +200,7 @@ int main(int argc, char **argv)
     for (int i = DRAIN; i < CALLS; i++) {
         size_t bytes = used[i] - used[NOTHING] + sizeof(void *); /* NOTHING's return address is the call's */
         printf(" %s %zu", names[i], bytes);
-        if (used[i] < used[NOTHING] || bytes > MOST)
+        if (used[i] < used[NOTHING] || bytes > (i == READ_STORE ? MOST_OF_STORE : MOST))
             status = 1;
     }
     printf("%s\n", status == 0 ? "" : ": WRONG");

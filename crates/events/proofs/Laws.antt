@@ -18,6 +18,7 @@ use Rattle.meaning.specs.Events.{noEvent, eventAt, eventOf, eventsOf, identifie
 use Rattle.laws.specs.Lookup.{index-end, index-here, index-next, in-there, in-none, identifiers-length, identifier-at, rows-length, row-at}
 use Rattle.events.specs.declared.Match.{Match}
 use Rattle.events.specs.Match.{matched}
+use Rattle.events.specs.Sound.{sound-short, sound-long}
 
 -- ---- the lookup
 
@@ -76,14 +77,10 @@ abbrev pub Tested : ℕ → List (List ℕ) → ℕ → Type 0
 Tested limit rows i = sound limit (eventsOf rows) ≡ (allMarked (drop i (eventsOf rows)) && distinct (drop i (keys rows)))
 
 pub few : (limit : ℕ) (rows : List (List ℕ)) → length rows < 1 → false ≡ sound limit (eventsOf rows)
-unfolding sound
-few limit rows h = let n : length (eventsOf rows) < 1 = omega (arith, rows-length rows) in rw (lt-leb 1 (length (eventsOf rows)) n) refl
+few limit rows h = sym (sound-short limit (eventsOf rows) (omega (arith, rows-length rows)))
 
 pub many : (limit : ℕ) (rows : List (List ℕ)) → limit < length rows → false ≡ sound limit (eventsOf rows)
-unfolding sound
-many limit rows h =
-    let n : limit < length (eventsOf rows) = omega (arith, rows-length rows) in
-    rw (lt-leb (length (eventsOf rows)) limit n, and-zero (leb 1 (length (eventsOf rows)))) refl
+many limit rows h = sym (sound-long limit (eventsOf rows) (omega (arith, rows-length rows)))
 
 pub begins : (limit : ℕ) (rows : List (List ℕ)) → 1 ≤ length rows → length rows ≤ limit → Tested limit rows 0
 unfolding sound

@@ -1,10 +1,12 @@
 // A table of events, lent as rows of seven words: whether it is sound, the lookup, and the answer for a record.
 ghost use mathlib.Core.Path.{_≡_};
+ghost use mathlib.Core.Bool.{not, _&&_};
 ghost use Prim.Native.Nat.{_+_, _<_, _≤_};
+ghost use lib.Dec.{eqb};
 ghost use lib.ListN.{length, drop};
-ghost use Rattle.meaning.specs.Editions.{editions, known};
+ghost use Rattle.meaning.specs.Editions.{editions, known, isIn};
 ghost use Rattle.meaning.specs.Records.{kindOf};
-ghost use Rattle.meaning.specs.Events.{attributesOf, identifiers, eventAt, eventOf, eventsOf, marked, sound, identifierOf, indexOf, judgeEvents};
+ghost use Rattle.meaning.specs.Events.{attributesOf, identifiers, eventAt, eventOf, eventsOf, marked, distinct, sound, identifierOf, indexOf, judgeEvents};
 ghost use Rattle.events.specs.Match.{matched};
 use meaning::Attributes;
 use meaning::Event;
@@ -50,6 +52,37 @@ pub fn find(rows: &[[u64; 7]], id: u64) -> usize
     ensures { λ r. ⌜ r ≡ indexOf id (identifiers (eventsOf (now (rows .entry)))) ⌝ }
 {
     find_from(rows, 0, id)
+}
+
+// ---- identifiers alone
+
+// Is x among them? Asked only where there is a mark.
+fn met(ids: &[u64], x: u64, mark: u8) -> bool
+    ensures { λ r. ⌜ r ≡ (not (eqb mark 0) && isIn x (now (ids .entry))) ⌝ }
+{
+    if mark == 0 {
+        return false;
+    }
+    find_id(ids, x) < ids.len()
+}
+
+// Are no two equal? From the last to the first: each marks its remainder by 8,192, and only where there is a mark already are
+// those behind it looked through.
+pub fn distinct(ids: &[u64]) -> bool
+    ensures { λ r. ⌜ r ≡ distinct (now (ids .entry)) ⌝ }
+{
+    let mut seen = [0u8; 8192];
+    let mut i = ids.len();
+    while 0 < i {
+        let x = ids[i - 1];
+        let h = (x % 8192) as usize;
+        if met(&ids[i..], x, seen[h]) {
+            return false;
+        }
+        seen[h] = 1;
+        i -= 1;
+    }
+    true
 }
 
 // ---- a row

@@ -13,6 +13,9 @@ ghost use Rattle.record.specs.Into.{readIntoAnswer, readIntoWords};
 ghost use Rattle.one.specs.Told.{oneTold, oneWords};
 ghost use Rattle.event_one.specs.Told.{oneEventsTold, oneEventsWords};
 ghost use Rattle.readers.specs.Readers.{published, readersAt};
+ghost use Rattle.settings.specs.Versions.{versions};
+ghost use Rattle.settings.specs.Reading.{readStore, rowsAfter};
+ghost use Rattle.settings.specs.Writing.{writes, writeStore, bufferAfter};
 ghost use Rattle.writer.specs.Writer.{writeWordsAnswer, writeWordsBuffer};
 ghost use Rattle.ollskuvan.specs.Given.{given};
 use meaning::Attributes;
@@ -20,6 +23,8 @@ use meaning::Drained;
 use one::OneTold;
 use readers::Published;
 use readers::Readers;
+use settings::Settings;
+use settings::Stored;
 
 fn attributes(
     sample: u64,
@@ -232,4 +237,29 @@ pub extern "C" fn ollskuvan_publish(len: u64, head: u64, first: u64, second: u64
     ensures { λ r. ⌜ r ≡ published len head (readersAt first second) ⌝ }
 {
     Readers::new(first, second).publish(len, head)
+}
+
+// A store of settings, read into the caller's table: the number of events, ring length, edition and budget, or a refusal.
+#[no_mangle]
+pub extern "C" fn ollskuvan_read_store(store: &[u8], events: &mut [[u64; 7]]) -> Settings
+    ensures { λ r. ⌜ r ≡ readStore versions editions (now (store .entry)) (length (now (events .entry))) ⌝ }
+    ensures { λ _. ⌜ now (events .exit) ≡ rowsAfter versions editions (now (store .entry)) (now (events .entry)) ⌝ }
+{
+    settings::read_store(store, events)
+}
+
+// Settings written into the caller's buffer: how many bytes, or a refusal.
+#[no_mangle]
+pub extern "C" fn ollskuvan_write_store(
+    events: &[[u64; 7]],
+    ring: u64,
+    edition: u32,
+    budget: u32,
+    buffer: &mut [u8],
+) -> Stored
+    ensures { λ r. ⌜ r ≡ writeStore writes editions (now (events .entry)) ring edition budget (length (now (buffer .entry))) ⌝ }
+    ensures { λ _. ⌜ now (buffer .exit) ≡ bufferAfter writes editions (now (events .entry)) ring edition budget (now (buffer .entry)) ⌝ }
+{
+    let e = edition as u64;
+    settings::write_store(events, ring, e, budget, buffer)
 }

@@ -14,3 +14,5 @@ pub mod Events
 pub mod EventExamples
 pub mod Series
 pub mod Readers
+pub mod Settings
+pub mod SettingsExamples

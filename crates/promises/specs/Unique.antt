@@ -30,6 +30,7 @@ use Rattle.blocks.specs.Seen.{Leaves, Closes}
 use Rattle.blocks.specs.Steady.{oneWidth, widthOf, steady, total}
 use Rattle.put.proofs as put
 use Rattle.wire.proofs as wire
+use Rattle.entries.proofs as entries
 use Rattle.spans.proofs as spans
 use Rattle.shapes.proofs as shapes
 use Rattle.fields.proofs as fields
@@ -45,6 +46,7 @@ use Rattle.exact.proofs as exact
 use Rattle.plan.proofs as plan
 use Rattle.names.proofs as names
 use Rattle.ring.proofs as ring
+use Rattle.settings.proofs as settings
 use Rattle.readers.proofs as readers
 use Rattle.shown.proofs as shown
 use Rattle.one.proofs as one
@@ -127,6 +129,17 @@ wire-low3 κs a x y s t p q = same p q
 
 pub wire-count-ones : Result wire.count_ones.Kinds.ps wire.count_ones.Kinds.r wire.count_ones.Reads.Learnt
 wire-count-ones κs a x y s t p q = same (p .0) (q .0)
+
+-- ---- entries: the format of stores, traces and lists of changes
+
+pub entries-entry-at : Result entries.entry_at.Kinds.ps entries.entry_at.Kinds.r entries.entry_at.Reads.Learnt
+entries-entry-at κs a x y s t p q = same p q
+
+pub entries-put-head : Seen entries.put_head.Kinds.ps entries.put_head.Kinds.r entries.put_head.Reads.Learnt (λ κs x s. now (s .0))
+entries-put-head κs a x y s t p q = same p q
+
+pub entries-put-entry : Seen entries.put_entry.Kinds.ps entries.put_entry.Kinds.r entries.put_entry.Reads.Learnt (λ κs x s. now (s .0))
+entries-put-entry κs a x y s t p q = same p q
 
 -- ---- spans, shapes, fields: one function for each shape of item; the step; the words
 
@@ -518,6 +531,9 @@ drain-take-one-journal κs a x y s t p q = same (p .1) (q .1)
 pub events-find-id : Result events.find_id.Kinds.ps events.find_id.Kinds.r events.find_id.Reads.Learnt
 events-find-id κs a x y s t p q = same p q
 
+pub events-distinct : Result events.distinct.Kinds.ps events.distinct.Kinds.r events.distinct.Reads.Learnt
+events-distinct κs a x y s t p q = same p q
+
 pub events-find : Result events.find.Kinds.ps events.find.Kinds.r events.find.Reads.Learnt
 events-find κs a x y s t p q = same p q
 
@@ -578,6 +594,20 @@ fast-journal κs a x y s t p q = same (p .1 .0) (q .1 .0)
 
 pub fast-scratch : Seen fast.drain.Kinds.ps fast.drain.Kinds.r fast.drain.Reads.Learnt (λ κs x s. now (s .1 .1 .1 .1 .1 .1 .0))
 fast-scratch κs a x y s t p q = same (p .1 .1) (q .1 .1)
+
+-- ---- settings: the store, read and written
+
+pub settings-read-store : Result settings.read_store.Kinds.ps settings.read_store.Kinds.r settings.read_store.Reads.Learnt
+settings-read-store κs a x y s t p q = same (p .0) (q .0)
+
+pub settings-read-store-rows : Seen settings.read_store.Kinds.ps settings.read_store.Kinds.r settings.read_store.Reads.Learnt (λ κs x s. now (s .1 .0))
+settings-read-store-rows κs a x y s t p q = same (p .1) (q .1)
+
+pub settings-write-store : Result settings.write_store.Kinds.ps settings.write_store.Kinds.r settings.write_store.Reads.Learnt
+settings-write-store κs a x y s t p q = same (p .0) (q .0)
+
+pub settings-write-store-buffer : Seen settings.write_store.Kinds.ps settings.write_store.Kinds.r settings.write_store.Reads.Learnt (λ κs x s. now (s .1 .1 .1 .1 .0))
+settings-write-store-buffer κs a x y s t p q = same (p .1) (q .1)
 
 -- ---- readers: two of one ring
 
@@ -657,6 +687,18 @@ ollskuvan-write κs a x y s t p q = same (p .0) (q .0)
 
 pub ollskuvan-write-buffer : Seen ollskuvan.ollskuvan_write.Kinds.ps ollskuvan.ollskuvan_write.Kinds.r ollskuvan.ollskuvan_write.Reads.Learnt (λ κs x s. now (s .1 .1 .1 .1 .1 .1 .1 .1 .1 .0))
 ollskuvan-write-buffer κs a x y s t p q = same (p .1) (q .1)
+
+pub ollskuvan-read-store : Result ollskuvan.ollskuvan_read_store.Kinds.ps ollskuvan.ollskuvan_read_store.Kinds.r ollskuvan.ollskuvan_read_store.Reads.Learnt
+ollskuvan-read-store κs a x y s t p q = same (p .0) (q .0)
+
+pub ollskuvan-read-store-events : Seen ollskuvan.ollskuvan_read_store.Kinds.ps ollskuvan.ollskuvan_read_store.Kinds.r ollskuvan.ollskuvan_read_store.Reads.Learnt (λ κs x s. now (s .1 .0))
+ollskuvan-read-store-events κs a x y s t p q = same (p .1) (q .1)
+
+pub ollskuvan-write-store : Result ollskuvan.ollskuvan_write_store.Kinds.ps ollskuvan.ollskuvan_write_store.Kinds.r ollskuvan.ollskuvan_write_store.Reads.Learnt
+ollskuvan-write-store κs a x y s t p q = same (p .0) (q .0)
+
+pub ollskuvan-write-store-buffer : Seen ollskuvan.ollskuvan_write_store.Kinds.ps ollskuvan.ollskuvan_write_store.Kinds.r ollskuvan.ollskuvan_write_store.Reads.Learnt (λ κs x s. now (s .1 .1 .1 .1 .0))
+ollskuvan-write-store-buffer κs a x y s t p q = same (p .1) (q .1)
 
 -- ---- writer: the words that tell an item, and its form
 
