@@ -1,33 +1,29 @@
 -- M-106, "Replay of a recorded trace", in its own words, over what `ollskuvan_replay` tells and what is then in the slices that it was lent. `replayEvents` is the
 -- replay, and each count that is told a sum over its history (`standing`). Assumes nothing.
 use mathlib.Core.Path.{_≡_, refl, sym, ap, _∙_, subst}
-use mathlib.Core.List.{List, [], _∷_, _++_}
-use mathlib.Core.Bool.{Bool, true, false, cond, not}
-use Prim.Native.Nat.{ℕ, zero, suc, _+_, _-_, _*_, _%_, _^_, _<_, _≤_}
-use native.Mathlib.Nat.{zero-add}
+use mathlib.Core.List.{List, [], _++_}
+use mathlib.Core.Bool.{Bool, true}
+use Prim.Native.Nat.{ℕ, suc, _+_, _-_, _^_, _<_, _≤_}
 use native.Mathlib.Omega.{arith}
-use borrow.Author.Tests.{eq-eqb, ne-eqb, eqb-true}
-use lib.Dec.{leb, eqb}
+use borrow.Author.Tests.{eq-eqb}
 use lib.ListN.{length, getD, take, drop, length-append, take-append-drop}
 use Rattle.meaning.specs.declared.Event.{Event}
 use Rattle.meaning.specs.declared.Known.{Known}
 use Rattle.meaning.specs.Bytes.{put}
-use Rattle.meaning.specs.Refusals.{first}
 use Rattle.meaning.specs.Editions.{known}
-use Rattle.meaning.specs.Ring.{Asked, asking, lengthAllowed, distance}
+use Rattle.meaning.specs.Ring.{Asked, asking, lengthAllowed}
 use Rattle.meaning.specs.Drain.{End}
 use Rattle.meaning.specs.Events.{askedEvents, judgeEvents, drainEvents}
-use Rattle.laws.specs.Put.{length-put}
-use Rattle.runs.specs.Cutting.{Cut, Cuts, cuttingBy, entries, total}
+use Rattle.runs.specs.Cutting.{Cut, Cuts, entries}
 use Rattle.runs.specs.Streams.{joined}
 use Rattle.runs.specs.Scratches.{distance-self}
 use Rattle.runs.specs.Forward.{Counted, run-counted}
 use Rattle.replay.specs.declared.Replayed.{Replayed}
-use Rattle.replay.specs.Replay.{Happened, Bench, bench, offeredBy, droppedBy, drainedBy, takenBy, lostBy, sum, recordsIn, recordsOut, held, journalLeft, drainOf, cutsOf, drainsOff, faultAt, Played, played, play, before, replay, half, ofStore, standing, told, roomsOf, replayEvents}
+use Rattle.replay.specs.Replay.{Happened, Bench, bench, sum, recordsIn, recordsOut, held, journalLeft, drainOf, cutsOf, faultAt, Played, played, play, before, replay, half, ofStore, standing, told, roomsOf, replayEvents}
 use Rattle.replay.specs.Drains.{bytesOf}
 use Rattle.replay.specs.Along.{Holds, holds-start, holds-play}
 use Rattle.replay.specs.Queue.{took}
-use Rattle.replay.specs.Promises.{Point, point, at-every-point, comes-out-the-same, Stopped, drain-stops, why, drain-why, drain-takes, ends-before-fault, refused-before, read-to-end}
+use Rattle.replay.specs.Promises.{Point, at-every-point, comes-out-the-same, Stopped, drain-stops, why, drain-why, drain-takes, ends-before-fault, refused-before, read-to-end}
 use Rattle.replay.specs.Unseen.{Same, ring-unseen}
 use Rattle.replay.specs.Steps.{begun}
 use Rattle.replay.specs.Shows.{taken-sum}

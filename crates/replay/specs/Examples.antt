@@ -1,9 +1,9 @@
 -- A trace over a ring of 64 bytes from count 2^64 - 8, under edition 2 and no attribute; and faulty entries. The checker computes them. Assumes nothing.
 use mathlib.Core.Path.{_≡_, refl}
-use Prim.Native.Nat.{ℕ, _+_, _-_, _*_, _^_}
-use mathlib.Core.Bool.{Bool, true, false, _&&_, _||_}
+use Prim.Native.Nat.{ℕ, _-_, _^_}
+use mathlib.Core.Bool.{Bool, true, false, _&&_}
 use mathlib.Core.List.{List, [], _∷_, _++_}
-use lib.ListN.{length, take, drop}
+use lib.ListN.{length}
 use lib.Dec.{eqb}
 use Rattle.meaning.specs.declared.Attributes.{Attributes}
 use Rattle.meaning.specs.Bytes.{num, spell, bit, ones, zeros, put}
@@ -16,7 +16,7 @@ use Rattle.meaning.specs.Drain.{journalKind, entry, run}
 use Rattle.runs.specs.Cutting.{cutBy, total}
 use Rattle.entries.specs.declared.Entry.{Entry}
 use Rattle.entries.specs.Entries.{entryBytes, isWhole, entryAt}
-use Rattle.replay.specs.Replay.{Happened, wentIn, wasDropped, drained, Bench, bench, offeredBy, droppedBy, drainedBy, sum, held, putRound, offer, drainsOff, faultAt, effect, Played, play, replay, ofStore}
+use Rattle.replay.specs.Replay.{Happened, Bench, bench, offeredBy, droppedBy, drainedBy, sum, held, putRound, offer, drainsOff, faultAt, effect, Played, play, replay, ofStore}
 
 abbrev nothingSelected : Attributes
 nothingSelected = record { sample = 0; format = 0; all = false; user = 0; interrupt = 0; branch = 0 }

@@ -1,26 +1,24 @@
 -- What ring and scratch held before a replay does not show in any result. Assumes nothing.
 use mathlib.Core.Path.{_≡_, refl, sym, ap, _∙_, subst}
-use mathlib.Core.List.{List, [], _∷_, _++_, append-nil}
-use mathlib.Core.Bool.{Bool, true, false, cond, not, _&&_, _||_}
+use mathlib.Core.List.{List, [], _∷_, _++_}
+use mathlib.Core.Bool.{Bool, true, false, cond}
 use Prim.Native.Nat.{ℕ, zero, suc, _+_, _-_, _*_, _%_, _^_, _<_, _≤_}
-use native.Mathlib.Omega.{arith}
-use borrow.Author.Tests.{eqb-true, leb-true}
+use borrow.Author.Tests.{eqb-true}
 use lib.Dec.{leb, eqb}
-use lib.ListN.{length, take, drop}
+use lib.ListN.{length, drop}
 use Rattle.meaning.specs.Bytes.{numberAt, put}
-use Rattle.meaning.specs.Ring.{asking, lengthAllowed, distance, frame, recordAt, stopAt, goAt}
+use Rattle.meaning.specs.Ring.{asking, lengthAllowed, distance, frame}
 use Rattle.meaning.specs.declared.Frame.{Frame}
-use Rattle.meaning.specs.Drain.{End, start}
-use Rattle.laws.specs.Bytes.{apart}
-use Rattle.runs.specs.Cutting.{Cut, Cuts, entries, total, endOf}
+use Rattle.meaning.specs.Drain.{End}
+use Rattle.runs.specs.Cutting.{Cut, Cuts, entries, total}
 use Rattle.runs.specs.Runs.{run-cut}
 use Rattle.runs.specs.Forward.{run-counted, frame-roomy}
 use Rattle.entries.specs.declared.Entry.{Entry}
 use Rattle.entries.specs.Entries.{entryAt}
-use Rattle.replay.specs.Replay.{Happened, wentIn, wasDropped, drained, Bench, bench, recordsIn, recordsOut, held, putRound, free, goesIn, goesBy, offer, journalLeft, drainOf, cutsOf, drainsOff, bodyOf, isOffer, faultAt, effect, Played, played, play}
+use Rattle.replay.specs.Replay.{Happened, wentIn, wasDropped, drained, Bench, bench, recordsIn, recordsOut, free, goesIn, goesBy, offer, journalLeft, drainOf, cutsOf, drainsOff, bodyOf, isOffer, faultAt, effect, Played, played, play}
 use Rattle.replay.specs.Round.{round-length}
 use Rattle.replay.specs.Queue.{took}
-use Rattle.replay.specs.Along.{in-append, out-append, Holds, holds-start, holds-offer, holds-drain, holds-effect}
+use Rattle.replay.specs.Along.{Holds, holds-start, holds-effect}
 use Rattle.replay.specs.Promises.{Stopped, drain-why, drain-takes, why}
 
 -- two benches that differ in the bytes of ring and scratch alone

@@ -1,11 +1,10 @@
 -- The loop has put the first j bytes; those still to be read lie before the place that is written to.
 use mathlib.Core.Path.{_≡_, refl, sym, ap, _∙_}
 use mathlib.Core.List.{List}
-use Prim.Native.Nat.{ℕ, _+_, _-_, _<_, _≤_}
+use Prim.Native.Nat.{ℕ, _+_, _-_, _≤_}
 use native.Mathlib.Omega.{arith}
 use lib.ListN.{length, getD, take, drop, set}
 use denote.Ref.{now}
-use borrow.Author.Needs.{needs}
 use Rattle.meaning.specs.Bytes.{put}
 use Rattle.laws.specs.Put.{put-nil, length-put}
 use Rattle.replay.specs.Within.{copied-on}

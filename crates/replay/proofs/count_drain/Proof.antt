@@ -1,5 +1,4 @@
 -- The tail is the drain's; what lies between tail and head is taken of it.
-use mathlib.Core.Path.{_≡_}
 use borrow.Author.Needs.{needs}
 use Rattle.replay.proofs.count_drain.Statement.{statement}
 use Rattle.replay.proofs.count_drain.Tie as tie

@@ -1,5 +1,4 @@
 -- The head moves on by the record's size, wrapping; what lies between tail and head is taken of the new head.
-use mathlib.Core.Path.{_≡_, sym, ap, _∙_}
 use borrow.Author.Needs.{needs}
 use Rattle.replay.proofs.count_in.Statement.{statement}
 use Rattle.replay.proofs.count_in.Tie as tie

@@ -1,6 +1,6 @@
 -- Each turn is a turn of the run over the first half, with the second as its scratch (`Together`); where it stops the run has ended.
-use mathlib.Core.Path.{_≡_, refl, sym, ap, _∙_}
-use mathlib.Core.Bool.{Bool, true, false}
+use mathlib.Core.Path.{_≡_, sym, ap, _∙_}
+use mathlib.Core.Bool.{Bool, true}
 use Prim.Native.Nat.{ℕ, _-_}
 use native.Mathlib.Omega.{arith}
 use lib.ListN.{length, take, drop}
@@ -9,7 +9,7 @@ use denote.Ref.{now}
 use borrow.Author.Needs.{needs}
 use borrow.Author.Tests.{not-true, not-false}
 use Rattle.meaning.specs.Editions.{editions, known}
-use Rattle.meaning.specs.Ring.{asking, frame}
+use Rattle.meaning.specs.Ring.{asking}
 use Rattle.meaning.specs.Drain.{End, told}
 use Rattle.meaning.specs.Events.{eventsOf, judgeEvents}
 use Rattle.laws.specs.Rings.{Going, distance-lt}

@@ -1,8 +1,6 @@
 -- An odd length has no half: the definition's test, by its remainder.
-use mathlib.Core.Path.{_≡_, sym}
-use Prim.Native.Nat.{ℕ, _/_, _%_}
-use mathlib.Core.Bool.{Bool, cond}
-use lib.Dec.{eqb}
+use Prim.Native.Nat.{ℕ, _%_}
+use mathlib.Core.Bool.{Bool}
 use borrow.Author.Tests.{eq-eqb, ne-eqb}
 use Rattle.replay.proofs.half_of.Statement.{statement}
 use Rattle.replay.proofs.half_of.Tie as tie

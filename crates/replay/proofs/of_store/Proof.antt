@@ -1,9 +1,7 @@
 -- The kind decides which length is asked.
-use mathlib.Core.Path.{_≡_, refl, sym, ap, _∙_}
 use Prim.Native.Nat.{ℕ}
-use mathlib.Core.Bool.{Bool, true, false, _&&_, _||_, or-false}
-use lib.Dec.{eqb}
-use borrow.Author.Tests.{eq-eqb, ne-eqb}
+use mathlib.Core.Bool.{Bool, or-false}
+use borrow.Author.Tests.{ne-eqb}
 use Rattle.replay.proofs.of_store.Statement.{statement}
 use Rattle.replay.proofs.of_store.Tie as tie
 

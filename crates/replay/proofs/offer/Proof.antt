@@ -1,10 +1,9 @@
 -- A record longer than the free room is dropped; any other is put from the head's place on, into the first half.
-use mathlib.Core.Path.{_≡_, refl, sym, ap, _∙_}
+use mathlib.Core.Path.{sym, ap, _∙_}
 use mathlib.Core.List.{List, [], _++_}
-use mathlib.Core.Bool.{Bool, true, false, cond}
-use Prim.Native.Nat.{ℕ, _-_, _%_, _<_, _≤_}
+use mathlib.Core.Bool.{Bool, cond}
+use Prim.Native.Nat.{ℕ, _-_, _%_}
 use native.Mathlib.Omega.{arith}
-use lib.Dec.{leb}
 use lib.ListN.{length, take, drop}
 use lib.Seq.{length-take-le}
 use denote.Ref.{now}
@@ -37,9 +36,10 @@ returns-2 : tie.Need-returns-2
 unfolding offered
 returns-2 c =
     let a = c .before .before .before .before .before .before .before .before .before .args in
-    let t = le-leb (length (now (a .r))) (a .h - a .s .«held_bytes») (c .before .before .before .before .before .if1 .left) in
-    (c .count-in .ensures ∙ sym (ap (λ (u : Bool). cond u (inside c) (beside c) .counts) t),
-      ap (λ (l : List ℕ). l ++ drop (a .h) (now (a .rooms))) (c .before .before .before .put-round .ensures) ∙ sym (ap (λ (u : Bool). cond u (inside c) (beside c) .rooms) t))
+    let t = le-leb (length (now (a .r))) (a .h - a .s .«held_bytes») (c .before .before .before .before .before .if1 .left) in (
+      c .count-in .ensures ∙ sym (ap (λ (u : Bool). cond u (inside c) (beside c) .counts) t),
+      ap (λ (l : List ℕ). l ++ drop (a .h) (now (a .rooms))) (c .before .before .before .put-round .ensures) ∙ sym (ap (λ (u : Bool). cond u (inside c) (beside c) .rooms) t),
+    )
   where
     inside : tie.After-count-in → Lent
     inside c =
