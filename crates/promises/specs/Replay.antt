@@ -2,24 +2,27 @@
 -- replay, and each count that is told a sum over its history (`standing`). Assumes nothing.
 use mathlib.Core.Path.{_≡_, refl, sym, ap, _∙_, subst}
 use mathlib.Core.List.{List, [], _++_}
-use mathlib.Core.Bool.{Bool, true}
-use Prim.Native.Nat.{ℕ, suc, _+_, _-_, _^_, _<_, _≤_}
+use mathlib.Core.Bool.{Bool, true, false, cond}
+use Prim.Native.Nat.{ℕ, suc, _+_, _-_, _%_, _^_, _<_, _≤_}
 use native.Mathlib.Omega.{arith}
-use borrow.Author.Tests.{eq-eqb}
+use borrow.Author.Tests.{le-leb, lt-leb, eq-eqb}
+use lib.Dec.{leb}
 use lib.ListN.{length, getD, take, drop, length-append, take-append-drop}
 use Rattle.meaning.specs.declared.Event.{Event}
 use Rattle.meaning.specs.declared.Known.{Known}
 use Rattle.meaning.specs.Bytes.{put}
 use Rattle.meaning.specs.Editions.{known}
-use Rattle.meaning.specs.Ring.{Asked, asking, lengthAllowed}
+use Rattle.meaning.specs.Ring.{Asked, asking, lengthAllowed, frame}
 use Rattle.meaning.specs.Drain.{End}
 use Rattle.meaning.specs.Events.{askedEvents, judgeEvents, drainEvents}
-use Rattle.runs.specs.Cutting.{Cut, Cuts, entries}
+use Rattle.runs.specs.Cutting.{Cut, Cuts, begin, entries, All, nothingCut}
 use Rattle.runs.specs.Streams.{joined}
 use Rattle.runs.specs.Scratches.{distance-self}
-use Rattle.runs.specs.Forward.{Counted, run-counted}
+use Rattle.runs.specs.Runs.{run-cut}
+use Rattle.runs.specs.Forward.{Counted, run-counted, frame-roomy}
+use Rattle.promises.specs.Scratch.{liesWhole, all-whole, copied, put-holds}
 use Rattle.replay.specs.declared.Replayed.{Replayed}
-use Rattle.replay.specs.Replay.{Happened, Bench, bench, sum, recordsIn, recordsOut, held, journalLeft, drainOf, cutsOf, faultAt, Played, played, play, before, replay, half, ofStore, standing, told, roomsOf, replayEvents}
+use Rattle.replay.specs.Replay.{Happened, Bench, bench, sum, recordsIn, recordsOut, held, putRound, free, goesIn, goesBy, offer, journalLeft, drainOf, cutsOf, drainsOff, faultAt, Played, played, play, before, replay, half, ofStore, standing, told, roomsOf, replayEvents}
 use Rattle.replay.specs.Drains.{bytesOf}
 use Rattle.replay.specs.Along.{Holds, holds-start, holds-play}
 use Rattle.replay.specs.Queue.{took}
@@ -174,3 +177,49 @@ module _ (limit : ℕ) (rows : List Known) (e : ℕ) (es : List Event) where
           subst (λ (x : Asked). Same (play ofStore x judge xs n 0 first-bench) (play ofStore x judge xs n 0 (bench (take k other) count (drop k other) journal))) (sym (passed .is))
           (ring-unseen ofStore judge xs (take h rooms) (take k other) count (drop h rooms) (drop k other) journal (omega (arith, a, b, q)) (passed .allowed) fits (passed .eight) halves
           (omega (arith, a, b, q, s, t, l, halves)) n)
+
+-- ---- effects on what was lent: an offer writes into the ring alone, a drain into scratch and journal
+
+module _ (asked : Asked) (judge : List ℕ → ℕ) (b : Bench) where
+  -- a record that went in lies where it was put, going round the ring's end; one that was dropped lies nowhere
+  pub offer-writes : (r : List ℕ) → length r ≤ free b → offer b r .ring ≡ putRound (b .ring) (b .head % length (b .ring)) r
+  unfolding offer
+  offer-writes r h = simp (le-leb (length r) (free b) h)
+
+  pub drop-writes-nothing : (r : List ℕ) → free b < length r → offer b r .ring ≡ b .ring
+  unfolding offer
+  drop-writes-nothing r h = simp (lt-leb (length r) (free b) h)
+
+  pub offer-leaves : (r : List ℕ) → (offer b r .scratch ≡ b .scratch) × (offer b r .journal ≡ b .journal)
+  unfolding offer
+  offer-leaves r = by (leb (length r) (free b))
+    where
+      by : (t : Bool) → (cond t (goesIn b r) (goesBy b r) .scratch ≡ b .scratch) × (cond t (goesIn b r) (goesBy b r) .journal ≡ b .journal)
+      by true = (refl, refl)
+      by false = (refl, refl)
+
+  pub drain-leaves : (budget : ℕ) → drainsOff asked judge b budget .ring ≡ b .ring
+  unfolding drainsOff
+  drain-leaves budget = refl
+
+  -- the scratch begins with the record that was copied: of a drain's records at most one crosses the ring's end
+  module _ (budget : ℕ) (hd : b .head < 2 ^ 64) (tl : b .tail < 2 ^ 64) where
+    abbrev bytes-at : ℕ → List ℕ
+    bytes-at i = getD (cutsOf asked b budget .records) i nothingCut .record-bytes
+
+    scratch-is : drainOf asked judge b budget .state .scratch ≡ cutsOf asked b budget .last .scratch
+    scratch-is =
+        ap (λ (x : End). x .state .scratch)
+        (run-cut (frame asked (b .ring) (b .head)) (frame-roomy asked (b .ring) (b .head)) (b .ring) (b .tail) budget (journalLeft b) (b .scratch) judge)
+
+    pub drain-copies : (i : ℕ) → i < length (cutsOf asked b budget .records) → liesWhole (b .ring) (getD (cutsOf asked b budget .records) i nothingCut) ≡ false
+        → (take (length (bytes-at i)) (drainsOff asked judge b budget .scratch) ≡ bytes-at i)
+        × (drop (length (bytes-at i)) (drainsOff asked judge b budget .scratch) ≡ drop (length (bytes-at i)) (b .scratch))
+    unfolding drainsOff
+    drain-copies i g w =
+        let k = copied asked (b .ring) (b .head) hd budget (begin (b .tail) (length (journalLeft b)) (b .scratch)) tl i g w in
+        rw (scratch-is ∙ k .0) (put-holds (b .scratch) (bytes-at i) (length (bytes-at i)) refl (k .1))
+
+    pub drain-copies-none : All (λ (c : Cut). liesWhole (b .ring) c ≡ true) (cutsOf asked b budget .records) → drainsOff asked judge b budget .scratch ≡ b .scratch
+    unfolding drainsOff
+    drain-copies-none w = scratch-is ∙ all-whole asked (b .ring) (b .head) budget (begin (b .tail) (length (journalLeft b)) (b .scratch)) w
