@@ -44,6 +44,9 @@ const struct ollskuvan_answer ollskuvan_answers[] = {
     { OLLSKUVAN_REFUSED_VALUE, NULL, "no record has this value" },
     { OLLSKUVAN_REFUSED_DIRTY_VALUE, NULL, "the value has a name's flag set" },
     { OLLSKUVAN_DIRTY_NAME, NULL, "accepted, with stale bytes after the name" },
+    { OLLSKUVAN_REFUSED_ENTRY, NULL, "an entry is cut short, too short, or fits no known kind" },
+    { OLLSKUVAN_REFUSED_DEPARTURE, NULL, "an entry that does not stand there" },
+    { OLLSKUVAN_REFUSED_OFFER, NULL, "what is offered is no record" },
 };
 const size_t ollskuvan_answers_count = LENGTH(ollskuvan_answers);
 

@@ -28,6 +28,9 @@ size_t reader_find_event(const struct ollskuvan_event *, size_t, uint64_t);
 struct ollskuvan_one reader_read_one_events(const uint8_t *, size_t, uint64_t, uint64_t, const struct ollskuvan_event *,
     size_t, uint32_t, uint8_t *, size_t, uint64_t *, size_t);
 
+struct ollskuvan_replayed reader_replay(const uint8_t *, size_t, uint64_t, const struct ollskuvan_event *, size_t, uint32_t,
+    uint8_t *, size_t, uint8_t *, size_t);
+
 static int fault(int number) { return FAULT == number; }
 
 /* The word of a name's flag; 0 for a type that has no name. */
@@ -280,4 +283,44 @@ struct ollskuvan_one ollskuvan_read_one_events(const uint8_t *ring, size_t ring_
     if (fault(51) && one.answer == OLLSKUVAN_REFUSED_IDENTIFIER && fields_len) /* a word changed although refused */
         fields[0] = 0;
     return one;
+}
+
+/* The length of the trace up to its first drain that does not empty the ring; that of the whole trace if there is none. */
+static size_t up_to_a_stop(const uint8_t *trace, size_t trace_len, uint64_t start, const struct ollskuvan_event *events,
+    size_t event_count, uint32_t edition, size_t rooms_len, size_t journal_len)
+{
+    static uint8_t rooms[1 << 16], journal[1 << 18];
+    size_t at = 0;
+
+    while (trace_len - at >= 6) {
+        size_t length = trace[at] | (size_t)trace[at + 1] << 8 | (size_t)trace[at + 2] << 16 | (size_t)trace[at + 3] << 24;
+        int drains = trace[at + 4] == OLLSKUVAN_KIND_DRAIN;
+        if (length < 6 || length > trace_len - at)
+            break;
+        at += length;
+        if (drains && reader_replay(trace, at, start, events, event_count, edition, rooms, rooms_len, journal, journal_len).held_bytes)
+            return at;
+    }
+    return trace_len;
+}
+
+struct ollskuvan_replayed ollskuvan_replay(const uint8_t *trace, size_t trace_len, uint64_t start,
+    const struct ollskuvan_event *events, size_t event_count, uint32_t edition, uint8_t *rooms, size_t rooms_len,
+    uint8_t *journal, size_t journal_len)
+{
+    struct ollskuvan_replayed r;
+
+    if (fault(67)) /* a drain's stop ends the replay */
+        trace_len = up_to_a_stop(trace, trace_len, start, events, event_count, edition, rooms_len, journal_len);
+    r = reader_replay(trace, trace_len, start, events, event_count, edition, rooms, rooms_len, journal, journal_len);
+    if (fault(68) && r.dropped) { /* a dropped record that is not counted */
+        r.dropped--;
+        r.offered_bytes -= r.dropped_bytes;
+        r.dropped_bytes = 0;
+    }
+    if (fault(69) && r.answer == OLLSKUVAN_REFUSED_OFFER) /* the faulty entry is counted among those played */
+        r.entries++;
+    if (fault(70) && r.head < r.tail) /* what is held, without the wrap */
+        r.held_bytes = 0;
+    return r;
 }

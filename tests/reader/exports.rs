@@ -5,9 +5,10 @@
 //! and says nothing about the library. Under names of its own (`own_names`: reader_drain and so on) it
 //! stands beside the library in one program: the fuzz target, tests/fuzz.
 
-use crate::abi::{CDrained, COne, CPublished};
+use crate::abi::{CDrained, COne, CPublished, CReplayed};
 use crate::events::{self, Event};
 use crate::record;
+use crate::replay;
 use crate::ring::{self, One, Ring};
 use crate::rules::{self, Attributes};
 use crate::words::FIELDS;
@@ -147,4 +148,26 @@ pub unsafe extern "C" fn ollskuvan_write(
 pub extern "C" fn ollskuvan_publish(ring_length: u64, head: u64, first: u64, second: u64) -> CPublished {
     let p = ring::publish(ring_length, head, first, second);
     CPublished { tail: p.tail, answer: p.answer }
+}
+
+#[cfg_attr(own_names, export_name = "reader_replay")]
+#[cfg_attr(not(own_names), no_mangle)]
+pub unsafe extern "C" fn ollskuvan_replay(
+    trace: *const u8, trace_len: usize, start: u64, table: *const Event, event_count: usize, edition: u32, rooms: *mut u8,
+    rooms_len: usize, journal: *mut u8, journal_len: usize,
+) -> CReplayed {
+    let (trace, table) = (lent(trace, trace_len), lent(table, event_count));
+    let r = replay::replay(trace, start, table, edition, lent_mut(rooms, rooms_len), lent_mut(journal, journal_len));
+    CReplayed {
+        entries: r.entries,
+        offered_bytes: r.offered_bytes,
+        drained_bytes: r.drained_bytes,
+        dropped_bytes: r.dropped_bytes,
+        held_bytes: r.held_bytes,
+        taken: r.taken,
+        dropped: r.dropped,
+        head: r.head,
+        tail: r.tail,
+        answer: r.answer,
+    }
 }

@@ -8,6 +8,7 @@ mod exports;
 mod fuzz;
 mod made;
 mod record;
+mod replay;
 mod ring;
 mod rules;
 mod words;
