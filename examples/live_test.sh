@@ -322,7 +322,11 @@ if [ -x $tool ]; then
       # shellcheck disable=SC2086
       plays_again $options && { played=$try; break; }
     done
-    [ -n "$played" ] || wrong "a live trace (--budget $options) does not play again as it was taken"
+    if [ -n "$played" ]; then
+      echo "traces: $(cat "$work"/traced-*.journal | wc -l) records of live rings (--budget $options) play again as they were taken"
+    else
+      wrong "a live trace (--budget $options) does not play again as it was taken"
+    fi
   done
 else
   echo "traces not tried: $tool is not built (make tool)"
