@@ -1178,8 +1178,8 @@ static void test_publish(void)
 }
 
 /* A switch and a LOST of the event 7, whose trailer is the identifier alone. */
-static const uint8_t OF_7[16] = {14, 0, 0, 0, 0, 0, 16, 0, 7};
-static const uint8_t LOST_OF_7[32] = {2, 0, 0, 0, 0, 0, 32, 0, 5, 0, 0, 0, 0, 0, 0, 0, 6, 0, 0, 0, 0, 0, 0, 0, 7};
+static const uint8_t OFFERED[16] = {14, 0, 0, 0, 0, 0, 16, 0, 7};
+static const uint8_t OFFERED_LOST[32] = {2, 0, 0, 0, 0, 0, 32, 0, 5, 0, 0, 0, 0, 0, 0, 0, 6, 0, 0, 0, 0, 0, 0, 0, 7};
 
 /* The trace that is laid, and the last replay: its slices, of exactly the lengths that were lent. */
 static uint8_t trace[512];
@@ -1283,18 +1283,18 @@ static void test_replay(void)
         IS(told.tail, 16);
     }
     /* across the end of a ring of 64 from 2^64 - 8: 8 bytes at 56, 8 at 0; the LOST behind it; the rest is as it was */
-    lay_offer(OF_7, 16);
-    lay_offer(LOST_OF_7, 32);
+    lay_offer(OFFERED, 16);
+    lay_offer(OFFERED_LOST, 32);
     PLAYS(replay(start, 1, 4, 128, 64), start, 2, 48, 0, 0, 0, 0, OLLSKUVAN_OK);
-    OK(memcmp(rooms + 56, OF_7, 8) == 0 && memcmp(rooms, OF_7 + 8, 8) == 0 && memcmp(rooms + 8, LOST_OF_7, 32) == 0);
+    OK(memcmp(rooms + 56, OFFERED, 8) == 0 && memcmp(rooms, OFFERED + 8, 8) == 0 && memcmp(rooms + 8, OFFERED_LOST, 32) == 0);
     OK(untouched(rooms + 40, 16) && untouched(rooms + 64, 64));
     /* 16 more fill it; one more is dropped and counted; a drain of two copies the first to the scratch */
-    lay_offer(OF_7, 16);
-    lay_offer(OF_7, 16);
+    lay_offer(OFFERED, 16);
+    lay_offer(OFFERED, 16);
     PLAYS(replay(start, 1, 4, 128, 64), start, 4, 80, 0, 16, 0, 1, OLLSKUVAN_OK);
     lay_drain(2);
     PLAYS(replay(start, 1, 4, 128, 64), start, 5, 80, 48, 16, 2, 1, OLLSKUVAN_OK);
-    OK(memcmp(rooms + 64, OF_7, 16) == 0 && untouched(rooms + 80, 48));
+    OK(memcmp(rooms + 64, OFFERED, 16) == 0 && untouched(rooms + 80, 48));
     IS(get(replay_journal, 4), 16);
     IS(get(replay_journal + OLLSKUVAN_JOURNAL_KIND, 2), 14);
     IS(get(replay_journal + OLLSKUVAN_JOURNAL_ANSWER, 2), 0);
@@ -1302,11 +1302,11 @@ static void test_replay(void)
     IS(get(replay_journal + 16 + OLLSKUVAN_JOURNAL_TAIL, 8), 8);
     /* a budget of 0 takes nothing; a journal that is full stops that drain alone, and the replay goes on */
     lay_drain(0);
-    lay_offer(LOST_OF_7, 32);
+    lay_offer(OFFERED_LOST, 32);
     lay_drain(UINT32_MAX);
     PLAYS(replay(start, 1, 4, 128, 64), start, 8, 112, 96, 16, 4, 1, OLLSKUVAN_OK);
     IS(get(replay_journal + 48 + OLLSKUVAN_JOURNAL_TAIL, 8), 56);
-    OK(memcmp(rooms + 64, LOST_OF_7, 32) == 0 && untouched(rooms + 96, 32));
+    OK(memcmp(rooms + 64, OFFERED_LOST, 32) == 0 && untouched(rooms + 96, 32));
     PLAYS(replay(start, 1, 4, 128, 63), start, 8, 112, 64, 16, 3, 1, OLLSKUVAN_OK);
     PLAYS(replay(start, 1, 4, 128, 15), start, 8, 112, 0, 48, 0, 2, OLLSKUVAN_OK);
     /* a larger ring, and as many events as there may be */
@@ -1327,7 +1327,7 @@ static void test_replay(void)
     PLAYS_NOTHING(replay(start, MOST_EVENTS + 1, 4, 128, 64), start, OLLSKUVAN_STOP_TABLE);
     /* a trace that is cut anywhere: 51, and what stood before the entry that is cut */
     trace_len = 0;
-    lay_offer(OF_7, 16);
+    lay_offer(OFFERED, 16);
     lay_drain(1);
     whole = trace_len;
     for (i = 0; i <= whole; i++) {
@@ -1353,14 +1353,14 @@ static void test_replay(void)
             if (kind == OLLSKUVAN_KIND_DRAIN && i == 4)
                 continue;
             trace_len = 0;
-            lay_offer(OF_7, 16);
+            lay_offer(OFFERED, 16);
             lay_entry(kind, bytes, i);
             PLAYS(replay(start, 1, 4, 128, 64), start, 1, 16, 0, 0, 0, 0, due);
         }
     }
     /* 53: a size that is no multiple of 8, or not the body's; it comes before dropping */
     trace_len = 0;
-    lay_offer(LOST_OF_7, 24);
+    lay_offer(OFFERED_LOST, 24);
     PLAYS(replay(0, 1, 4, 128, 0), 0, 0, 0, 0, 0, 0, 0, OLLSKUVAN_REFUSED_OFFER);
     put16(bytes + 6, 72);
     trace_len = 0;
