@@ -24,9 +24,9 @@ use meaning::Drained;
 use one::OneTold;
 use readers::Published;
 use readers::Readers;
+use replay::Replayed;
 use settings::Settings;
 use settings::Stored;
-use replay::Replayed;
 
 fn attributes(
     sample: u64,
