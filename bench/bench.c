@@ -12,6 +12,9 @@
  *   bench stores [STORES [SEED]]   careful C and ours on the same stores of settings, sound and damaged
  *   bench store-times [ROUNDS]     the cost of reading and writing a store
  *   bench store WHOSE CALL EVENTS  one read or write of a store, for callgrind: careful or ours
+ *   bench compare-replay [TRACES [SEED]]   careful C and ollskuvan_replay on the same traces
+ *   bench replay [ROUNDS]          the cost of playing a trace
+ *   bench replay-once WHOSE        one play, for callgrind; prints the number of records
  *   bench check WHOSE NUMBER       record check of each record of a workload, for callgrind: careful or ours
  *   bench once DRAIN WORKLOAD [BUDGET]   one drain, for callgrind; prints the number of records
  *   bench list                     the names that `once` takes
@@ -151,7 +154,8 @@ static int usage(void)
 {
     fprintf(stderr, "usage: bench compare [RINGS [SEED]] | tables [RINGS [SEED]] | time [ROUNDS] | mixes [ROUNDS] | sizes [ROUNDS] | values [ROUNDS]\n"
                     "       bench once DRAIN WORKLOAD [BUDGET] | kinds [DRAIN] | table-kinds [DRAIN] | list\n"
-                    "       bench stores [STORES [SEED]] | store-times [ROUNDS] | store WHOSE CALL EVENTS\n");
+                    "       bench stores [STORES [SEED]] | store-times [ROUNDS] | store WHOSE CALL EVENTS\n"
+                    "       bench compare-replay [TRACES [SEED]] | replay [ROUNDS] | replay-once WHOSE [CALLS]\n");
     return 2;
 }
 
@@ -166,6 +170,10 @@ int main(int argc, char **argv)
         return compare_stores(argc > 2 ? number(argv[2], 1, UINT64_MAX) : 10000, argc > 3 ? number(argv[3], 0, UINT64_MAX) : 1);
     if (strcmp(mode, "store") == 0 && argc == 5)
         return run_store(argv[2], argv[3], number(argv[4], 1, OLLSKUVAN_EVENTS_MAX));
+    if (strcmp(mode, "compare-replay") == 0 && argc <= 4)
+        return compare_replay(argc > 2 ? number(argv[2], 1, UINT64_MAX) : 2000, argc > 3 ? number(argv[3], 0, UINT64_MAX) : 1);
+    if (strcmp(mode, "replay-once") == 0 && (argc == 3 || argc == 4))
+        return run_replays(argv[2], argc > 3 ? number(argv[3], 1, 1000) : 1);
     if (strcmp(mode, "once") == 0 && (argc == 4 || argc == 5))
         return run_once(argv[2], argv[3], argc > 4 ? number(argv[4], 1, UINT64_MAX) : 0);
     if (strcmp(mode, "check") == 0 && argc == 4)
@@ -187,6 +195,8 @@ int main(int argc, char **argv)
         return time_tables(rounds != 0 ? rounds : 300);
     if (strcmp(mode, "store-times") == 0)
         return time_stores(rounds != 0 ? rounds : 100);
+    if (strcmp(mode, "replay") == 0)
+        return time_replay(rounds != 0 ? rounds : 100);
     if (strcmp(mode, "values") == 0)
         return time_values(rounds != 0 ? rounds : 100);
     return usage();

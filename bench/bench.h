@@ -33,10 +33,17 @@ void *grab(size_t bytes);
 int compare(uint64_t rings, uint64_t seed);
 int compare_tables(uint64_t rings, uint64_t seed);
 
-/* timing.c */
+/* timing.c: processor time of this thread; the middle one of the values, which are sorted then. */
+uint64_t thread_ns(void);
+double median(double *values, size_t count);
 int time_workloads(size_t rounds);
 int time_sizes(size_t rounds);
 int time_values(size_t rounds);
 int time_tables(size_t rounds);
+
+/* replay.c */
+int compare_replay(uint64_t traces, uint64_t seed);
+int run_replays(const char *whose, uint64_t calls);
+int time_replay(size_t rounds);
 
 #endif

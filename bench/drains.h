@@ -27,6 +27,12 @@ typedef struct ollskuvan_drained events_function(const uint8_t *ring, size_t rin
 /* careful.c: every stop tested at every record, 11 once. */
 events_function careful_drain_events;
 
+/* careful_replay.c: all that ollskuvan_replay does, and its signature. */
+typedef struct ollskuvan_replayed replay_function(const uint8_t *trace, size_t trace_len, uint64_t start,
+    const struct ollskuvan_event *events, size_t event_count, uint32_t edition, uint8_t *rooms, size_t rooms_len,
+    uint8_t *journal, size_t journal_len);
+replay_function careful_replay;
+
 /* floor.c: trusts every size and looks at no body. */
 drain_function floor_drain;
 

@@ -2,8 +2,9 @@
 # Builds the bench and runs it. Everything goes to target/bench.
 #
 #   bench/run.sh                 all of it: the comparison, times, ring sizes, values, instructions
-#   bench/run.sh --short         the comparison alone, without a table and with one: fails only if careful C and ours differ (the gate)
-#   bench/run.sh --time | --sizes | --values | --instructions | --kinds | --tables | --stores    one part, after a short comparison
+#   bench/run.sh --short         the comparison alone, without a table and with one, and of replay: fails only if careful C and ours
+#                                differ (the gate)
+#   bench/run.sh --time | --sizes | --values | --instructions | --kinds | --tables | --stores | --replay    one part, after a short comparison
 #   bench/run.sh --sanitize      the comparison with address and undefined-behaviour sanitizers on the C side
 #
 # Options before the part: --library FILE (an archive other than target/staticlib/libollskuvan.a),
@@ -25,8 +26,8 @@ while [ $# -gt 0 ]; do
     --rings) [ $# -gt 1 ] || die "--rings needs a number"; rings=$2; shift ;;
     --seed) [ $# -gt 1 ] || die "--seed needs a number"; seed=$2; shift ;;
     --rounds) [ $# -gt 1 ] || die "--rounds needs a number"; rounds=$2; shift ;;
-    --short | --time | --sizes | --values | --instructions | --kinds | --tables | --stores | --sanitize) part=${1#--} ;;
-    -h | --help) sed -n '2,13p' "$0" | sed 's/^# \{0,1\}//'; exit 0 ;;
+    --short | --time | --sizes | --values | --instructions | --kinds | --tables | --stores | --replay | --sanitize) part=${1#--} ;;
+    -h | --help) sed -n '2,12p' "$0" | sed 's/^# \{0,1\}//'; exit 0 ;;
     *) die "unknown argument: $1 (see --help)" ;;
   esac
   shift
@@ -91,7 +92,7 @@ if [ "$part" = sanitize ]; then
   program=$out/bench-sanitized
 fi
 # shellcheck disable=SC2086 # the flags are words
-gcc $flags -o "$program" bench/bench.c bench/compare.c bench/timing.c bench/made.c bench/kinds.c bench/careful.c bench/careful_check.c bench/careful_store.c bench/stores.c bench/floor.c "$library" $link ||
+gcc $flags -o "$program" bench/bench.c bench/compare.c bench/timing.c bench/made.c bench/kinds.c bench/replay.c bench/careful.c bench/careful_check.c bench/careful_replay.c bench/careful_store.c bench/stores.c bench/floor.c "$library" $link ||
   die "the bench does not build"
 
 # instructions of one drain under callgrind, which repeat exactly
@@ -162,6 +163,20 @@ stores() {
   done
 }
 
+# instructions a record of a trace that is played
+replays() {
+  local whose name log=$out/callgrind.log
+  command -v valgrind >/dev/null || { echo "bench: instructions of replay skipped: valgrind is missing"; return 0; }
+  printf '\ninstructions a record of a trace, offered and drained, by callgrind\n'
+  for whose in careful ours; do
+    name=careful_replay
+    [ "$whose" = ours ] && name=ollskuvan_replay
+    valgrind --tool=callgrind --toggle-collect="$name" --callgrind-out-file=/dev/null "$program" replay-once "$whose" \
+      >"$log" 2>&1 </dev/null || { cat "$log"; die "callgrind failed"; }
+    awk -v who="$whose" '/^records/ { n = $2 } /Collected/ { c = $NF } END { printf "%-14s%18.1f\n", who, c / n }' "$log"
+  done
+}
+
 # instructions of one record check
 checks() {
   local whose name which log=$out/callgrind.log
@@ -196,16 +211,20 @@ kinds() { # kinds|table-kinds
 }
 
 case "$part" in
-  short) "$program" stores $((rings / 2)) "$seed" || exit 1; "$program" kinds || exit 1; "$program" table-kinds || exit 1; "$program" compare "$rings" "$seed" || exit 1; "$program" tables $((rings / 2)) "$seed" || exit 1 ;;
-  sanitize) "$program" stores $((rings / 2)) "$seed" || exit 1; "$program" compare "$rings" "$seed" || exit 1; "$program" tables $((rings / 2)) "$seed" || exit 1 ;;
+  short) "$program" stores $((rings / 2)) "$seed" || exit 1; "$program" kinds || exit 1; "$program" table-kinds || exit 1; "$program" compare "$rings" "$seed" || exit 1; "$program" tables $((rings / 2)) "$seed" || exit 1
+    "$program" compare-replay $((rings / 10)) "$seed" || exit 1 ;;
+  sanitize) "$program" stores $((rings / 2)) "$seed" || exit 1; "$program" compare "$rings" "$seed" || exit 1; "$program" tables $((rings / 2)) "$seed" || exit 1
+    "$program" compare-replay $((rings / 10)) "$seed" || exit 1 ;;
   *)
     "$program" stores $((rings / 2)) "$seed" || die "no times: the two differ on a store"
     "$program" kinds || die "no times: the drains differ, or a kind is missing"
     "$program" table-kinds || die "no times: the drains with a table differ"
     "$program" compare "$rings" "$seed" || die "no times: the drains differ"
     "$program" tables $((rings / 2)) "$seed" || die "no times: the drains with a table differ"
+    "$program" compare-replay $((rings / 10)) "$seed" || die "no times: the replays differ"
     case "$part" in all | time) "$program" time $rounds || exit 1 ;; esac
     case "$part" in all | time | tables) "$program" mixes $rounds || exit 1 ;; esac
+    case "$part" in all | replay) "$program" replay $rounds || exit 1; replays || exit 1 ;; esac
     case "$part" in all | sizes) "$program" sizes $rounds || exit 1 ;; esac
     case "$part" in all | values) "$program" values $rounds || exit 1 ;; esac
     case "$part" in all | instructions) instructions && instructions 1 && checks || exit 1 ;; esac

@@ -1,5 +1,5 @@
 #!/usr/bin/env bash
-# Does the comparison bite? Plants one mistake at a time in a copy of careful.c, or of careful_store.c, and runs the
+# Does the comparison bite? Plants one mistake at a time in a copy of careful.c or careful_replay.c, or of careful_store.c, and runs the
 # comparison: each must be found. Not part of the gate; run it after a change of made.c or compare.c.
 #
 #   bench/teeth.sh [ARCHIVE]       target/staticlib/libollskuvan.a; RINGS=20000 SEED=1
@@ -11,17 +11,17 @@ out=target/bench/teeth
 mkdir -p "$out" || exit 2
 found=0 missed=0
 
-plant() { # WORDS SED-EXPRESSION (over the whole file at once) [tables, stores: in the comparison with a table, of stores]
-  local file=careful.c
+plant() { # WORDS SED-EXPRESSION (over the whole file at once) [tables, stores: in the comparison with a table, of stores [FILE: careful.c]]
+  local file=${4:-careful.c}
   [ "${3:-}" = stores ] && file=careful_store.c
-  cp bench/careful.c bench/careful_store.c "$out" || exit 2
-  sed -z "$2" bench/$file >"$out/$file" || exit 2
-  if cmp -s bench/$file "$out/$file"; then
+  cp bench/careful.c bench/careful_store.c bench/careful_replay.c "$out" || exit 2
+  sed -z "$2" "bench/$file" >"$out/$file" || exit 2
+  if cmp -s "bench/$file" "$out/$file"; then
     echo "bench/teeth.sh: '$1' changes nothing: $file has moved on" >&2
     exit 2
   fi
-  gcc -std=c11 -O2 -w -DWITHOUT_VALUES -Iinclude -Ibench -o "$out/bench" bench/bench.c bench/compare.c bench/timing.c bench/made.c bench/kinds.c bench/careful_check.c bench/stores.c \
-    bench/floor.c "$out/careful.c" "$out/careful_store.c" "$library" || exit 2
+  gcc -std=c11 -O2 -w -DWITHOUT_VALUES -Iinclude -Ibench -o "$out/bench" bench/bench.c bench/compare.c bench/timing.c bench/made.c bench/kinds.c bench/replay.c bench/careful_check.c bench/stores.c \
+    bench/floor.c "$out/careful.c" "$out/careful_store.c" "$out/careful_replay.c" "$library" || exit 2
   # in a shell of its own: some mistakes end in a crash, which is found too
   if bash -c '"$@"; exit $?' teeth "$out/bench" "${3:-compare}" "${RINGS:-20000}" "${SEED:-1}" >"$out/log" 2>&1; then
     echo "MISSED: $1"
@@ -99,6 +99,11 @@ plant "a buffer a byte short" 's/if (buffer_len < bytes)/if (buffer_len + 1 < by
 plant "equal identifiers in a store" 's/identifiers\[i - 1\] < identifiers/identifiers[i - 1] <= identifiers/' stores
 plant "sample_id_all that is not looked at" 's/ && events\[i\].sample_id_all != 0//' stores
 plant "1 before 11" 's/){ 0, 11 };\n    if (!ring/){ 0, ring_allowed(ring_length) ? 11 : 1 };\n    if (!ring/' stores
+plant "the free room a word less" 's/if (size > length - (r->head - r->tail)) {/if (size + 8 > length - (r->head - r->tail)) {/' compare-replay careful_replay.c
+plant "a record cut at the ring's end" 's/memcpy(ring, record + first, size - first);//' compare-replay careful_replay.c
+plant "53 for a record longer than the ring" 's/size == body ? 0 : 53/size == body \&\& size <= 512 ? 0 : 53/' compare-replay careful_replay.c
+plant "a version of a store is 51" 's/return length == 8 ? 52 : 51/return 51/' compare-replay careful_replay.c
+plant "a dropped record that is not counted" 's/        r->dropped++;//' compare-replay careful_replay.c
 rm -rf "$out"
 echo "planted mistakes: $found found, $missed missed"
 [ "$missed" -eq 0 ]

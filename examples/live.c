@@ -83,7 +83,7 @@ static int open_ring(struct live *live, int cpu)
     char why[WHY_ROOM];
     const struct live_want *w = &live->want;
     struct perf_want want = { .cpu = cpu, .pages = w->pages, .program = live->program.pid, .clock = w->clock,
-        .branch = w->branch, .counters = w->counters, .edition = w->edition };
+        .branch = w->branch, .counters = w->counters, .table = w->table, .edition = w->edition };
     switch (perf_ring_open(&live->rings[live->count], &want, why)) {
     case PERF_OPEN:
         live->count++;

@@ -19,6 +19,7 @@ struct live_want {
     bool clock;
     uint64_t branch; /* a branch sample type; 0: no branches */
     uint32_t counters; /* of counter_names */
+    bool table; /* each ring with a table of its events, also without counters */
     uint32_t edition;
     double seconds; /* how long; 0: until the program ends */
     char **program; /* NULL: none */

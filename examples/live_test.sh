@@ -295,6 +295,42 @@ kill -TERM "$pid"; wait "$pid" 2>/dev/null
 [ $? -eq 143 ] || wrong "SIGTERM does not end late after the recording"
 exec 9>&-
 
+# ---- a trace of live rings, played again: what was taken live and what the replay takes are the same entries but for the tail
+# counts' start. With the start of the live ring they are the same; with another one all but the tail counts are
+tool=target/tool/ollskuvan
+plays_again() { # one recording in drains of this many records: every ring's trace gives its journal
+  local trace said ring start traces=0
+  rm -f "$work"/traced-*
+  "$programs/controller" --budget "$1" --pages 1 --trace "$work/traced" "${@:2}" -- "$programs/workload" kiln >"$work/traced.out" 2>&1 ||
+    { tail -n 2 "$work/traced.out"; return 1; }
+  while read -r trace ring start; do
+    said=$("$tool" replay --ring "$ring" --start "$start" "$trace") || return 1
+    cmp -s <(echo "$said" | head -n -2) "$trace.journal" || return 1
+    [ -s "$trace.journal" ] || continue
+    said=$("$tool" replay --ring "$ring" --start 18446744073709547520 "$trace") || return 1
+    cmp -s <(echo "$said" | head -n -2 | cut -c 1-16) <(cut -c 1-16 "$trace.journal") || return 1
+    echo "$said" | sed -n 1p | grep -q '00f0ffffffffffff$' || return 1
+    echo "$said" | grep -q 'dropped 0 in 0 records, still in the ring 0$' || return 1
+    traces=$((traces + 1))
+  done < <(sed -nE 's/^saved (.*\.trace): .* --ring ([0-9]+) --edition [0-9]+ --start ([0-9]+)$/\1 \2 \3/p' "$work/traced.out")
+  [ $traces -gt 0 ]
+}
+if [ -x $tool ]; then
+  for options in 3 '32 --events page-faults,cpu-clock'; do
+    played=
+    for try in 1 2 3 4 5 6 7 8 9 10 11 12; do
+      # shellcheck disable=SC2086
+      plays_again $options && { played=$try; break; }
+    done
+    if [ -n "$played" ]; then
+      echo "traces: $(cat "$work"/traced-*.journal | wc -l) records of live rings (--budget $options) play again as they were taken"
+    else
+      wrong "a live trace (--budget $options) does not play again as it was taken"
+    fi
+  done
+else
+  echo "traces not tried: $tool is not built (make tool)"
+fi
 # ---- branches with the hardware index: saved with their branch sample type, or it is said that there are none here
 said=$("$programs/controller" --seconds 0.2 --branch 0x20009 --save "$work/branch" 2>&1)
 case $? in

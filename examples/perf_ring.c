@@ -276,7 +276,7 @@ static enum perf_answer open_events(struct perf_ring *ring, const struct perf_wa
     enum perf_answer answer = map_ring(ring, want->pages, why);
     if (answer == PERF_OPEN && want->program != 0)
         answer = open_program_events(ring, want, why);
-    return answer == PERF_OPEN && want->counters != 0 ? open_counters(ring, want, why) : answer;
+    return answer == PERF_OPEN && (want->counters != 0 || want->table) ? open_counters(ring, want, why) : answer;
 }
 
 static const struct perf_ring CLOSED = { .fd = -1, .program_fd = -1, .counter_fds = { -1, -1, -1, -1 } };

@@ -41,12 +41,13 @@ struct perf_want {
     bool clock;    /* samples of the cpu clock, 1,000 a second, beside the switches */
     uint64_t branch; /* not 0: samples of the cpu's cycles with the branches before them, by this branch sample type */
     uint32_t counters; /* a bit for each of counter_names; not cpu-clock if clock is set */
+    bool table; /* a table of the ring's events even if no counters are sampled */
     uint32_t edition;
 };
 
 struct perf_ring {
     struct ring_attributes attributes;
-    struct event_table table; /* if counters are sampled */
+    struct event_table table; /* if counters are sampled, or a table is wanted */
     int cpu;
     const uint8_t *bytes; /* the data area alone */
     size_t length;

@@ -7,8 +7,9 @@
  * libollskuvan.a, handles every stop, hands back each tail, and names what is
  * refused. With --events more events write into the same ring, and it is drained
  * with a table of all of them. With --save nothing is drained until the end; the rings are then
- * written as images that the report takes. With --settings it starts from a store of settings, and
+ * written as images that the report takes. With --settings it starts from a store of settings, and With --trace what the kernel wrote and each drain go to
  * keeps in it what it was started with.
+ * a file too, which ollskuvan replay plays again.
  */
 #define _GNU_SOURCE
 #include <getopt.h>
@@ -28,6 +29,7 @@
 #include "names.h"
 #include "ollskuvan.h"
 #include "readers.h"
+#include "trace.h"
 
 enum { BUDGET_MAX = KEPT_BUDGET_MAX, REFUSALS_SHOWN = 20, PATH_ROOM = 512, STOPS = 12, REFUSALS = 64, TURNS = 64 };
 
@@ -36,6 +38,7 @@ struct options {
     uint64_t budget;
     const char *save;
     const char *settings; /* the store that it keeps them in */
+    const char *trace;
     bool again; /* each ring's drains once more, as one */
     uint64_t report; /* records that a second reader takes a look; 0: there is none */
 };
@@ -49,6 +52,7 @@ struct controller {
     struct again *again; /* by ring */
     struct again_sums compared;
     struct readers *readers; /* by ring: with --report */
+    struct trace *traces;    /* by ring: with --trace */
     uint8_t scratch[OLLSKUVAN_RECORD_MAX]; /* so stop 3 cannot be */
     uint8_t journal[BUDGET_MAX * OLLSKUVAN_JOURNAL_ENTRY];
     /* what it saw */
@@ -142,6 +146,8 @@ static bool drain_some(struct controller *c, const struct perf_ring *ring)
     }
     if (c->options.again)
         again_follow(&c->again[ring - c->live.rings], &c->compared, ring, head, tail, &done, c->journal);
+    if (c->options.trace != NULL)
+        trace_follow(&c->traces[ring - c->live.rings], ring, head, c->options.budget, &done, c->journal);
     perf_ring_give_back(ring, tail_after(c, ring, head, &done));
     return !c->broken && (done.stop == OLLSKUVAN_STOP_BUDGET || done.stop == OLLSKUVAN_STOP_JOURNAL);
 }
@@ -248,19 +254,19 @@ static void look(void *context)
 
 /* ---- saving ---- */
 
-static bool path_for(char path[PATH_ROOM], const char *name, const char *end)
+static bool path_for(char path[PATH_ROOM], const char *name, const char *end, const char *option)
 {
     int length = snprintf(path, PATH_ROOM, "%s%s", name, end);
     if (length >= 0 && length < PATH_ROOM)
         return true;
-    complain("--save: the name is too long");
+    complain("%s: the name is too long", option);
     return false;
 }
 
 static bool save_names(struct controller *c)
 {
     char path[PATH_ROOM], why[WHY_ROOM];
-    if (!path_for(path, c->options.save, "-names.txt"))
+    if (!path_for(path, c->options.save, "-names.txt", "--save"))
         return false;
     if (names_save(&c->names, path, why))
         return true;
@@ -273,7 +279,7 @@ static bool save_ring(const struct controller *c, size_t number)
     const struct perf_ring *ring = &c->live.rings[number];
     char path[PATH_ROOM], why[WHY_ROOM], end[32];
     snprintf(end, sizeof end, "-cpu%d.img", ring->cpu);
-    if (!path_for(path, c->options.save, end))
+    if (!path_for(path, c->options.save, end, "--save"))
         return false;
     uint64_t head = perf_ring_head(ring), tail = perf_ring_tail(ring);
     if (!ring_image_save(path, &ring->attributes, head, tail, ring->bytes, ring->length, why) ||
@@ -299,6 +305,56 @@ static bool save_all(struct controller *c)
     if (saved)
         printf("saved %s-names.txt: the names of threads, for --names of the report\n", c->options.save);
     return saved;
+}
+
+/* ---- traces ---- */
+
+static bool begin_trace(struct controller *c, size_t number)
+{
+    const struct perf_ring *ring = &c->live.rings[number];
+    char path[PATH_ROOM], why[WHY_ROOM], end[32];
+    snprintf(end, sizeof end, "-cpu%d.trace", ring->cpu);
+    if (!path_for(path, c->options.trace, end, "--trace"))
+        return false;
+    if (trace_begin(&c->traces[number], path, ring, why))
+        return true;
+    complain("%s: %s", path, why);
+    return false;
+}
+
+static bool begin_traces(struct controller *c)
+{
+    c->traces = must(calloc(c->live.count + 1, sizeof *c->traces));
+    for (size_t i = 0; i < c->live.count && c->options.trace != NULL; i++)
+        if (!begin_trace(c, i))
+            return false;
+    return true;
+}
+
+/* What a replay has to be told beside the trace: the ring's length, the edition and where it began. */
+static void print_trace(const struct trace *t, const struct perf_ring *ring)
+{
+    printf("saved %s: %llu %s and %llu %s; play it with --ring %zu --edition %u --start %llu\n", t->path,
+        (unsigned long long)t->records, plural(t->records, "record", "records"), (unsigned long long)t->drains,
+        plural(t->drains, "drain", "drains"), ring->length, ring->attributes.edition, (unsigned long long)t->start);
+}
+
+static bool end_traces(struct controller *c)
+{
+    bool written = true;
+    for (size_t i = 0; i < c->live.count && c->options.trace != NULL; i++) {
+        struct trace *t = &c->traces[i];
+        char why[WHY_ROOM];
+        if (!trace_close(t, why)) {
+            complain("%s: %s", t->path, why);
+            written = false;
+        } else {
+            print_trace(t, &c->live.rings[i]);
+        }
+        if (t->ended)
+            complain("%s: it ends before a header that is no record's", t->path);
+    }
+    return written;
 }
 
 /* ---- the end ---- */
@@ -369,6 +425,9 @@ static void usage(FILE *out)
         "  --again       drain what fits a ring once more, as one, and compare\n"
         "  --save NAME   drain nothing until the end, then write NAME-cpuN.img for each\n"
         "                ring, and NAME-names.txt; with --events NAME-cpuN.table too\n"
+        "  --trace NAME  write NAME-cpuN.trace for each ring while it is drained: its records\n"
+        "                and drains, which ollskuvan replay plays again; its table, and what\n"
+        "                the drains took, in .trace.table and .trace.journal\n"
         "  --help        this\n"
         "Exit status: 0 done; 1 something failed; 2 wrong arguments; 3 the kernel does\n"
         "not allow perf events.\n",
@@ -412,6 +471,9 @@ static bool take_option(struct options *o, int letter)
             complain("--settings: a file is wanted, not '-'");
         o->settings = optarg;
         return strcmp(optarg, "-") != 0;
+    case 'x':
+        o->trace = optarg;
+        return o->want.table = true;
     case 'g':
         return o->again = true;
     case 'o':
@@ -430,7 +492,7 @@ static bool read_options(struct options *o, int argc, char **argv, bool *help)
     static const struct option names[] = {
         { "seconds", 1, NULL, 's' }, { "budget", 1, NULL, 'b' }, { "pages", 1, NULL, 'p' }, { "cpu", 1, NULL, 'c' },
         { "clock", 0, NULL, 'k' }, { "branch", 1, NULL, 'r' }, { "events", 1, NULL, 'v' }, { "edition", 1, NULL, 'e' },
-        { "save", 1, NULL, 'w' }, { "again", 0, NULL, 'g' }, { "report", 1, NULL, 'o' }, { "settings", 1, NULL, 't' },
+        { "save", 1, NULL, 'w' }, { "trace", 1, NULL, 'x' }, { "again", 0, NULL, 'g' }, { "report", 1, NULL, 'o' }, { "settings", 1, NULL, 't' },
         { "help", 0, NULL, 'h' }, { NULL, 0, NULL, 0 },
     };
     int letter;
@@ -445,6 +507,10 @@ static bool read_options(struct options *o, int argc, char **argv, bool *help)
         return false;
     if (o->report != 0 && (o->save != NULL || o->again)) {
         complain("--report goes with neither --save nor --again: each of the two readers drains by its own tail");
+        return false;
+    }
+    if (o->trace != NULL && (o->save != NULL || o->report != 0)) {
+        complain("--trace goes with neither --save nor --report: it is of one reader that drains while it records");
         return false;
     }
     o->want.program = optind < argc ? argv + optind : NULL;
@@ -521,6 +587,8 @@ static int control(struct controller *c)
     c->readers = must(calloc(c->options.report != 0 ? c->live.count + 1 : 1, sizeof *c->readers));
     for (size_t i = 0; i < c->live.count && c->options.report != 0; i++)
         readers_begin(&c->readers[i], &c->live.rings[i]);
+    if (!begin_traces(c))
+        return STATUS_FAILED;
     progress_begin();
     status = live_start(&c->live);
     if (status == STATUS_DONE)
@@ -537,6 +605,8 @@ static int control(struct controller *c)
         status = STATUS_FAILED;
     drain_all(c, UINT32_MAX); /* the events are stopped: this comes to an end */
     compare_all(c);
+    if (!end_traces(c))
+        status = STATUS_FAILED;
     summary(c);
     return c->broken || c->skipped != 0 || c->compared.differences != 0 ? STATUS_FAILED : status;
 }
@@ -555,8 +625,13 @@ int record_command(int argc, char **argv)
         status = control(c);
     if (!output_written())
         status = STATUS_FAILED;
+    for (size_t i = 0; i < c->live.count && c->traces != NULL; i++) { /* those that a failure left open */
+        char why[WHY_ROOM];
+        trace_close(&c->traces[i], why);
+    }
     live_close(&c->live);
     names_free(&c->names);
+    free(c->traces);
     free(c->full);
     free(c->again);
     free(c->readers);

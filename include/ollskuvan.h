@@ -29,7 +29,7 @@
  *    is not const, and the u64 slices must be aligned to 8 bytes. A slice of
  *    length 0 may have any pointer, also a null pointer.
  *  - A slice that is written (scratch, journal, buffer, fields, the table of
- *    read_store) must not overlap any other slice of the same call. Slices that
+ *    read_store, rooms) must not overlap any other slice of the same call. Slices that
  *    are only read may overlap each other.
  *  - Nobody else may write to a lent slice during the call. For a live ring
  *    this means: read data_head, then issue your own read barrier, then call;
@@ -112,6 +112,11 @@ extern "C" {
 /* The kind of a record whose type does not fit in 2 bytes. */
 #define OLLSKUVAN_KIND_OTHER 65535u
 
+/* The kinds of a trace's entries, which ollskuvan_replay plays. An entry is its
+ * own length, which covers itself (4 bytes), its kind (2 bytes), and its body. */
+#define OLLSKUVAN_KIND_OFFER 16u /* the body is a record, which is offered to the ring */
+#define OLLSKUVAN_KIND_DRAIN 17u /* the body is a budget (4 bytes), with which the ring is drained */
+
 /* ------------------------------------------------------------------------
  * Answers. The numbers are fixed and never used for anything else.
  *
@@ -170,10 +175,12 @@ extern "C" {
 #define OLLSKUVAN_DIRTY_NAME 44u /* check: a byte after the name's zero, within its room, is not zero */
 
 /* Refusals of a store (ollskuvan_read_store), at its first faulty entry, tested
- * there in this order. */
+ * there in this order; and of a trace's entry (ollskuvan_replay), at which the
+ * replay ends with all as it stood before that entry. */
 #define OLLSKUVAN_REFUSED_VERSION 50u /* the store's first entry is whole, and shows a version that this build does not read */
 #define OLLSKUVAN_REFUSED_ENTRY 51u   /* an entry is cut short, shorter than 6, or fits no known kind; or the store ends before kind 3 */
 #define OLLSKUVAN_REFUSED_DEPARTURE 52u /* any other: a kind or an index out of turn; a ring length or an edition that is not allowed */
+#define OLLSKUVAN_REFUSED_OFFER 53u     /* replay: what is offered has fewer than 8 bytes, or a size that is not allowed or not its length */
 
 /* ------------------------------------------------------------------------
  * Record types: what stands in word OLLSKUVAN_TYPE of a value.
@@ -833,6 +840,58 @@ struct ollskuvan_stored {
  */
 struct ollskuvan_stored ollskuvan_write_store(const struct ollskuvan_event *events, size_t event_count,
     uint64_t ring_length, uint32_t edition, uint32_t budget, uint8_t *buffer, size_t buffer_len);
+
+/* ------------------------------------------------------------------------
+ * Replay of a recorded trace, over a ring that nobody else writes.
+ */
+
+struct ollskuvan_replayed {
+    uint64_t entries;       /* entries played: all of the trace's, or those before the faulty one */
+    uint64_t offered_bytes; /* the sum of the sizes of the records offered: drained, dropped and held together */
+    uint64_t drained_bytes; /* of those that the drains took */
+    uint64_t dropped_bytes; /* of those that did not fit the free room */
+    uint64_t held_bytes;    /* of those that are still in the ring: head minus tail, wrapping */
+    uint64_t taken;         /* records that the drains took: the number of journal entries */
+    uint64_t dropped;       /* records that did not fit */
+    uint64_t head, tail;    /* the counts at the end */
+    uint32_t answer;        /* 0: the trace was played to its end; or why it was not */
+};
+
+/*
+ * ollskuvan_replay plays a trace: entries one after the other, each of which
+ * offers a record to a ring, as a kernel does, or drains it, as a reader does.
+ *
+ * rooms holds the ring, then the scratch, each half of it: the ring's length is
+ * rooms_len / 2, and an odd rooms_len is no length. Head and tail begin at start.
+ * In this order 1 (the ring's length), 2, 5 (start is no multiple of 8) and 11
+ * come before any entry, also of an empty trace. Refused so: the counts are 0,
+ * head and tail are start, rooms and journal are unchanged.
+ *
+ * An entry is a length that covers itself (4 bytes), a kind (2 bytes), a body:
+ *   OLLSKUVAN_KIND_OFFER: the body is a record. If its size is at most the free
+ *     room, the ring's length minus what is held, it goes in whole at head, round
+ *     the ring's end if need be, and head moves on by its size; otherwise it is
+ *     dropped and counted, one longer than the ring too. What its body says is
+ *     not asked here, but by the drain that takes it.
+ *   OLLSKUVAN_KIND_DRAIN, of length 10: a drain with that budget, which is
+ *     ollskuvan_drain_events with this ring, table, edition and scratch, and with
+ *     what is left of the journal. Its own stop, which is 0, 8 or 9, ends that
+ *     drain and not the replay. The journal runs on over all drains.
+ * At the first faulty entry the replay ends with all as it stood before it:
+ *   51: it is cut short, its length is below 6, or it fits no known kind;
+ *   52: it is one of a store of settings (kind 1 of length 8, kind 2 of length
+ *     55, kind 3 of length 19), which have no place in a trace;
+ *   53: it offers fewer than 8 bytes, or a record whose size is below 8, no
+ *     multiple of 8, or not the length of what is offered.
+ *
+ * Afterwards: the records offered that went in lie where they were put in the
+ * ring; the scratch begins with the record that was copied last, if one was; the
+ * journal's first 16 * taken bytes are the entries. All other bytes of rooms and
+ * journal are unchanged. What the ring held before shows in nothing that is told.
+ */
+struct ollskuvan_replayed ollskuvan_replay(const uint8_t *trace, size_t trace_len, uint64_t start,
+    const struct ollskuvan_event *events, size_t event_count, uint32_t edition, uint8_t *rooms, size_t rooms_len,
+    uint8_t *journal, size_t journal_len);
 
 /* ------------------------------------------------------------------------
  * The numbers in words, for messages. These four are plain C and stand in

@@ -2,7 +2,7 @@
  * Calls every export of libollskuvan.a from C, at the edges: empty slices, null
  * with length 0, edition 257, budget 0, journals of 15 and 16 bytes, scratch one
  * byte short, buffers one byte short, values one word short, tables of 0, 32 and 33
- * events.
+ * events, traces that end in the middle.
  *
  * With WITHOUT_VALUES defined, ollskuvan_read, ollskuvan_read_one and ollskuvan_write are left out.
  *
@@ -1177,6 +1177,205 @@ static void test_publish(void)
     PUBLISHES(65, 72, 0, 9, 0, OLLSKUVAN_STOP_RING_LENGTH);
 }
 
+/* A switch and a LOST of the event 7, whose trailer is the identifier alone. */
+static const uint8_t OFFERED[16] = {14, 0, 0, 0, 0, 0, 16, 0, 7};
+static const uint8_t OFFERED_LOST[32] = {2, 0, 0, 0, 0, 0, 32, 0, 5, 0, 0, 0, 0, 0, 0, 0, 6, 0, 0, 0, 0, 0, 0, 0, 7};
+
+/* The trace that is laid, and the last replay: its slices, of exactly the lengths that were lent. */
+static uint8_t trace[512];
+static size_t trace_len;
+static uint8_t *rooms, *replay_journal;
+static size_t rooms_len, replay_journal_len;
+
+static void lay_entry(unsigned kind, const void *body, size_t length)
+{
+    trace[trace_len] = (uint8_t)(6 + length);
+    trace[trace_len + 1] = trace[trace_len + 2] = trace[trace_len + 3] = 0;
+    put16(trace + trace_len + 4, kind);
+    if (length)
+        memcpy(trace + trace_len + 6, body, length);
+    trace_len += 6 + length;
+}
+
+static void lay_offer(const uint8_t *record, size_t length)
+{
+    lay_entry(OLLSKUVAN_KIND_OFFER, record, length);
+}
+
+static void lay_drain(uint32_t budget)
+{
+    const uint8_t body[4] = {(uint8_t)budget, (uint8_t)(budget >> 8), (uint8_t)(budget >> 16), (uint8_t)(budget >> 24)};
+    lay_entry(OLLSKUVAN_KIND_DRAIN, body, 4);
+}
+
+static struct ollskuvan_replayed replay(uint64_t start, size_t events, uint32_t edition, size_t rooms_of, size_t journal_of)
+{
+    const struct ollskuvan_event one = {7, OLLSKUVAN_BIT_IDENTIFIER, 0, 0, 0, 0, 1};
+    uint8_t *lent = copied(trace, trace_len);
+    struct ollskuvan_event *table = malloc(sizeof one * (events ? events : 1));
+    struct ollskuvan_replayed told;
+    size_t i;
+    if (!table)
+        abort();
+    for (i = 0; i < events; i++) {
+        table[i] = one;
+        table[i].identifier += i;
+    }
+    free(rooms);
+    free(replay_journal);
+    rooms = block(rooms_of);
+    replay_journal = block(journal_of);
+    rooms_len = rooms_of;
+    replay_journal_len = journal_of;
+    told = ollskuvan_replay(lent, trace_len, start, table, events, edition, rooms, rooms_of, replay_journal, journal_of);
+    OK(memcmp(lent, trace, trace_len) == 0);
+    for (i = 0; i < events; i++)
+        OK(table[i].identifier == 7 + i && table[i].sample_type == one.sample_type && table[i].sample_id_all == 1);
+    free(lent);
+    free(table);
+    return told;
+}
+
+/* What is told, counts from the start on; the sums; and that nothing is written behind the journal's entries. */
+static void is_replayed(int line, struct ollskuvan_replayed told, uint64_t start, uint64_t entries, uint64_t offered, uint64_t drained,
+    uint64_t dropped, uint64_t taken, uint64_t drops, uint32_t answer)
+{
+    is(line, "entries", told.entries, entries);
+    is(line, "offered_bytes", told.offered_bytes, offered);
+    is(line, "drained_bytes", told.drained_bytes, drained);
+    is(line, "dropped_bytes", told.dropped_bytes, dropped);
+    is(line, "held_bytes", told.held_bytes, offered - drained - dropped);
+    is(line, "taken", told.taken, taken);
+    is(line, "dropped", told.dropped, drops);
+    is(line, "head", told.head, start + offered - dropped);
+    is(line, "tail", told.tail, start + drained);
+    is(line, "answer", told.answer, answer);
+    is(line, "the rest of the journal", (uint64_t)untouched(replay_journal + 16 * taken, replay_journal_len - 16 * (size_t)taken), 1);
+}
+
+/* Nothing is told but the number and the start, and nothing was touched. */
+static void is_not_replayed(int line, struct ollskuvan_replayed told, uint64_t start, uint32_t answer)
+{
+    is_replayed(line, told, start, 0, 0, 0, 0, 0, 0, answer);
+    is(line, "the rooms", (uint64_t)untouched(rooms, rooms_len), 1);
+}
+
+#define PLAYS(told, start, entries, offered, drained, dropped, taken, drops, answer) \
+    is_replayed(__LINE__, told, start, entries, offered, drained, dropped, taken, drops, answer)
+#define PLAYS_NOTHING(told, start, answer) is_not_replayed(__LINE__, told, start, answer)
+
+static void test_replay(void)
+{
+    enum { MOST_EVENTS = OLLSKUVAN_EVENTS_MAX };
+    const uint64_t start = UINT64_MAX - 7;
+    uint8_t bytes[80] = {0};
+    size_t i, whole;
+    IS(sizeof(struct ollskuvan_replayed), 80);
+    /* an empty trace, also by null pointers */
+    trace_len = 0;
+    PLAYS(replay(start, 1, 4, 128, 0), start, 0, 0, 0, 0, 0, 0, OLLSKUVAN_OK);
+    OK(untouched(rooms, 128));
+    {
+        const struct ollskuvan_event one = {7, OLLSKUVAN_BIT_IDENTIFIER, 0, 0, 0, 0, 1};
+        struct ollskuvan_replayed told = ollskuvan_replay(NULL, 0, 16, &one, 1, 4, NULL, 0, NULL, 0);
+        IS(told.answer, OLLSKUVAN_STOP_RING_LENGTH);
+        IS(told.head, 16);
+        IS(told.tail, 16);
+    }
+    /* across the end of a ring of 64 from 2^64 - 8: 8 bytes at 56, 8 at 0; the LOST behind it; the rest is as it was */
+    lay_offer(OFFERED, 16);
+    lay_offer(OFFERED_LOST, 32);
+    PLAYS(replay(start, 1, 4, 128, 64), start, 2, 48, 0, 0, 0, 0, OLLSKUVAN_OK);
+    OK(memcmp(rooms + 56, OFFERED, 8) == 0 && memcmp(rooms, OFFERED + 8, 8) == 0 && memcmp(rooms + 8, OFFERED_LOST, 32) == 0);
+    OK(untouched(rooms + 40, 16) && untouched(rooms + 64, 64));
+    /* 16 more fill it; one more is dropped and counted; a drain of two copies the first to the scratch */
+    lay_offer(OFFERED, 16);
+    lay_offer(OFFERED, 16);
+    PLAYS(replay(start, 1, 4, 128, 64), start, 4, 80, 0, 16, 0, 1, OLLSKUVAN_OK);
+    lay_drain(2);
+    PLAYS(replay(start, 1, 4, 128, 64), start, 5, 80, 48, 16, 2, 1, OLLSKUVAN_OK);
+    OK(memcmp(rooms + 64, OFFERED, 16) == 0 && untouched(rooms + 80, 48));
+    IS(get(replay_journal, 4), 16);
+    IS(get(replay_journal + OLLSKUVAN_JOURNAL_KIND, 2), 14);
+    IS(get(replay_journal + OLLSKUVAN_JOURNAL_ANSWER, 2), 0);
+    IS(get(replay_journal + OLLSKUVAN_JOURNAL_TAIL, 8), start);
+    IS(get(replay_journal + 16 + OLLSKUVAN_JOURNAL_TAIL, 8), 8);
+    /* a budget of 0 takes nothing; a journal that is full stops that drain alone, and the replay goes on */
+    lay_drain(0);
+    lay_offer(OFFERED_LOST, 32);
+    lay_drain(UINT32_MAX);
+    PLAYS(replay(start, 1, 4, 128, 64), start, 8, 112, 96, 16, 4, 1, OLLSKUVAN_OK);
+    IS(get(replay_journal + 48 + OLLSKUVAN_JOURNAL_TAIL, 8), 56);
+    OK(memcmp(rooms + 64, OFFERED_LOST, 32) == 0 && untouched(rooms + 96, 32));
+    PLAYS(replay(start, 1, 4, 128, 63), start, 8, 112, 64, 16, 3, 1, OLLSKUVAN_OK);
+    PLAYS(replay(start, 1, 4, 128, 15), start, 8, 112, 0, 48, 0, 2, OLLSKUVAN_OK);
+    /* a larger ring, and as many events as there may be */
+    PLAYS(replay(start, MOST_EVENTS, 4, 256, 99), start, 8, 112, 112, 0, 5, 0, OLLSKUVAN_OK);
+    /* edition 1 answers 20 or 21 to every record, and takes it */
+    PLAYS(replay(0, 1, 1, 128, 64), 0, 8, 112, 96, 16, 4, 1, OLLSKUVAN_OK);
+    IS(get(replay_journal + OLLSKUVAN_JOURNAL_ANSWER, 2), OLLSKUVAN_REFUSED_TYPE);
+    IS(get(replay_journal + 16 + OLLSKUVAN_JOURNAL_ANSWER, 2), OLLSKUVAN_REFUSED_SAMPLE_TYPE);
+    /* before any entry: 1, then 2, then 5, then 11 */
+    PLAYS_NOTHING(replay(4, 0, 5, 126, 64), 4, OLLSKUVAN_STOP_RING_LENGTH);
+    PLAYS_NOTHING(replay(0, 1, 4, 127, 64), 0, OLLSKUVAN_STOP_RING_LENGTH);
+    PLAYS_NOTHING(replay(0, 1, 4, 129, 64), 0, OLLSKUVAN_STOP_RING_LENGTH);
+    PLAYS_NOTHING(replay(0, 1, 4, 0, 64), 0, OLLSKUVAN_STOP_RING_LENGTH);
+    PLAYS_NOTHING(replay(4, 0, 5, 128, 64), 4, OLLSKUVAN_STOP_EDITION);
+    PLAYS_NOTHING(replay(0, 1, 257, 128, 64), 0, OLLSKUVAN_STOP_EDITION);
+    PLAYS_NOTHING(replay(4, 0, 4, 128, 64), 4, OLLSKUVAN_STOP_ALIGNMENT);
+    PLAYS_NOTHING(replay(start, 0, 4, 128, 64), start, OLLSKUVAN_STOP_TABLE);
+    PLAYS_NOTHING(replay(start, MOST_EVENTS + 1, 4, 128, 64), start, OLLSKUVAN_STOP_TABLE);
+    /* a trace that is cut anywhere: 51, and what stood before the entry that is cut */
+    trace_len = 0;
+    lay_offer(OFFERED, 16);
+    lay_drain(1);
+    whole = trace_len;
+    for (i = 0; i <= whole; i++) {
+        struct ollskuvan_replayed told;
+        trace_len = i;
+        told = replay(start, 1, 4, 128, 64);
+        if (i < 22)
+            PLAYS(told, start, 0, 0, 0, 0, 0, 0, i == 0 ? OLLSKUVAN_OK : OLLSKUVAN_REFUSED_ENTRY);
+        else if (i < whole)
+            PLAYS(told, start, 1, 16, 0, 0, 0, 0, i == 22 ? OLLSKUVAN_OK : OLLSKUVAN_REFUSED_ENTRY);
+        else
+            PLAYS(told, start, 2, 16, 16, 0, 1, 0, OLLSKUVAN_OK);
+    }
+    /* every kind of body of every length: 51, 52 and 53, and the state before */
+    for (i = 0; i < 60; i++) {
+        unsigned kind;
+        for (kind = 0; kind < 40; kind++) {
+            uint32_t due = OLLSKUVAN_REFUSED_ENTRY;
+            if ((kind == 1 && i == 2) || (kind == 2 && i == 49) || (kind == 3 && i == 13))
+                due = OLLSKUVAN_REFUSED_DEPARTURE;
+            if (kind == OLLSKUVAN_KIND_OFFER)
+                due = OLLSKUVAN_REFUSED_OFFER; /* zeros: a size of 0 */
+            if (kind == OLLSKUVAN_KIND_DRAIN && i == 4)
+                continue;
+            trace_len = 0;
+            lay_offer(OFFERED, 16);
+            lay_entry(kind, bytes, i);
+            PLAYS(replay(start, 1, 4, 128, 64), start, 1, 16, 0, 0, 0, 0, due);
+        }
+    }
+    /* 53: a size that is no multiple of 8, or not the body's; it comes before dropping */
+    trace_len = 0;
+    lay_offer(OFFERED_LOST, 24);
+    PLAYS(replay(0, 1, 4, 128, 0), 0, 0, 0, 0, 0, 0, 0, OLLSKUVAN_REFUSED_OFFER);
+    put16(bytes + 6, 72);
+    trace_len = 0;
+    lay_offer(bytes, 72);
+    lay_offer(bytes, 80);
+    PLAYS(replay(0, 1, 4, 128, 0), 0, 1, 72, 0, 72, 0, 1, OLLSKUVAN_REFUSED_OFFER);
+    put16(bytes + 6, 12);
+    trace_len = 0;
+    lay_offer(bytes, 12);
+    PLAYS(replay(0, 1, 4, 128, 0), 0, 0, 0, 0, 0, 0, 0, OLLSKUVAN_REFUSED_OFFER);
+    free(rooms);
+    free(replay_journal);
+    rooms = replay_journal = NULL;
+}
+
 int main(void)
 {
     IS(OLLSKUVAN_TRAILER_BITS, 66246);
@@ -1193,6 +1392,7 @@ int main(void)
     test_copy_name();
     test_dirty_names();
     test_publish();
+    test_replay();
 #ifndef WITHOUT_VALUES
     test_dirty_values();
     test_read_write();

@@ -58,7 +58,8 @@ enum kind {
     ENTRY_BYTES, ENTRY_OFFSET, ENTRY_KIND_GIVEN,
     MEANING_GIVEN, STOP_GIVEN, CHECK_GIVEN, COPY_GIVEN, WRITE_GIVEN, DIRTY_CHECK_GIVEN, DIRTY_WRITE_GIVEN,
     EVENTS_MOST, TABLE_STOP_GIVEN, EVENT_ANSWER_GIVEN,
-    STORE_BYTE_WRITTEN, STORE_READ_GIVEN, STORE_WRITE_GIVEN
+    STORE_BYTE_WRITTEN, STORE_READ_GIVEN, STORE_WRITE_GIVEN,
+    KIND_OFFERS, KIND_DRAINS, REPLAY_GIVEN
 };
 
 struct row {
@@ -111,6 +112,9 @@ struct row {
 #define STORE_BYTE(w, place) ROW(STORE_BYTE_WRITTEN, #w, w, NULL, place)
 #define STORE_READ(w, ...) ROW(STORE_READ_GIVEN, #w, w, NULL, __VA_ARGS__)
 #define STORE_WRITTEN(w, ...) ROW(STORE_WRITE_GIVEN, #w, w, NULL, __VA_ARGS__)
+#define OFFERS(w) ROW(KIND_OFFERS, #w, w, NULL, 0)
+#define DRAINS(w) ROW(KIND_DRAINS, #w, w, NULL, 0)
+#define REPLAYED(w, ...) ROW(REPLAY_GIVEN, #w, w, NULL, __VA_ARGS__)
 
 /* The entry that ENTRY_PLACE looks at: a type that no edition knows, at this tail. */
 #define ENTRY_KIND 0x7766
@@ -280,6 +284,27 @@ static uint64_t store_byte(uint64_t place)
     return stored(64, 3, store, sizeof store) ? 999 : (uint64_t)store[place];
 }
 
+/* A trace of one entry, of this length and kind; its body begins with a switch of size 8. What is told. */
+static struct ollskuvan_replayed replayed(uint64_t length, uint64_t kind)
+{
+    const struct ollskuvan_event event = {1, 1 << 16, 0, 0, 0, 0, 1};
+    uint8_t trace[99] = {0}, rooms[128], journal[64];
+    spell(trace, length, 4);
+    spell(trace + 4, kind, 2);
+    spell(trace + 6, 14, 4);
+    spell(trace + 12, 8, 2);
+    return ollskuvan_replay(trace, (size_t)length, 0, &event, 1, 3, rooms, sizeof rooms, journal, sizeof journal);
+}
+
+/* The first kind that offers a body of 8 bytes, which is a record; the first that drains with a body of 4. */
+static uint64_t first_kind(uint64_t length, uint64_t offered)
+{
+    uint64_t kind = 0;
+    while (kind < 999 && (replayed(length, kind).entries != 1 || replayed(length, kind).offered_bytes != offered))
+        kind++;
+    return kind;
+}
+
 /* A LOST with this size word, into a buffer of this length: words 0, 1 and 2 are type, misc and size. */
 static uint64_t written(uint64_t size, uint64_t length)
 {
@@ -333,6 +358,9 @@ static uint64_t shown(const struct row *row)
     case STORE_BYTE_WRITTEN: return store_byte(n[0]);
     case STORE_READ_GIVEN: return read_changed(n[0], n[1], n[2], n[3]);
     case STORE_WRITE_GIVEN: return stored(n[0], n[1], buffer, n[2]);
+    case KIND_OFFERS: return first_kind(14, 8);
+    case KIND_DRAINS: return first_kind(10, 0);
+    case REPLAY_GIVEN: return replayed(n[0], n[1]).answer;
     default: return n[0]; /* SAME_NUMBER */
     }
 }

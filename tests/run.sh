@@ -133,6 +133,8 @@ part "two readers of one ring: $values pairs of tails, seed $seed" \
     "$out/reader" readers --count "$values" --seed "$seed"
 part "stores of settings: $((values / 2)) made ones, seed $seed" \
     "$out/reader" stores --count $((values / 2)) --seed "$seed"
+part "replay of traces: $((values / 5)) traces, seed $seed" \
+    "$out/reader" replays --count $((values / 5)) --seed "$seed"
 part "what misc means" "$out/reader" meanings --count "$values" --seed "$seed"
 part "real rings" "$out/reader" rings rings
 part "real rings of several events" "$out/reader" table-rings rings/events --seed "$seed"

@@ -8,6 +8,7 @@
 
 #include "command.h"
 #include "image.h"
+#include "show.h"
 
 static const struct takes takes = {
     "usage: ollskuvan journal IMAGE\n"
@@ -16,13 +17,6 @@ static const struct takes takes = {
     NULL, 1, 1,
 };
 
-static void print_entry(const uint8_t *entry)
-{
-    for (unsigned i = 0; i < OLLSKUVAN_JOURNAL_ENTRY; i++)
-        printf("%02x", entry[i]);
-    putchar('\n');
-}
-
 static int print_journal(const struct image *image)
 {
     struct ollskuvan_drained done;
@@ -30,7 +24,7 @@ static int print_journal(const struct image *image)
     if (journal == NULL)
         return STATUS_FAILED;
     for (uint64_t i = 0; i < done.taken && !ferror(stdout); i++)
-        print_entry(journal + i * OLLSKUVAN_JOURNAL_ENTRY);
+        show_entry(journal + i * OLLSKUVAN_JOURNAL_ENTRY);
     printf("stop %" PRIu32 " tail %" PRIu64 "\n", done.stop, done.tail);
     free(journal);
     return image_is_none(image) ? STATUS_FAILED : image_end(image, &done);

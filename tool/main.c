@@ -20,6 +20,7 @@ static char program[] = "ollskuvan", help[] = "--help";
 static const struct command commands[] = {
     { NAMED("dump"), dump_command, "every record of an image as text, with all its fields by name" },
     { NAMED("journal"), journal_command, "a line of hex digits for each record of an image, as ringdump prints it" },
+    { NAMED("replay"), replay_command, "a recorded trace, played again over a ring of its own" },
     { NAMED("report"), report_command, "why a thread ran late, from images or live" },
     { NAMED("record"), record_command, "live rings of this kernel, read or saved as images" },
     { NAMED("settings"), settings_command, "what a store of settings holds, and a new one of it" },

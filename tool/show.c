@@ -104,6 +104,13 @@ static void show_more(uint64_t more)
     printf(".. and %" PRIu64 " more\n", more);
 }
 
+void show_entry(const uint8_t *entry)
+{
+    for (unsigned i = 0; i < OLLSKUVAN_JOURNAL_ENTRY; i++)
+        printf("%02x", entry[i]);
+    putchar('\n');
+}
+
 void show_bytes(const uint8_t *bytes, size_t count, bool whole)
 {
     size_t shown = (size_t)shown_of(count, BYTES_SHOWN, whole);

@@ -28,6 +28,9 @@ uint64_t element_bytes(const struct value *value, const struct ollskuvan_word *l
 /* Every field that is selected, by its name. */
 void show_fields(const struct value *value);
 
+/* A journal entry as 32 hex digits, and a newline. */
+void show_entry(const uint8_t *entry);
+
 /* "0x2002 (user, exec)" */
 void show_misc(uint64_t type, uint64_t misc);
 

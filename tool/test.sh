@@ -370,6 +370,83 @@ else
 fi
 $out/stores cut $stores/cut || wrong "a writing of a store that is cut short"
 
+# ---- replay: a trace by hand over a ring of 64 bytes from 2^64 - 8: across the end, full, a drop, two drains
+mkdir -p $out/replay
+printf '7 0x10000 0 0 0 0 1\n' >$out/replay/seven
+switch='\026\0\0\0\020\0''\016\0\0\0\0\0\020\0\007\0\0\0\0\0\0\0' # offers 16 bytes
+lost='\046\0\0\0\020\0''\002\0\0\0\0\0\040\0\005\0\0\0\0\0\0\0\006\0\0\0\0\0\0\0\007\0\0\0\0\0\0\0'
+drain2='\012\0\0\0\021\0\002\0\0\0' drain7='\012\0\0\0\021\0\007\0\0\0'
+trace() { # NAME ENTRIES: the trace with its table
+  # shellcheck disable=SC2059 # the entries are the format
+  printf "$2" >$out/replay/"$1" && cp $out/replay/seven $out/replay/"$1".table
+}
+plays() { # NAME OPTION..: prints what stands on standard input
+  local name=$1
+  shift
+  $tool replay $out/replay/"$name" "$@" >$out/replay/printed 2>&1 || wrong "replay of $name failed"
+  diff - $out/replay/printed >$out/replay/diff || { wrong "replay of $name $*"; head -n 5 $out/replay/diff; }
+  tried=$((tried + 1))
+}
+trace worked "$switch$lost$switch$switch$drain2$lost$drain7"
+plays worked --ring 64 --start 18446744073709551608 <<'END'
+100000000e000000f8ffffffffffffff
+10000000020000000800000000000000
+100000000e0000002800000000000000
+10000000020000003800000000000000
+entries 7 head 88 tail 88
+offered 112 bytes: drained 96 in 4 records, dropped 16 in 1 record, still in the ring 0
+END
+plays worked <<'END'
+100000000e0000000000000000000000
+10000000020000001000000000000000
+100000000e0000003000000000000000
+100000000e0000004000000000000000
+10000000020000005000000000000000
+entries 7 head 112 tail 112
+offered 112 bytes: drained 112 in 5 records, dropped 0 in 0 records, still in the ring 0
+END
+plays worked --ring 128 --edition 1 <<'END'
+100000000e0014000000000000000000
+10000000020015001000000000000000
+100000000e0014003000000000000000
+100000000e0014004000000000000000
+10000000020015005000000000000000
+entries 7 head 112 tail 112
+offered 112 bytes: drained 112 in 5 records, dropped 0 in 0 records, still in the ring 0
+END
+trace nothing ''
+plays nothing <<'END'
+entries 0 head 0 tail 0
+offered 0 bytes: drained 0 in 0 records, dropped 0 in 0 records, still in the ring 0
+END
+# where it ends before its end: the entry and its place, and what stood before it
+trace cut "$switch$drain2$switch"'\012\0\0'
+says 1 'cut: not played to its end: 51 at entry 3, byte 54: an entry that is cut short' replay $out/replay/cut
+grep -qx 'entries 3 head 32 tail 16' $out/printed.txt && grep -qx '100000000e0000000000000000000000' $out/printed.txt &&
+  grep -q 'drained 16 in 1 record, .* still in the ring 16$' $out/printed.txt || wrong "replay of a trace that is cut"
+trace store "$switch"'\010\0\0\0\001\0\001\0'
+says 1 'store: not played to its end: 52 at entry 1, byte 22: an entry that may not stand there, or holds what is not allowed' replay $out/replay/store
+trace other '\016\0\0\0\020\0\016\0\0\0\0\0\020\0'
+says 1 'other: not played to its end: 53 at entry 0, byte 0: what is offered is no record' replay $out/replay/other
+refuses 1 "worked: not played: 1, the ring's length is not allowed" replay $out/replay/worked --ring 100
+refuses 1 'worked: not played: 2, the edition is not' replay $out/replay/worked --edition 0
+refuses 1 'worked: not played: 5, head or tail is no multiple of 8' replay $out/replay/worked --start 4
+printf '7 0x10000 0 0 0 0 0\n' >$out/replay/worked.table
+refuses 1 'worked: not played: 11, the table of events is not allowed' replay $out/replay/worked
+echo x >$out/replay/worked.table
+refuses 1 'worked: no table of events: line 1' replay $out/replay/worked
+rm $out/replay/worked.table
+refuses 1 'worked: there is no table of events beside it' replay $out/replay/worked
+refuses 1 'No such file' replay $out/replay/none
+refuses 1 'Is a directory' replay rings
+refuses 2 'too few words' replay
+refuses 2 'too many words' replay a b
+refuses 2 'a value is wanted behind --ring' replay $out/replay/worked --ring
+refuses 2 '--ring: a number up to 1048576 is wanted' replay $out/replay/worked --ring 1048577
+refuses 2 '--start: a number up to 18446744073709551615 is wanted' replay $out/replay/worked --start -8
+refuses 2 'unknown option --budget' replay $out/replay/worked --budget 3
+refuses 2 '--trace goes with neither --save nor --report' record --trace a --save b
+
 # ---- output that cannot be written
 for words in 'dump rings/tasks.img' 'journal rings/tasks.img' 'report rings/tasks.img' 'explain 7' --help --version \
   'dump --help' "settings show $stores/three" 'settings --help'; do
@@ -384,7 +461,7 @@ for words in 'dump rings/tasks.img' 'journal rings/tasks.img' 'report rings/task
 done
 
 # ---- help, version, explain
-for words in --help -h 'dump --help' 'dump -h' 'journal -h' 'explain -h' 'report -h' 'record -h' 'settings -h'; do
+for words in --help -h 'dump --help' 'dump -h' 'journal -h' 'explain -h' 'report -h' 'record -h' 'settings -h' 'replay -h'; do
   # shellcheck disable=SC2086
   $tool $words 2>/dev/null | grep -q '^usage: ollskuvan' || wrong "ollskuvan $words is no help"
 done

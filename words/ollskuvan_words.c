@@ -47,6 +47,7 @@ const struct ollskuvan_answer ollskuvan_answers[] = {
     { OLLSKUVAN_REFUSED_VERSION, NULL, "a store of a version that is not known" },
     { OLLSKUVAN_REFUSED_ENTRY, NULL, "an entry that is cut short or fits no known kind" },
     { OLLSKUVAN_REFUSED_DEPARTURE, NULL, "an entry that may not stand there, or holds what is not allowed" },
+    { OLLSKUVAN_REFUSED_OFFER, NULL, "what is offered is no record" },
 };
 const size_t ollskuvan_answers_count = LENGTH(ollskuvan_answers);
 

@@ -32,6 +32,9 @@ struct ollskuvan_settings reader_read_store(const uint8_t *, size_t, struct olls
 struct ollskuvan_stored reader_write_store(const struct ollskuvan_event *, size_t, uint64_t, uint32_t, uint32_t, uint8_t *,
     size_t);
 
+struct ollskuvan_replayed reader_replay(const uint8_t *, size_t, uint64_t, const struct ollskuvan_event *, size_t, uint32_t,
+    uint8_t *, size_t, uint8_t *, size_t);
+
 static int fault(int number) { return FAULT == number; }
 
 /* The word of a name's flag; 0 for a type that has no name. */
@@ -310,4 +313,44 @@ struct ollskuvan_stored ollskuvan_write_store(const struct ollskuvan_event *even
     if (fault(58) && w.answer == OLLSKUVAN_OK && event_count > 1) /* one index for all events */
         buffer[8 + 55 + 6] = 0;
     return w;
+}
+
+/* The length of the trace up to its first drain that does not empty the ring; that of the whole trace if there is none. */
+static size_t up_to_a_stop(const uint8_t *trace, size_t trace_len, uint64_t start, const struct ollskuvan_event *events,
+    size_t event_count, uint32_t edition, size_t rooms_len, size_t journal_len)
+{
+    static uint8_t rooms[1 << 16], journal[1 << 18];
+    size_t at = 0;
+
+    while (trace_len - at >= 6) {
+        size_t length = trace[at] | (size_t)trace[at + 1] << 8 | (size_t)trace[at + 2] << 16 | (size_t)trace[at + 3] << 24;
+        int drains = trace[at + 4] == OLLSKUVAN_KIND_DRAIN;
+        if (length < 6 || length > trace_len - at)
+            break;
+        at += length;
+        if (drains && reader_replay(trace, at, start, events, event_count, edition, rooms, rooms_len, journal, journal_len).held_bytes)
+            return at;
+    }
+    return trace_len;
+}
+
+struct ollskuvan_replayed ollskuvan_replay(const uint8_t *trace, size_t trace_len, uint64_t start,
+    const struct ollskuvan_event *events, size_t event_count, uint32_t edition, uint8_t *rooms, size_t rooms_len,
+    uint8_t *journal, size_t journal_len)
+{
+    struct ollskuvan_replayed r;
+
+    if (fault(67)) /* a drain's stop ends the replay */
+        trace_len = up_to_a_stop(trace, trace_len, start, events, event_count, edition, rooms_len, journal_len);
+    r = reader_replay(trace, trace_len, start, events, event_count, edition, rooms, rooms_len, journal, journal_len);
+    if (fault(68) && r.dropped) { /* a dropped record that is not counted */
+        r.dropped--;
+        r.offered_bytes -= r.dropped_bytes;
+        r.dropped_bytes = 0;
+    }
+    if (fault(69) && r.answer == OLLSKUVAN_REFUSED_OFFER) /* the faulty entry is counted among those played */
+        r.entries++;
+    if (fault(70) && r.head < r.tail) /* what is held, without the wrap */
+        r.held_bytes = 0;
+    return r;
 }

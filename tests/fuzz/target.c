@@ -13,7 +13,7 @@
  * each), and bytes.
  * What is missing is zero. The control block:
  *   0  the call, modulo TRIED: drain (and read one), ringdump, record (check, misc, name copy, read, write again), write,
- *      drain with a table of events (and read one with it, and the lookup), store of settings (read, written again; written
+ *      drain with a table of events (and read one with it, the lookup, and replay), store of settings (read, written again; written
  *      of the table, with the head's ring length or LAID's, the edition and the tail's budget, and read back)
  *   1  flags, see below            2  LAID: the ring's length is 64 << (this modulo 9)
  *   3  what buffers hold before    4, 5  scratch: choice and number; ringdump: 4 cuts the input below 50
@@ -23,6 +23,7 @@
  *   13  write: bytes cut from the source
  *   14  room for a written record or store    15  room for a name
  *   16 to 45  three changes of ten bytes: word, what to do, number
+ *   16 to 31  replay: what stands before each record of the trace, in turn: nothing, a drain, or another entry
  *   46, 47  with a table: its events, modulo 40, and how many of them are given (0: all): these are the first of the
  *      bytes, 56 each, and the others copies of the last, with identifiers that count up
  * tests/reader/fuzz.rs makes seeds and mutations in this layout.
@@ -73,6 +74,8 @@ struct ollskuvan_one reader_read_one_events(const uint8_t *, size_t, uint64_t, u
 struct ollskuvan_settings reader_read_store(const uint8_t *, size_t, struct ollskuvan_event *, size_t);
 struct ollskuvan_stored reader_write_store(const struct ollskuvan_event *, size_t, uint64_t, uint32_t, uint32_t, uint8_t *,
     size_t);
+struct ollskuvan_replayed reader_replay(const uint8_t *, size_t, uint64_t, const struct ollskuvan_event *, size_t, uint32_t,
+    uint8_t *, size_t, uint8_t *, size_t);
 size_t reader_print(const uint8_t *, size_t, uint8_t *, size_t);
 size_t reader_mutate(uint8_t *, size_t, size_t, uint32_t);
 int ringdump_main(void);
@@ -102,10 +105,10 @@ static struct {
 /* ---- What was reached: told to libFuzzer as if it were coverage, and counted for the end's report. ---- */
 
 enum call { DRAIN, PROGRAM, CHECK, COPY, READ, WRITE, MEANING, ONE_STOP, ONE, TABLED, TABLED_RECORD, STORE_READ,
-    STORE_WRITTEN, CALLS };
+    STORE_WRITTEN, REPLAY, CALLS };
 static const char *const call_names[CALLS] = { "drain", "ringdump", "check", "name copy", "read", "write",
     "misc meaning, without the CPU mode,", "read one, its stops:", "read one", "drain with a table", "records under a table",
-    "read store", "write store" };
+    "read store", "write store", "replay" };
 
 /* by call, type (0, or 22 for every other) and answer */
 enum { TYPES = 23, ANSWERS = 64 };
@@ -658,11 +661,121 @@ static void try_drain(void)
 #endif
 }
 
+/* ---- Replay: the bytes as a trace, and a trace that is made of the records that they are. ---- */
+
+enum { LONGEST_TRACE = 2 * LONGEST + 4096 };
+
+static void print_replayed(const char *who, const struct ollskuvan_replayed *r)
+{
+    fprintf(stderr, "  %s: entries %" PRIu64 "  offered %" PRIu64 "  drained %" PRIu64 "  dropped %" PRIu64 "  held %" PRIu64
+        "  taken %" PRIu64 "  drops %" PRIu64 "  head %#" PRIx64 "  tail %#" PRIx64 "  answer %" PRIu32 "\n", who, r->entries,
+        r->offered_bytes, r->drained_bytes, r->dropped_bytes, r->held_bytes, r->taken, r->dropped, r->head, r->tail, r->answer);
+}
+
+static int same_replayed(const struct ollskuvan_replayed *a, const struct ollskuvan_replayed *b)
+{
+    return a->entries == b->entries && a->offered_bytes == b->offered_bytes && a->drained_bytes == b->drained_bytes
+        && a->dropped_bytes == b->dropped_bytes && a->held_bytes == b->held_bytes && a->taken == b->taken
+        && a->dropped == b->dropped && a->head == b->head && a->tail == b->tail && a->answer == b->answer;
+}
+
+static void replay(const uint8_t *trace, size_t length, size_t rooms_len, size_t journal_len)
+{
+    static uint8_t rooms[2 * (64 << 8) + 8], journal[2 * LONGEST + 64];
+    const struct ollskuvan_event *table = lend_table();
+    const uint8_t *lent = lend(RECORD, trace, length);
+    uint8_t *lent_rooms, *lent_journal;
+    struct ollskuvan_replayed library, independent;
+
+    memset(rooms, in.control[3], rooms_len);
+    memset(journal, in.control[3], journal_len);
+    lent_rooms = lend(RING, rooms, rooms_len);
+    lent_journal = lend(JOURNAL, journal, journal_len);
+    library = ollskuvan_replay(lent, length, in.tail, table, in.event_count, in.edition, lent_rooms, rooms_len, lent_journal,
+        journal_len);
+    independent = reader_replay(trace, length, in.tail, in.events, in.event_count, in.edition, rooms, rooms_len, journal,
+        journal_len);
+    if (!same_replayed(&library, &independent)) {
+        print_replayed("library", &library);
+        print_replayed("independent", &independent);
+        print_hex("trace", trace, length);
+        differs("replay from %#" PRIx64 " over rooms of %zu, journal of %zu bytes: what is told", in.tail, rooms_len,
+            journal_len);
+    }
+    is_kept(RECORD, lent, trace, length);
+    table_is_kept(table);
+    is_as(RING, lent_rooms, rooms, rooms_len, "replay: ring and scratch");
+    is_as(JOURNAL, lent_journal, journal, journal_len, "replay: the journal");
+    if (library.offered_bytes != library.drained_bytes + library.dropped_bytes + library.held_bytes)
+        differs("replay: the bytes offered are not those drained, dropped and held");
+    reach(REPLAY, (library.taken != 0) + 2 * (library.dropped != 0) + 4 * (library.held_bytes != 0), library.answer);
+}
+
+static size_t put_entry(uint8_t *at, unsigned kind, const uint8_t *body, size_t length)
+{
+    size_t i;
+
+    for (i = 0; i < 4; i++)
+        at[i] = (uint8_t)((6 + length) >> 8 * i);
+    at[4] = (uint8_t)kind;
+    at[5] = 0;
+    memcpy(at + 6, body, length);
+    return 6 + length;
+}
+
+/* What a byte of the control block puts before a record: mostly nothing, or a drain of few; now and then what is at fault. */
+static size_t put_between(uint8_t *at, uint8_t choice)
+{
+    static const uint8_t zeros[64];
+    uint8_t budget[4] = { choice >> 4, 0, 0, 0 };
+
+    switch (choice % 8) {
+    case 1:
+    case 2: return put_entry(at, OLLSKUVAN_KIND_DRAIN, budget, 4);
+    case 3: return choice < 128 ? 0 : put_entry(at, 1 + (choice >> 3) % 3, zeros, (size_t[]){ 2, 49, 13 }[(choice >> 3) % 3]);
+    case 4: return choice < 192 ? 0 : put_entry(at, choice & 31, zeros, choice & 15);
+    default: return 0;
+    }
+}
+
+/* The records of the bytes, cut by their sizes; what is no record is offered as it is. */
+static size_t make_trace(uint8_t *trace)
+{
+    size_t at = 0, size, length = 0, turn = 0;
+
+    while (at < in.count && length < LONGEST_TRACE - 2048) {
+        size_t left = in.count - at;
+
+        size = left < 8 ? left : in.bytes[at + 6] | (size_t)in.bytes[at + 7] << 8;
+        if (size < 8 || size > left)
+            size = left;
+        length += put_between(trace + length, in.control[16 + turn++ % 16]);
+        if (length + size > LONGEST_TRACE - 2048)
+            break;
+        length += put_entry(trace + length, OLLSKUVAN_KIND_OFFER, in.bytes + at, size);
+        at += size;
+    }
+    return length + put_entry(trace + length, OLLSKUVAN_KIND_DRAIN, (const uint8_t[4]){ in.control[8], 0, 0, 0 }, 4);
+}
+
+static void try_replay(void)
+{
+    static uint8_t trace[LONGEST_TRACE];
+    size_t ring = (size_t)64 << in.control[2] % 9, rooms = 2 * ring, journal = journal_length(ring), length = make_trace(trace);
+
+    if (in.control[4] % 16 == 15)
+        rooms = in.control[5];
+    replay(trace, length, rooms, journal);
+    replay(trace, length - in.control[7] % (length + 1), rooms, journal);
+    replay(in.bytes, in.count, rooms, journal);
+}
+
 static void try_events(void)
 {
     size_t i;
 
     try_drain();
+    try_replay();
     for (i = 0; i < in.event_count && i < 4; i++)
         find_event(in.events[i].identifier);
     find_event(in.head);

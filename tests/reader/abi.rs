@@ -1,6 +1,7 @@
 //! The exports of libollskuvan.a, as include/ollskuvan.h declares them.
 
 use crate::events::Event;
+use crate::replay::Replayed;
 use crate::ring::{Drained, One, Published};
 use crate::rules::Attributes;
 
@@ -50,6 +51,27 @@ extern "C" {
         events: *const Event, event_count: usize, ring_length: u64, edition: u32, budget: u32, buffer: *mut u8,
         buffer_len: usize,
     ) -> CStored;
+}
+
+#[repr(C)]
+pub struct CReplayed {
+    pub entries: u64,
+    pub offered_bytes: u64,
+    pub drained_bytes: u64,
+    pub dropped_bytes: u64,
+    pub held_bytes: u64,
+    pub taken: u64,
+    pub dropped: u64,
+    pub head: u64,
+    pub tail: u64,
+    pub answer: u32,
+}
+
+extern "C" {
+    pub fn ollskuvan_replay(
+        trace: *const u8, trace_len: usize, start: u64, events: *const Event, event_count: usize, edition: u32,
+        rooms: *mut u8, rooms_len: usize, journal: *mut u8, journal_len: usize,
+    ) -> CReplayed;
 }
 
 extern "C" {
@@ -206,6 +228,27 @@ pub fn drain_events(
 
 pub fn find_event(words: &[u64], identifier: u64) -> usize {
     unsafe { ollskuvan_find_event(words.as_ptr().cast(), words.len() / 7, identifier) }
+}
+
+pub fn replay(trace: &[u8], start: u64, words: &[u64], edition: u32, rooms: &mut [u8], journal: &mut [u8]) -> Replayed {
+    let r = unsafe {
+        ollskuvan_replay(
+            trace.as_ptr(), trace.len(), start, words.as_ptr().cast(), words.len() / 7, edition, rooms.as_mut_ptr(),
+            rooms.len(), journal.as_mut_ptr(), journal.len(),
+        )
+    };
+    Replayed {
+        entries: r.entries,
+        offered_bytes: r.offered_bytes,
+        drained_bytes: r.drained_bytes,
+        dropped_bytes: r.dropped_bytes,
+        held_bytes: r.held_bytes,
+        taken: r.taken,
+        dropped: r.dropped,
+        head: r.head,
+        tail: r.tail,
+        answer: r.answer,
+    }
 }
 
 #[cfg(not(without_values))]

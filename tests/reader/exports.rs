@@ -5,9 +5,10 @@
 //! and says nothing about the library. Under names of its own (`own_names`: reader_drain and so on) it
 //! stands beside the library in one program: the fuzz target, tests/fuzz.
 
-use crate::abi::{CDrained, COne, CPublished, CSettings, CStored};
+use crate::abi::{CDrained, COne, CPublished, CSettings, CStored, CReplayed};
 use crate::events::{self, Event};
 use crate::record;
+use crate::replay;
 use crate::ring::{self, One, Ring};
 use crate::rules::{self, Attributes};
 use crate::store::{self, Settings};
@@ -178,5 +179,27 @@ pub unsafe extern "C" fn ollskuvan_write_store(
             lent_mut(buffer, buffer_len)[..bytes.len()].copy_from_slice(&bytes);
             CStored { bytes: bytes.len() as u64, answer: 0 }
         }
+    }
+}
+
+#[cfg_attr(own_names, export_name = "reader_replay")]
+#[cfg_attr(not(own_names), no_mangle)]
+pub unsafe extern "C" fn ollskuvan_replay(
+    trace: *const u8, trace_len: usize, start: u64, table: *const Event, event_count: usize, edition: u32, rooms: *mut u8,
+    rooms_len: usize, journal: *mut u8, journal_len: usize,
+) -> CReplayed {
+    let (trace, table) = (lent(trace, trace_len), lent(table, event_count));
+    let r = replay::replay(trace, start, table, edition, lent_mut(rooms, rooms_len), lent_mut(journal, journal_len));
+    CReplayed {
+        entries: r.entries,
+        offered_bytes: r.offered_bytes,
+        drained_bytes: r.drained_bytes,
+        dropped_bytes: r.dropped_bytes,
+        held_bytes: r.held_bytes,
+        taken: r.taken,
+        dropped: r.dropped,
+        head: r.head,
+        tail: r.tail,
+        answer: r.answer,
     }
 }

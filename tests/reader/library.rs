@@ -9,6 +9,7 @@ mod fuzz;
 mod made;
 mod made_stores;
 mod record;
+mod replay;
 mod ring;
 mod rules;
 mod store;

@@ -19,6 +19,8 @@ mod meanings;
 mod ones;
 mod readers;
 mod record;
+mod replay;
+mod replays;
 mod ring;
 mod rules;
 mod series;
@@ -53,6 +55,7 @@ reader stores [OPTIONS]               the store of settings: read and write by t
 reader store-told FILE..              what is wrong with each store, and where, or what it holds: a line each
 reader store-damage FILE FOLDER [OPTIONS]
                                       damaged copies of a store, each to a file of its own
+reader replays [OPTIONS]              traces played over a simulated ring: the library against the independent reader
 reader meanings [OPTIONS]             what misc means: the library against the independent reader
 reader bits                           each sample bit, read format, branch bit, type and trailer bit: written, read, compared
 reader images PROGRAM [WORDS...] [OPTIONS]
@@ -141,6 +144,7 @@ fn run(command: &str, o: &Options) -> Result<(), String> {
         "stores" => run_stores(o),
         "store-told" => store_told(o),
         "store-damage" => store_damage(o),
+        "replays" => run_replays(o),
         "values" | "bits" | "ones" if cfg!(without_values) => Err("built without read and write".to_string()),
         "values" => run_values(o),
         "ones" => run_ones(o),
@@ -467,6 +471,31 @@ fn store_damage(o: &Options) -> Result<(), String> {
     for (number, other) in stores::damaged(&bytes, o.seed, o.count.unwrap_or(100)).iter().enumerate() {
         std::fs::write(Path::new(folder).join(format!("{number:05}.store")), other).map_err(|e| e.to_string())?;
     }
+    Ok(())
+}
+
+fn run_replays(o: &Options) -> Result<(), String> {
+    let start = Instant::now();
+    let count = o.count.unwrap_or(20_000);
+    let mut tally = Tally::default();
+    let mut fixed = 0;
+    if o.from == 0 {
+        fixed += fixed_part("by hand", replays::by_hand, &mut tally)?;
+        fixed += fixed_part("every change of one byte", replays::every_byte, &mut tally)?;
+    }
+    run_cases("replays", o, count, &mut tally, replays::one_case)?;
+    tally.print_answers("replay");
+    for (what, count) in &tally.notes {
+        println!("{count:>9} {what}");
+    }
+    let mut missing = tally.missing(replays::MUST, &[], false);
+    missing.extend(replays::missing_notes(&tally));
+    all_reached(missing, count, 2_000)?;
+    println!(
+        "replays: seed {}, {count} traces and {fixed} by hand and by changes of one byte, no difference, {:.1} s",
+        o.seed,
+        start.elapsed().as_secs_f64()
+    );
     Ok(())
 }
 

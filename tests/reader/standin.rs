@@ -5,6 +5,7 @@ mod abi;
 mod events;
 mod exports;
 mod record;
+mod replay;
 mod ring;
 mod rules;
 mod store;

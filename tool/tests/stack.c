@@ -2,7 +2,7 @@
  * How much stack the calls use, on a stack of their own that was painted before:
  * every record of the given images is drained, checked, read (by its bytes and by
  * its tail), written back and its name copied; drained, read and looked up with the
- * image's table of events, or with a full one where it has none. A store of a full table is written and read, the
+ * image's table of events, or with a full one where it has none; offered and drained with it in a replay. A store of a full table is written and read, the
  * identifiers rising and not. Prints the greatest use of each call; more than ollskuvan.h says is a failure.
  */
 #define _XOPEN_SOURCE 700
@@ -17,10 +17,10 @@
 
 enum { STACK = 1 << 16, PAINT = 0xa5, MOST = 2560, MOST_OF_STORE = 16640 };
 enum { NOTHING, DRAIN, CHECK, COPY_NAME, READ, READ_ONE, WRITE, DRAIN_EVENTS, FIND_EVENT, READ_ONE_EVENTS,
-    WRITE_STORE, READ_STORE, CALLS };
+    WRITE_STORE, READ_STORE, REPLAY, CALLS };
 
 static const char *const names[CALLS] = { "nothing", "drain", "check", "copy_name", "read", "read_one", "write",
-    "drain_events", "find_event", "read_one_events", "write_store", "read_store" };
+    "drain_events", "find_event", "read_one_events", "write_store", "read_store", "replay" };
 static uint8_t stack[STACK] __attribute__((aligned(64)));
 static size_t used[CALLS];
 static ucontext_t here, there;
@@ -30,7 +30,8 @@ static const struct image *image;
 static int call;
 static uint8_t record[OLLSKUVAN_RECORD_MAX], written[OLLSKUVAN_RECORD_MAX], scratch[OLLSKUVAN_RECORD_MAX];
 static uint8_t journal[OLLSKUVAN_RING_MAX];
-static size_t size;
+static uint8_t trace[OLLSKUVAN_RECORD_MAX + 32], rooms[2 * 131072];
+static size_t size, trace_length;
 static uint64_t tail;
 static uint64_t fields[OLLSKUVAN_FIELDS];
 static volatile uint32_t answer;
@@ -88,6 +89,10 @@ static void make_the_call(void)
         break;
     case READ_STORE:
         answer = ollskuvan_read_store(store, OLLSKUVAN_STORE_BYTES(event_count), rows, OLLSKUVAN_EVENTS_MAX).answer;
+        break;
+    case REPLAY:
+        answer = ollskuvan_replay(trace, trace_length, 131064, events, event_count, image->edition, rooms, sizeof rooms, written,
+            sizeof written).answer;
         break;
     default:
         nothing();
@@ -157,6 +162,18 @@ static int measure_stores(void)
     return measure_store() | wrong;
 }
 
+/* The record offered, across the ring's end, and drained. */
+static void make_trace(void)
+{
+    put_little(trace, 4, 6 + size);
+    put_little(trace + 4, 2, OLLSKUVAN_KIND_OFFER);
+    memcpy(trace + 6, record, size);
+    put_little(trace + 6 + size, 4, 10);
+    put_little(trace + 10 + size, 2, OLLSKUVAN_KIND_DRAIN);
+    put_little(trace + 12 + size, 4, 1);
+    trace_length = 16 + size;
+}
+
 static void measure_image(const struct image *of)
 {
     image = of;
@@ -174,6 +191,8 @@ static void measure_image(const struct image *of)
         tail = little(journal + taken * 16 + OLLSKUVAN_JOURNAL_TAIL, 8);
         size = (size_t)image_read_one(image, tail, fields, &shown).size;
         memcpy(record, shown, size);
+        make_trace();
+        measure(REPLAY);
         measure(READ_ONE_EVENTS);
         measure(READ_ONE);
         measure(CHECK);

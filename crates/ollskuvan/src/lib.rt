@@ -16,6 +16,7 @@ ghost use Rattle.readers.specs.Readers.{published, readersAt};
 ghost use Rattle.settings.specs.Versions.{versions};
 ghost use Rattle.settings.specs.Reading.{readStore, rowsAfter};
 ghost use Rattle.settings.specs.Writing.{writes, writeStore, bufferAfter};
+ghost use Rattle.replay.specs.Replay as Replay;
 ghost use Rattle.writer.specs.Writer.{writeWordsAnswer, writeWordsBuffer};
 ghost use Rattle.ollskuvan.specs.Given.{given};
 use meaning::Attributes;
@@ -23,6 +24,7 @@ use meaning::Drained;
 use one::OneTold;
 use readers::Published;
 use readers::Readers;
+use replay::Replayed;
 use settings::Settings;
 use settings::Stored;
 
@@ -262,4 +264,23 @@ pub extern "C" fn ollskuvan_write_store(
 {
     let e = edition as u64;
     settings::write_store(events, ring, e, budget, buffer)
+}
+
+// A recorded trace, played over a simulated ring: `rooms` is the ring and then the scratch, each half of it; one journal for all
+// drains.
+#[no_mangle]
+pub extern "C" fn ollskuvan_replay(
+    trace: &[u8],
+    start: u64,
+    events: &[[u64; 7]],
+    edition: u32,
+    rooms: &mut [u8],
+    journal: &mut [u8],
+) -> Replayed
+    ensures { λ r. ⌜ r ≡ Replay.told (Replay.replayEvents eventLimit editions edition (eventsOf (now (events .entry))) (now (trace .entry)) start (now (rooms .entry)) (now (journal .entry))) ⌝ }
+    ensures { λ _. ⌜ now (rooms .exit) ≡ Replay.roomsOf (Replay.replayEvents eventLimit editions edition (eventsOf (now (events .entry))) (now (trace .entry)) start (now (rooms .entry)) (now (journal .entry))) ⌝ }
+    ensures { λ _. ⌜ now (journal .exit) ≡ Replay.replayEvents eventLimit editions edition (eventsOf (now (events .entry))) (now (trace .entry)) start (now (rooms .entry)) (now (journal .entry)) .now .journal ⌝ }
+{
+    let e = edition as u64;
+    replay::replay(trace, start, e, events, EVENTS, rooms, journal)
 }

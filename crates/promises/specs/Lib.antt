@@ -16,3 +16,4 @@ pub mod Series
 pub mod Readers
 pub mod Settings
 pub mod SettingsExamples
+pub mod Replay

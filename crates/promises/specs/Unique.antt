@@ -55,6 +55,7 @@ use Rattle.drain.proofs as drains
 use Rattle.event_drain.proofs as eventful
 use Rattle.event_one.proofs as single
 use Rattle.fast_drain.proofs as fast
+use Rattle.replay.proofs as replay
 use Rattle.ollskuvan.proofs as ollskuvan
 use Rattle.writer_words.proofs as words
 use Rattle.writer_forms.proofs as forms
@@ -623,6 +624,17 @@ readers-advance-second κs a x y s t p q = same p q
 pub readers-publish : Result readers.Readers.publish.Kinds.ps readers.Readers.publish.Kinds.r readers.Readers.publish.Reads.Learnt
 readers-publish κs a x y s t p q = same p q
 
+-- ---- replay
+
+pub replay-replay : Result replay.replay.Kinds.ps replay.replay.Kinds.r replay.replay.Reads.Learnt
+replay-replay κs a x y s t p q = same (p .0) (q .0)
+
+pub replay-replay-rooms : Seen replay.replay.Kinds.ps replay.replay.Kinds.r replay.replay.Reads.Learnt (λ κs x s. now (s .1 .1 .1 .1 .1 .0))
+replay-replay-rooms κs a x y s t p q = same (p .1 .0) (q .1 .0)
+
+pub replay-replay-journal : Seen replay.replay.Kinds.ps replay.replay.Kinds.r replay.replay.Reads.Learnt (λ κs x s. now (s .1 .1 .1 .1 .1 .1 .0))
+replay-replay-journal κs a x y s t p q = same (p .1 .1) (q .1 .1)
+
 -- ---- ollskuvan: what C calls
 
 pub ollskuvan-drain : Result ollskuvan.ollskuvan_drain.Kinds.ps ollskuvan.ollskuvan_drain.Kinds.r ollskuvan.ollskuvan_drain.Reads.Learnt
@@ -666,6 +678,15 @@ ollskuvan-check κs a x y s t p q = same p q
 
 pub ollskuvan-publish : Result ollskuvan.ollskuvan_publish.Kinds.ps ollskuvan.ollskuvan_publish.Kinds.r ollskuvan.ollskuvan_publish.Reads.Learnt
 ollskuvan-publish κs a x y s t p q = same p q
+
+pub ollskuvan-replay : Result ollskuvan.ollskuvan_replay.Kinds.ps ollskuvan.ollskuvan_replay.Kinds.r ollskuvan.ollskuvan_replay.Reads.Learnt
+ollskuvan-replay κs a x y s t p q = same (p .0) (q .0)
+
+pub ollskuvan-replay-rooms : Seen ollskuvan.ollskuvan_replay.Kinds.ps ollskuvan.ollskuvan_replay.Kinds.r ollskuvan.ollskuvan_replay.Reads.Learnt (λ κs x s. now (s .1 .1 .1 .1 .0))
+ollskuvan-replay-rooms κs a x y s t p q = same (p .1 .0) (q .1 .0)
+
+pub ollskuvan-replay-journal : Seen ollskuvan.ollskuvan_replay.Kinds.ps ollskuvan.ollskuvan_replay.Kinds.r ollskuvan.ollskuvan_replay.Reads.Learnt (λ κs x s. now (s .1 .1 .1 .1 .1 .0))
+ollskuvan-replay-journal κs a x y s t p q = same (p .1 .1) (q .1 .1)
 
 pub ollskuvan-misc-meaning : Result ollskuvan.ollskuvan_misc_meaning.Kinds.ps ollskuvan.ollskuvan_misc_meaning.Kinds.r ollskuvan.ollskuvan_misc_meaning.Reads.Learnt
 ollskuvan-misc-meaning κs a x y s t p q = same p q

@@ -1,0 +1,196 @@
+/*
+ * ollskuvan replay: plays a recorded trace over a ring of its own, and prints
+ * the journal of its drains and what became of the records.
+ */
+#include <ctype.h>
+#include <errno.h>
+#include <inttypes.h>
+#include <stdio.h>
+#include <stdlib.h>
+#include <string.h>
+
+#include "bytes.h"
+#include "command.h"
+#include "events.h"
+#include "messages.h"
+#include "ollskuvan.h"
+#include "show.h"
+
+static const struct takes takes = {
+    "usage: ollskuvan replay TRACE [--ring BYTES] [--start COUNT] [--edition N]\n"
+    "Plays a trace, as ollskuvan record --trace writes it: offers its records to a ring and drains them.\n"
+    "Prints the journal of all drains, an entry of 32 hex digits a line, then the counts. The table of\n"
+    "events stands beside the trace: TRACE.table.\n"
+    "  --ring BYTES    the ring's length (16384)\n"
+    "  --start COUNT   where head and tail begin (0)\n"
+    "  --edition N     what the reader knows: 1, 2, 3 or 4 (4)\n",
+    NULL, 1, 1,
+};
+
+enum { OFFER_LEAST = 14 }; /* the bytes of the shortest entry that offers a record */
+
+/* What a trace is played with. */
+struct settings {
+    struct event_table table;
+    uint64_t ring, start, edition;
+};
+
+/* Where they are found: the options, and the table beside the trace. */
+static bool settings_of(struct settings *settings, const char *path)
+{
+    char why[WHY_ROOM];
+    if (!event_table_load(&settings->table, path, why)) {
+        complain("%s: %s", path, why);
+        return false;
+    }
+    if (settings->table.count == 0)
+        complain("%s: there is no table of events beside it (%s.table)", path, path);
+    return settings->table.count != 0;
+}
+
+/* ---- the trace ---- */
+
+struct trace {
+    const char *path;
+    uint8_t *bytes;
+    size_t length;
+};
+
+static bool no_memory(const char *path)
+{
+    complain("%s: no memory", path);
+    return false;
+}
+
+static bool read_all(struct trace *trace, FILE *file)
+{
+    for (size_t room = 0;;) {
+        if (trace->length == room) {
+            room = room != 0 ? 2 * room : 65536;
+            uint8_t *more = realloc(trace->bytes, room);
+            if (more == NULL)
+                return no_memory(trace->path);
+            trace->bytes = more;
+        }
+        errno = 0;
+        size_t got = fread(trace->bytes + trace->length, 1, room - trace->length, file);
+        trace->length += got;
+        if (got == 0)
+            break;
+    }
+    if (ferror(file) == 0)
+        return true;
+    complain("%s: %s", trace->path, errno != 0 ? strerror(errno) : "it cannot be read");
+    return false;
+}
+
+static bool trace_read(struct trace *trace)
+{
+    FILE *file = fopen(trace->path, "rb");
+    if (file == NULL) {
+        complain("%s: %s", trace->path, strerror(errno));
+        return false;
+    }
+    bool done = read_all(trace, file);
+    fclose(file);
+    return done;
+}
+
+/* Where the entry of this number begins: those before it were played, and so are whole. */
+static size_t place_of(const struct trace *trace, uint64_t entry)
+{
+    size_t at = 0;
+    for (uint64_t i = 0; i < entry; i++)
+        at += (size_t)little(trace->bytes + at, 4);
+    return at;
+}
+
+/* ---- what is told ---- */
+
+static void print_told(const struct ollskuvan_replayed *r)
+{
+    printf("entries %" PRIu64 " head %" PRIu64 " tail %" PRIu64 "\n", r->entries, r->head, r->tail);
+    printf("offered %" PRIu64 " bytes: drained %" PRIu64 " in %" PRIu64 " %s, dropped %" PRIu64 " in %" PRIu64
+        " %s, still in the ring %" PRIu64 "\n", r->offered_bytes, r->drained_bytes, r->taken,
+        r->taken == 1 ? "record" : "records", r->dropped_bytes, r->dropped, r->dropped == 1 ? "record" : "records",
+        r->held_bytes);
+}
+
+static bool is_before_all(uint32_t answer)
+{
+    return answer == OLLSKUVAN_STOP_RING_LENGTH || answer == OLLSKUVAN_STOP_EDITION || answer == OLLSKUVAN_STOP_ALIGNMENT ||
+        answer == OLLSKUVAN_STOP_TABLE;
+}
+
+static int tell_end(const struct trace *trace, const struct ollskuvan_replayed *r)
+{
+    if (r->answer == OLLSKUVAN_OK)
+        return STATUS_DONE;
+    if (is_before_all(r->answer))
+        complain("%s: not played: %" PRIu32 ", %s", trace->path, r->answer, ollskuvan_stop_text(r->answer));
+    else
+        complain("%s: not played to its end: %" PRIu32 " at entry %" PRIu64 ", byte %zu: %s", trace->path, r->answer,
+            r->entries, place_of(trace, r->entries), ollskuvan_refusal_text(r->answer));
+    return STATUS_FAILED;
+}
+
+/* ---- the command ---- */
+
+/* Every record of the journal was offered by an entry of its own. */
+static int play(const struct trace *trace, const struct settings *s)
+{
+    size_t rooms_len = 2 * (size_t)s->ring, journal_len = OLLSKUVAN_JOURNAL_ENTRY * (trace->length / OFFER_LEAST + 1);
+    uint8_t *rooms = calloc(rooms_len + 1, 1), *journal = malloc(journal_len);
+    int status = STATUS_FAILED;
+    if (rooms == NULL || journal == NULL) {
+        no_memory(trace->path);
+    } else {
+        struct ollskuvan_replayed r = ollskuvan_replay(trace->bytes, trace->length, s->start, s->table.events, s->table.count,
+            (uint32_t)s->edition, rooms, rooms_len, journal, journal_len);
+        for (uint64_t i = 0; i < r.taken && !ferror(stdout); i++)
+            show_entry(journal + i * OLLSKUVAN_JOURNAL_ENTRY);
+        if (!is_before_all(r.answer))
+            print_told(&r);
+        status = tell_end(trace, &r);
+    }
+    free(rooms);
+    free(journal);
+    return status;
+}
+
+/* Digits alone; without the option the number stays as it is. */
+static bool take_number(const char *option, const char *text, uint64_t most, uint64_t *number)
+{
+    char *end;
+    if (text == NULL)
+        return true;
+    errno = 0;
+    unsigned long long n = strtoull(text, &end, 10);
+    if (errno == 0 && isdigit((unsigned char)*text) && *end == '\0' && n <= most) {
+        *number = n;
+        return true;
+    }
+    complain("%s: a number up to %" PRIu64 " is wanted, not '%s'", option, most, text);
+    return false;
+}
+
+int replay_command(int argc, char **argv)
+{
+    struct settings settings = { .ring = 16384, .start = 0, .edition = OLLSKUVAN_EDITION_4 };
+    struct trace trace = { NULL, NULL, 0 };
+    const char *ring = NULL, *start = NULL, *edition = NULL;
+    int status;
+    if (!take_option(&argc, argv, "--ring", &ring, takes.usage, &status) ||
+        !take_option(&argc, argv, "--start", &start, takes.usage, &status) ||
+        !take_option(&argc, argv, "--edition", &edition, takes.usage, &status) ||
+        take_words(argc, argv, &takes, &status) < 0)
+        return status;
+    if (!take_number("--ring", ring, OLLSKUVAN_RING_MAX, &settings.ring) ||
+        !take_number("--start", start, UINT64_MAX, &settings.start) ||
+        !take_number("--edition", edition, OLLSKUVAN_EDITION_4, &settings.edition))
+        return STATUS_USAGE;
+    trace.path = argv[1];
+    status = trace_read(&trace) && settings_of(&settings, trace.path) ? play(&trace, &settings) : STATUS_FAILED;
+    free(trace.bytes);
+    return finished(status);
+}
