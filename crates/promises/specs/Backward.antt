@@ -16,8 +16,8 @@ use Rattle.meaning.specs.Bytes.{numberAt}
 use Rattle.meaning.specs.Editions.{editions, allowed, known, outside, isIn}
 use Rattle.meaning.specs.Records.{layout, judge, check}
 use Rattle.meaning.specs.Ring.{Asked, askedOf, asking}
-use Rattle.meaning.specs.Drain.{End, start, ended, entryFor}
-use Rattle.meaning.specs.Events.{sound, askedEvents, judgeEvents, eventDepends}
+use Rattle.meaning.specs.Drain.{End, start, ended, entryFor, drain}
+use Rattle.meaning.specs.Events.{sound, askedEvents, judgeEvents, eventDepends, drainEvents}
 use Rattle.meaning.specs.Backward.{backFrame, walkBy, walkBack, walkEvents}
 use Rattle.laws.specs.Bytes.{apart}
 use Rattle.laws.specs.Rows.{gives}
@@ -37,6 +37,7 @@ use Rattle.backward.specs.Frames.{backRows, back-goes}
 use Rattle.backward.specs.Walks.{walk-walks, walk-entry, walk-stop, table-walk-in, walk-in, walk-crosses-once, walk-scratch-kept, walk-scratch-copied}
 use Rattle.backward.specs.Reasons.{walk-reason, walk-ended}
 use Rattle.backward.specs.Enough.{walk-eights, enough-budget, enough-journal, enough-scratch}
+use Rattle.backward.specs.Twin.{roundFrom, walk-as-drain}
 use Rattle.backward.specs.Demand3.{demand3-back, demand3-back-entry, demand3-walk-events, demand3-walk-events-entry}
 
 -- ---- what is promised of a walk, under any judge and whatever the rows ask beside the ring
@@ -113,6 +114,10 @@ module _ (e : ℕ) (a : Attributes) (ring : List ℕ) (head budget : ℕ) (journ
   pub walk-back-promised : head < 2 ^ 64 → Promised (askedOf editions e) (judge (layout (known editions e) a)) ring head budget journal scratch
   walk-back-promised = walk-promised (askedOf editions e) (judge (layout (known editions e) a)) ring head budget journal scratch
 
+  -- it takes and leaves what a drain does whose tail is head and whose head lies one ring length on; only the number that ends it is another
+  pub walk-like-drain : head < 2 ^ 64 → walked .state ≡ drain editions e a ring (roundFrom ring head) head budget journal scratch .state
+  walk-like-drain = walk-as-drain (askedOf editions e) (judge (layout (known editions e) a)) ring head budget journal scratch
+
   -- the answer in an entry is the record's: a number of the table, and record check's for those bytes but for 44, which is 0 here
   answered : (i : ℕ) → i < walked .state .taken → numberAt 2 (walked .state .journal) (16 * i + 6) ≡ judge (layout (known editions e) a) (record-at i .record-bytes)
   answered i h =
@@ -146,6 +151,9 @@ module _ (limit e : ℕ) (es : List Event) (ring : List ℕ) (head budget : ℕ)
 
   pub walk-events-promised : head < 2 ^ 64 → Promised (askedEvents limit editions e es) (judgeEvents (known editions e) es) ring head budget journal scratch
   walk-events-promised = walk-promised (askedEvents limit editions e es) (judgeEvents (known editions e) es) ring head budget journal scratch
+
+  pub walk-like-drain-events : head < 2 ^ 64 → walked-events .state ≡ drainEvents limit editions e es ring (roundFrom ring head) head budget journal scratch .state
+  walk-like-drain-events = walk-as-drain (askedEvents limit editions e es) (judgeEvents (known editions e) es) ring head budget journal scratch
 
   pub walk-events-entry-numbers : (i : ℕ) → i < walked-events .state .taken → isIn (numberAt 2 (walked-events .state .journal) (16 * i + 6)) eventNumbers ≡ true
   walk-events-entry-numbers i h =
