@@ -123,7 +123,7 @@ fn short_record(r: &mut Random, edition_number: u32, room: usize) -> Vec<u8> {
 }
 
 /// A record of one of the events, of at most so many bytes.
-fn event_record(r: &mut Random, edition_number: u32, table: &[Event], room: usize, damaged: bool) -> Vec<u8> {
+pub fn event_record(r: &mut Random, edition_number: u32, table: &[Event], room: usize, damaged: bool) -> Vec<u8> {
     let event = &table[r.below(table.len() as u64) as usize];
     let a = event.attributes();
     let mut record = if r.one_in(15) {
