@@ -69,8 +69,8 @@ static int open_event(struct perf_event_attr *attr, pid_t pid, int cpu)
     return (int)syscall(SYS_perf_event_open, attr, pid, cpu, -1, PERF_FLAG_FD_CLOEXEC);
 }
 
-/* All events of a ring have the same layout and the same clock. */
-static void common(struct perf_event_attr *attr)
+/* All events of a ring have the same layout, the same clock and the same direction. */
+static void common(struct perf_event_attr *attr, bool backward)
 {
     memset(attr, 0, sizeof *attr);
     attr->size = sizeof *attr;
@@ -81,6 +81,7 @@ static void common(struct perf_event_attr *attr)
     attr->disabled = 1;
     attr->use_clockid = 1;
     attr->clockid = CLOCK_MONOTONIC;
+    attr->write_backward = backward; /* since Linux 4.7 */
 }
 
 static void with_mappings(struct perf_event_attr *attr)
@@ -129,7 +130,8 @@ static int open_or_without_build_id(struct perf_event_attr *attr, pid_t pid, int
     return fd;
 }
 
-static enum perf_answer map_ring(struct perf_ring *ring, size_t pages, char why[WHY_ROOM])
+/* A ring that is mapped for reading alone is one that the kernel writes over its oldest records. */
+static enum perf_answer map_ring(struct perf_ring *ring, size_t pages, bool backward, char why[WHY_ROOM])
 {
     long page = sysconf(_SC_PAGESIZE);
     if (page <= 0 || pages > OLLSKUVAN_RING_MAX / (size_t)page) {
@@ -137,7 +139,7 @@ static enum perf_answer map_ring(struct perf_ring *ring, size_t pages, char why[
         return PERF_FAILED;
     }
     ring->mapped_length = (pages + 1) * (size_t)page;
-    void *base = mmap(NULL, ring->mapped_length, PROT_READ | PROT_WRITE, MAP_SHARED, ring->fd, 0);
+    void *base = mmap(NULL, ring->mapped_length, backward ? PROT_READ : PROT_READ | PROT_WRITE, MAP_SHARED, ring->fd, 0);
     if (base == MAP_FAILED) {
         int error = errno;
         refuse(why, "mapping a ring of %zu pages: %s%s", pages, strerror(error),
@@ -160,7 +162,7 @@ static enum perf_answer map_ring(struct perf_ring *ring, size_t pages, char why[
 static enum perf_answer open_program_events(struct perf_ring *ring, const struct perf_want *want, char why[WHY_ROOM])
 {
     struct perf_event_attr attr;
-    common(&attr);
+    common(&attr, want->backward);
     with_mappings(&attr);
     /* it has no samples of its own, and no software event has branches */
     attr.sample_type = ring->attributes.sample_type & ~OLLSKUVAN_BIT_BRANCHES;
@@ -188,14 +190,14 @@ static bool add_to_table(struct event_table *table, int fd, const struct perf_ev
     return true;
 }
 
-static enum perf_answer open_counter(struct perf_ring *ring, int cpu, size_t number, char why[WHY_ROOM])
+static enum perf_answer open_counter(struct perf_ring *ring, const struct perf_want *want, size_t number, char why[WHY_ROOM])
 {
     struct perf_event_attr attr;
-    common(&attr);
+    common(&attr, want->backward);
     attr.config = counters[number].config;
     attr.sample_period = counters[number].period;
     attr.sample_type |= counters[number].bits;
-    int fd = ring->counter_fds[number] = open_event(&attr, -1, cpu);
+    int fd = ring->counter_fds[number] = open_event(&attr, -1, want->cpu);
     if (fd < 0)
         return refuse_open(why, counter_names[number], errno);
     if (ioctl(fd, PERF_EVENT_IOC_SET_OUTPUT, ring->fd) == 0 && add_to_table(&ring->table, fd, &attr, counter_names[number]))
@@ -218,14 +220,14 @@ static enum perf_answer open_counters(struct perf_ring *ring, const struct perf_
     }
     for (size_t i = 0; i < COUNTERS && answer == PERF_OPEN; i++)
         if ((want->counters >> i & 1) != 0)
-            answer = open_counter(ring, want->cpu, i, why);
+            answer = open_counter(ring, want, i, why);
     return answer;
 }
 
 static enum perf_answer open_events(struct perf_ring *ring, const struct perf_want *want, char why[WHY_ROOM])
 {
     struct perf_event_attr attr;
-    common(&attr);
+    common(&attr, want->backward);
     attr.context_switch = 1;
     attr.comm = 1;
     attr.comm_exec = 1;
@@ -243,7 +245,7 @@ static enum perf_answer open_events(struct perf_ring *ring, const struct perf_wa
         .sample_type = attr.sample_type, .read_format = attr.read_format, .branch_sample_type = attr.branch_sample_type,
         .sample_id_all = 1, .edition = want->edition,
     };
-    enum perf_answer answer = map_ring(ring, want->pages, why);
+    enum perf_answer answer = map_ring(ring, want->pages, want->backward, why);
     if (answer == PERF_OPEN && want->program != 0)
         answer = open_program_events(ring, want, why);
     return answer == PERF_OPEN && want->counters != 0 ? open_counters(ring, want, why) : answer;
@@ -277,6 +279,12 @@ bool perf_ring_start(const struct perf_ring *ring, char why[WHY_ROOM])
 bool perf_ring_stop(const struct perf_ring *ring, char why[WHY_ROOM])
 {
     return switch_events(ring, PERF_EVENT_IOC_DISABLE, "stopped", why);
+}
+
+bool perf_ring_pause(const struct perf_ring *ring, char why[WHY_ROOM])
+{
+    return ioctl(ring->fd, PERF_EVENT_IOC_PAUSE_OUTPUT, 1) == 0 ||
+        refuse(why, "the ring of cpu %d cannot be stopped: %s", ring->cpu, strerror(errno));
 }
 
 void perf_ring_close(struct perf_ring *ring)
@@ -344,6 +352,11 @@ size_t cpus_online(int *cpus, size_t most)
 }
 
 /* ---- images ---- */
+
+bool ring_is_backward(uint64_t head, uint64_t tail)
+{
+    return tail == 0 && head >> 63 == 1 && head % 8 == 0;
+}
 
 /* The whole file, at most `most` bytes. */
 static bool read_all(const char *path, uint8_t *all, size_t most, size_t *length, char why[WHY_ROOM])

@@ -41,6 +41,7 @@ struct perf_want {
     bool clock;    /* samples of the cpu clock, 1,000 a second, beside the switches */
     uint64_t branch; /* not 0: samples of the cpu's cycles with the branches before them, by this branch sample type */
     uint32_t counters; /* a bit for each of counter_names; not cpu-clock if clock is set */
+    bool backward; /* written backward, over its oldest records: nobody moves its tail */
     uint32_t edition;
 };
 
@@ -71,13 +72,16 @@ enum perf_answer {
 enum perf_answer perf_ring_open(struct perf_ring *ring, const struct perf_want *want, char why[WHY_ROOM]);
 bool perf_ring_start(const struct perf_ring *ring, char why[WHY_ROOM]);
 bool perf_ring_stop(const struct perf_ring *ring, char why[WHY_ROOM]);
+/* Nothing more is written, from now on: for a backward ring, before it is read. */
+bool perf_ring_pause(const struct perf_ring *ring, char why[WHY_ROOM]);
 void perf_ring_close(struct perf_ring *ring);
 
 /* The head, and behind it the barrier that the manual page asks for: the bytes
  * up to this head may then be read. */
 uint64_t perf_ring_head(const struct perf_ring *ring);
 uint64_t perf_ring_tail(const struct perf_ring *ring);
-/* All reads are done before the kernel sees the new tail. */
+/* All reads are done before the kernel sees the new tail. Not for a backward ring,
+ * which is mapped for reading alone. */
 void perf_ring_give_back(const struct perf_ring *ring, uint64_t tail);
 
 /* Whether the next switch might have found no room between these two: the kernel
@@ -106,6 +110,11 @@ struct ring_image {
 enum { IMAGE_HEADER = 50, IMAGE_BRANCH = 8 };
 /* ringdump takes no longer ring. */
 enum { RINGDUMP_RING_MAX = 16384 };
+
+/* Whether an image with these counts is one of a backward ring: it is saved with the
+ * counts that the kernel keeps. Its head begins at 0 and falls, so it is near 2^64,
+ * and its tail stays 0. No drain takes such counts (stop 4). */
+bool ring_is_backward(uint64_t head, uint64_t tail);
 
 /* Of a file, or of standard input: "-". */
 bool ring_image_load(const char *path, struct ring_image *image, char why[WHY_ROOM]);
