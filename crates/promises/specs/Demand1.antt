@@ -31,7 +31,7 @@ use Rattle.laws.specs.Rows.{gives}
 use Rattle.laws.specs.Rings.{stopRows, frame-stop, frame-reason, run-stop}
 use Rattle.editions.specs.Drains.{drain-counted, drain-cutting, drain-entry, drain-rest, drain-checked}
 use Rattle.editions.specs.Stops.{drain-stop, drain-go, drain-in, one-stop, one-stop-tail, one-taken, one-taken-tail, one-stop-in, one-in, one-refused}
-use Rattle.promises.specs.Scratch.{going-room, liesWhole, all-whole, copied}
+use Rattle.promises.specs.Scratch.{going-room, liesWhole, drain-all-whole, drain-copied}
 
 -- ---- "Bad input is refused by the numbers in document 01": record check, the reader of a record's bytes, the writer
 
@@ -251,7 +251,7 @@ module _ (e : ℕ) (a : Attributes) (ring : List ℕ) (head tail budget : ℕ) (
         × (drop (length (record-at i .record-bytes)) (end .state .scratch) ≡ drop (length (record-at i .record-bytes)) scratch)
     drain-scratch-copied i h w =
         let c = counted .count in
-        let k = copied (askedOf editions e) ring head hd budget (begin tail (length journal) scratch) tl i (omega (arith, c, h)) w in
+        let k = drain-copied (askedOf editions e) ring head hd budget (begin tail (length journal) scratch) tl i (omega (arith, c, h)) w in
         rw (ap (λ (x : End). x .state .scratch) (drain-cutting editions e a ring head tail budget journal scratch) ∙ k .0)
         (put-holds scratch (record-at i .record-bytes) (length (record-at i .record-bytes)) refl (k .1))
 
@@ -259,7 +259,7 @@ module _ (e : ℕ) (a : Attributes) (ring : List ℕ) (head tail budget : ℕ) (
     pub drain-scratch-kept : All (λ (c : Cut). liesWhole ring c ≡ true) records → end .state .scratch ≡ scratch
     drain-scratch-kept w =
         ap (λ (x : End). x .state .scratch) (drain-cutting editions e a ring head tail budget journal scratch)
-        ∙ all-whole (askedOf editions e) ring head budget (begin tail (length journal) scratch) w
+        ∙ drain-all-whole (askedOf editions e) ring head hd budget (begin tail (length journal) scratch) w
 
 -- ---- the writer
 
