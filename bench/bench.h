@@ -32,6 +32,7 @@ void *grab(size_t bytes);
 /* compare.c: the exit status. */
 int compare(uint64_t rings, uint64_t seed);
 int compare_tables(uint64_t rings, uint64_t seed);
+int compare_walks(uint64_t rings, uint64_t seed); /* of backward rings, without a table and with one */
 
 /* timing.c */
 int time_workloads(size_t rounds);

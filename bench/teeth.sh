@@ -1,6 +1,6 @@
 #!/usr/bin/env bash
-# Does the comparison bite? Plants one mistake at a time in a copy of careful.c and runs the comparison: each must be
-# found. Not part of the gate; run it after a change of made.c or compare.c.
+# Does the comparison bite? Plants one mistake at a time in a copy of careful.c, or of careful_walk.c, and runs the
+# comparison: each must be found. Not part of the gate; run it after a change of made.c or compare.c.
 #
 #   bench/teeth.sh [ARCHIVE]       target/staticlib/libollskuvan.a; RINGS=20000 SEED=1
 set -u
@@ -11,14 +11,17 @@ out=target/bench/teeth
 mkdir -p "$out" || exit 2
 found=0 missed=0
 
-plant() { # WORDS SED-EXPRESSION (over the whole file at once) [tables: in the comparison with a table]
-  sed -z "$2" bench/careful.c >"$out/careful.c" || exit 2
-  if cmp -s bench/careful.c "$out/careful.c"; then
-    echo "bench/teeth.sh: '$1' changes nothing: careful.c has moved on" >&2
+plant() { # WORDS SED-EXPRESSION (over the whole file at once) [tables: in the comparison with a table; walks: careful_walk.c]
+  local file=careful.c drains=$out/careful.c walks=bench/careful_walk.c
+  [ "${3:-}" != walks ] || file=careful_walk.c drains=bench/careful.c walks=$out/careful_walk.c
+  rm -f "$out"/*.c
+  sed -z "$2" "bench/$file" >"$out/$file" || exit 2
+  if cmp -s "bench/$file" "$out/$file"; then
+    echo "bench/teeth.sh: '$1' changes nothing: $file has moved on" >&2
     exit 2
   fi
   gcc -std=c11 -O2 -w -DWITHOUT_VALUES -Iinclude -Ibench -o "$out/bench" bench/bench.c bench/compare.c bench/timing.c bench/made.c bench/kinds.c bench/careful_check.c \
-    bench/floor.c "$out/careful.c" "$library" || exit 2
+    "$walks" bench/walks.c bench/floor.c "$drains" "$library" || exit 2
   # in a shell of its own: some mistakes end in a crash, which is found too
   if bash -c '"$@"; exit $?' teeth "$out/bench" "${3:-compare}" "${RINGS:-20000}" "${SEED:-1}" >"$out/log" 2>&1; then
     echo "MISSED: $1"
@@ -85,6 +88,15 @@ plant "an event without bit 16" 's/!bit(events\[i\].sample_type, 16) || //' tabl
 plant "sample_id_all narrowed" 's/events\[i\].sample_id_all == 0/(uint32_t)events[i].sample_id_all == 0/' tables
 plant "identifiers by their low halves" 's/t->events\[i\].identifier != identifier)\n        i++/(uint32_t)t->events[i].identifier != (uint32_t)identifier)\n        i++/' tables
 plant "the event's branch bits are not looked at" 's/v->branch_sample_type);/0);/' tables
+plant "a size of 0 is 6" 's/size == 0 ? 0 : 6/6/' walks
+plant "13 before 6" 's/if (unlikely(size < HEADER || size % 8 != 0)) {/if (unlikely(size > rest)) {\n            stop = 13;\n            break;\n        }\n        if (unlikely(size < HEADER || size % 8 != 0)) {/' walks
+plant "past the length by a word" 's/unlikely(size > rest)/unlikely(size > rest + 8)/' walks
+plant "the length itself is 13" 's/unlikely(size > rest)/unlikely(size >= rest)/' walks
+plant "more than one length" 's/if (unlikely(rest == 0)) {/if (unlikely(rest == 0 \&\& left == 0)) {/' walks
+plant "8 before 13" 's/if (unlikely(size > rest)) {/if (unlikely(left == 0)) {\n            stop = most == budget ? 8 : 9;\n            break;\n        }\n        if (unlikely(size > rest)) {/' walks
+plant "starts without the head" 's/store64(journal + 8, head + way)/store64(journal + 8, way)/' walks
+plant "head of any kind" 's/(head \& 7) != 0 ? 5 : 0/0/' walks
+plant "11 before 5" 's/uint32_t stop = refused(ring_len, edition, head);\n    if (stop == 0 \&\& !sound/uint32_t stop = refused(ring_len, edition, head);\n    if ((stop == 0 || stop == 5) \&\& !sound/' walks
 rm -rf "$out"
 echo "planted mistakes: $found found, $missed missed"
 [ "$missed" -eq 0 ]
