@@ -23,6 +23,11 @@ struct flight flight_walk(const struct ring_attributes *a, const struct event_ta
     return f;
 }
 
+bool ring_is_backward(uint64_t head, uint64_t tail)
+{
+    return tail == 0 && head >> 63 == 1 && head % 8 == 0;
+}
+
 const uint8_t *flight_entry(const struct flight *flight, uint64_t number)
 {
     return flight->journal + (flight->walked.taken - 1 - number) * OLLSKUVAN_JOURNAL_ENTRY;

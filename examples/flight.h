@@ -27,6 +27,11 @@ struct flight {
 struct flight flight_walk(const struct ring_attributes *attributes, const struct event_table *table, const uint8_t *ring,
     size_t length, uint64_t head);
 
+/* Whether an image with these counts is one of a backward ring: it is saved with the
+ * counts that the kernel keeps. Its head begins at 0 and falls, so it is near 2^64,
+ * and its tail stays 0. No drain takes such counts (stop 4). */
+bool ring_is_backward(uint64_t head, uint64_t tail);
+
 /* The entry of a record; 0 is the oldest. */
 const uint8_t *flight_entry(const struct flight *flight, uint64_t number);
 

@@ -353,11 +353,6 @@ size_t cpus_online(int *cpus, size_t most)
 
 /* ---- images ---- */
 
-bool ring_is_backward(uint64_t head, uint64_t tail)
-{
-    return tail == 0 && head >> 63 == 1 && head % 8 == 0;
-}
-
 /* The whole file, at most `most` bytes. */
 static bool read_all(const char *path, uint8_t *all, size_t most, size_t *length, char why[WHY_ROOM])
 {

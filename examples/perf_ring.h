@@ -111,11 +111,6 @@ enum { IMAGE_HEADER = 50, IMAGE_BRANCH = 8 };
 /* ringdump takes no longer ring. */
 enum { RINGDUMP_RING_MAX = 16384 };
 
-/* Whether an image with these counts is one of a backward ring: it is saved with the
- * counts that the kernel keeps. Its head begins at 0 and falls, so it is near 2^64,
- * and its tail stays 0. No drain takes such counts (stop 4). */
-bool ring_is_backward(uint64_t head, uint64_t tail);
-
 /* Of a file, or of standard input: "-". */
 bool ring_image_load(const char *path, struct ring_image *image, char why[WHY_ROOM]);
 bool ring_image_save(const char *path, const struct ring_attributes *attributes, uint64_t head, uint64_t tail,

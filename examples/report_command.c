@@ -15,6 +15,7 @@
 #include "arguments.h"
 #include "commands.h"
 #include "events.h"
+#include "flight.h"
 #include "live.h"
 #include "messages.h"
 #include "names.h"

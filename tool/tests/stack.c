@@ -2,7 +2,8 @@
  * How much stack the calls use, on a stack of their own that was painted before:
  * every record of the given images is drained, checked, read (by its bytes and by
  * its tail), written back and its name copied; drained, read and looked up with the
- * image's table of events, or with a full one where it has none. Prints the greatest use of each call; more than ollskuvan.h
+ * image's table of events, or with a full one where it has none; and walked as those of
+ * a backward ring. Prints the greatest use of each call; more than ollskuvan.h
  * says is a failure.
  */
 #define _XOPEN_SOURCE 700
@@ -13,13 +14,15 @@
 #include <ucontext.h>
 
 #include "bytes.h"
+#include "flight.h"
 #include "image.h"
 
 enum { STACK = 1 << 16, PAINT = 0xa5, MOST = 2560 };
-enum { NOTHING, DRAIN, CHECK, COPY_NAME, READ, READ_ONE, WRITE, DRAIN_EVENTS, FIND_EVENT, READ_ONE_EVENTS, CALLS };
+enum { NOTHING, DRAIN, CHECK, COPY_NAME, READ, READ_ONE, WRITE, DRAIN_EVENTS, FIND_EVENT, READ_ONE_EVENTS, WALK_BACK,
+    WALK_BACK_EVENTS, CALLS };
 
 static const char *const names[CALLS] = { "nothing", "drain", "check", "copy_name", "read", "read_one", "write",
-    "drain_events", "find_event", "read_one_events" };
+    "drain_events", "find_event", "read_one_events", "walk_back", "walk_back_events" };
 static uint8_t stack[STACK] __attribute__((aligned(64)));
 static size_t used[CALLS];
 static ucontext_t here, there;
@@ -30,7 +33,7 @@ static int call;
 static uint8_t record[OLLSKUVAN_RECORD_MAX], written[OLLSKUVAN_RECORD_MAX], scratch[OLLSKUVAN_RECORD_MAX];
 static uint8_t journal[OLLSKUVAN_RING_MAX];
 static size_t size;
-static uint64_t tail;
+static uint64_t tail, newest; /* newest: where the walk begins */
 static uint64_t fields[OLLSKUVAN_FIELDS];
 static volatile uint32_t answer;
 
@@ -81,6 +84,14 @@ static void make_the_call(void)
         answer = ollskuvan_read_one_events(image->ring, image->length, image->head, tail, events, event_count,
             image->edition, scratch, sizeof scratch, fields, OLLSKUVAN_FIELDS).answer;
         break;
+    case WALK_BACK:
+        answer = ollskuvan_walk_back(image->ring, image->length, newest, ATTRIBUTES, UINT64_MAX, scratch, sizeof scratch, written,
+            sizeof written).stop;
+        break;
+    case WALK_BACK_EVENTS:
+        answer = ollskuvan_walk_back_events(image->ring, image->length, newest, events, event_count, image->edition, UINT64_MAX,
+            scratch, sizeof scratch, written, sizeof written).stop;
+        break;
     default:
         nothing();
     }
@@ -124,6 +135,9 @@ static void measure_image(const struct image *of)
     image = of;
     choose_events();
     measure(NOTHING);
+    newest = ring_is_backward(image->head, image->tail) ? image->head : image->tail;
+    measure(WALK_BACK_EVENTS);
+    measure(WALK_BACK);
     measure(DRAIN_EVENTS);
     measure(FIND_EVENT);
     measure(DRAIN);
