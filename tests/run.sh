@@ -7,7 +7,7 @@
 #   tests/run.sh without-values  for an archive that has no ollskuvan_read and ollskuvan_write yet
 #   tests/run.sh standin         with the independent reader in the library's place: tries the tests
 #                                themselves and says nothing about the library
-#   tests/run.sh long COUNT SEED COUNT drains, COUNT with a table and COUNT values with this seed, and nothing else
+#   tests/run.sh long COUNT SEED COUNT drains, COUNT with a table, COUNT walks and COUNT values with this seed, and nothing else
 #   tests/run.sh soak MINUTES [SEED]
 #                                random and damaged rings, records and images until the time is up, with
 #                                progress every ten seconds; stops at the first difference
@@ -100,6 +100,7 @@ if [ $mode = long ]; then
         "$out/reader" drains --count "$drains" --seed "$seed"
     part "tables of events: $drains drains and their records, seed $seed" \
         "$out/reader" tables --count "$drains" --seed "$seed"
+    part "backward rings: $drains walks, seed $seed" "$out/reader" walks --count "$drains" --seed "$seed"
     part "values: $values records, seed $seed" "$out/reader" values --count "$values" --seed "$seed"
     echo "long run: no difference"
     exit 0
@@ -129,9 +130,12 @@ part "drains cut anywhere: $((drains / 10)) series, seed $seed" \
     "$out/reader" series --count $((drains / 10)) --seed "$seed" --rings rings
 part "two readers of one ring: $values pairs of tails, seed $seed" \
     "$out/reader" readers --count "$values" --seed "$seed"
+part "backward rings: $((drains / 4)) walks, seed $seed" \
+    "$out/reader" walks --count $((drains / 4)) --seed "$seed"
 part "what misc means" "$out/reader" meanings --count "$values" --seed "$seed"
 part "real rings" "$out/reader" rings rings
 part "real rings of several events" "$out/reader" table-rings rings/events --seed "$seed"
+part "real backward rings" "$out/reader" back-rings rings/backward --seed "$seed"
 if [ $mode != without-values ]; then
     part "each sample bit, read format, type and trailer bit" "$out/reader" bits
     part "values: $values records, seed $seed" "$out/reader" values --count "$values" --seed "$seed"

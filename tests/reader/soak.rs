@@ -1,4 +1,4 @@
-//! The soak: drains, drains with a table, values, damaged real rings and printed images, until the time is up.
+//! The soak: drains, drains with a table, walks, values, damaged real rings and printed images, until the time is up.
 //!
 //! Each case depends on the seed and its number alone. The first difference ends the soak and says how
 //! to run that case again.
@@ -11,6 +11,7 @@ use crate::ring::Image;
 use crate::tables;
 use crate::tally::Tally;
 use crate::values;
+use crate::walks;
 use crate::words::FIELDS;
 use std::panic::{catch_unwind, AssertUnwindSafe};
 use std::path::Path;
@@ -19,6 +20,7 @@ use std::time::{Duration, Instant};
 /// Cases of each kind in one round, before the clock is looked at again.
 const DRAINS: u64 = 1000;
 const TABLES: u64 = 500;
+const WALKS: u64 = 500;
 const VALUES: u64 = 500;
 const DAMAGED: u64 = 100;
 const PRINTED: u64 = 5;
@@ -98,6 +100,7 @@ pub fn damaged_case(
 struct Done {
     drains: u64,
     tables: u64,
+    walks: u64,
     values: u64,
     damaged: u64,
     printed: u64,
@@ -107,11 +110,12 @@ impl Done {
     fn text(&self, seed: u64, since: Instant) -> String {
         let seconds = since.elapsed().as_secs();
         format!(
-            "soak: {} min {:02} s, seed {seed}: {} drains, {} with a table, {} values, {} damaged real rings, {} images printed",
+            "soak: {} min {:02} s, seed {seed}: {} drains, {} with a table, {} walks, {} values, {} damaged real rings, {} images printed",
             seconds / 60,
             seconds % 60,
             self.drains,
             self.tables,
+            self.walks,
             self.values,
             self.damaged,
             self.printed
@@ -148,6 +152,10 @@ pub fn run(
             caught(|| tables::one_case(seed, number, &mut tally)).map_err(|d| again("tables", seed, number, "", d))?;
         }
         done.tables += TABLES;
+        for number in done.walks..done.walks + WALKS {
+            caught(|| walks::one_case(seed, number, &mut tally)).map_err(|d| again("walks", seed, number, "", d))?;
+        }
+        done.walks += WALKS;
         if !cfg!(without_values) {
             for number in done.values..done.values + VALUES {
                 caught(|| values::one_case(seed, number, &mut tally)).map_err(|d| again("values", seed, number, "", d))?;
@@ -170,7 +178,7 @@ pub fn run(
     }
     tally.print_records();
     tally.print_accepted();
-    for call in ["drain", "drain with a table", "check", "name copy", "read", "write"] {
+    for call in ["drain", "drain with a table", "walk", "walk with a table", "check", "name copy", "read", "write"] {
         tally.print_answers(call);
     }
     println!("{}; no difference", done.text(seed, start));
