@@ -69,9 +69,9 @@ plant "no hardware index" 's/bit(branch_sample_type, INDEX_BIT) ? 16 : 8/8/'
 plant "the index by bit 16" 's/define INDEX_BIT 17/define INDEX_BIT 16/'
 plant "the index after the entries alone" 's/if (left < p->branch_words)/if (left == 0)/'
 plant "23 behind the size" 's/if (!p->build_id_known)\n            return 23;\n        if (size <= 40 + p->trailer)\n            return 30;/if (size <= 40 + p->trailer)\n            return 30;\n        if (!p->build_id_known)\n            return 23;/'
-plant "the edition narrowed" 's/if (edition - 1 > 2)/if ((uint8_t)edition - 1u > 2)/'
-plant "edition 2 knows type 16" 's/last_type\[4\] = { 0, 9, 15, 20 }/last_type[4] = { 0, 9, 16, 20 }/'
-plant "edition 1 knows bit 16" 's/last_bit\[4\] = { 0, 15, 18, 24 }/last_bit[4] = { 0, 16, 18, 24 }/'
+plant "the edition narrowed" 's/if (edition - 1 > 3)/if ((uint8_t)edition - 1u > 3)/'
+plant "edition 2 knows type 16" 's/last_type\[5\] = { 0, 9, 15, 20, 21 }/last_type[5] = { 0, 9, 16, 20, 21 }/'
+plant "edition 1 knows bit 16" 's/last_bit\[5\] = { 0, 15, 18, 24, 24 }/last_bit[5] = { 0, 16, 18, 24, 24 }/'
 plant "the code page size is forgotten" 's/LAST_BITS UINT64_C(0xe80000)/LAST_BITS UINT64_C(0x680000)/'
 plant "the identifier of a SAMPLE at its end" 's/load64(type == 9 ? record + HEADER : record + size - 8)/load64(record + size - 8)/' tables
 plant "the identifier of others behind the header" 's/load64(type == 9 ? record + HEADER : record + size - 8)/load64(record + HEADER)/' tables

@@ -147,7 +147,7 @@ for image in rings/backward/*.img; do
   $tool dump "$image" >"$out/$name.txt" || wrong "dump $image failed"
   grep -q '^written     backward: the oldest record first$' "$out/$name.txt" || wrong "dump $image: not as a backward ring"
   grep -q ' bytes, 0 refused$' "$out/$name.txt" || wrong "dump $image: records are refused"
-  sed -n 's/^    \(trailer \)*time  *\([0-9]*\).*/\2/p' "$out/$name.txt" >$out/times.txt
+  awk '/^record / { sample = /: SAMPLE,/ } /^    trailer time / { print $3 } sample && /^    time / { print $2 }' "$out/$name.txt" >$out/times.txt
   [ -s $out/times.txt ] && sort -n -c $out/times.txt 2>/dev/null || wrong "dump $image: a record stands before an older one"
   $tool journal "$image" >$out/journal.txt 2>/dev/null && wrong "journal $image: exit 0"
   cmp -s $out/journal.txt <(echo 'stop 4 tail 0') && target/bin/ringdump <"$image" | cmp -s - $out/journal.txt ||
