@@ -3,5 +3,5 @@ pub mod Frames
 pub mod Walks
 pub mod Reasons
 pub mod Enough
-pub mod Turns
 pub mod Demand3
+pub mod Twin

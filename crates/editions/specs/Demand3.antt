@@ -48,6 +48,10 @@ demand3 rows u e₁ e₂ g h₁ h₂ a ws ring head tail budget journal scratch 
 in-entry : (journal e : List ℕ) (i m n : ℕ) → m + n ≤ 16 → take 16 (drop (16 * i) journal) ≡ e → take n (drop (16 * i + m) journal) ≡ take n (drop m e)
 in-entry journal e i m n h q = sym (part-of (16 * i) m n 16 journal h) ∙ ap (λ (l : List ℕ). take n (drop m l)) q
 
+-- its answer
+pub answer-in : (judge : List ℕ → ℕ) (journal r : List ℕ) (i tail : ℕ) → judge r < 65536 → take 16 (drop (16 * i) journal) ≡ entryFor judge r tail → numberAt 2 journal (16 * i + 6) ≡ judge r
+answer-in judge journal r i tail b p = ap num (in-entry journal (entryFor judge r tail) i 6 2 (omega arith) p) ∙ answer-back (journalKind r) (judge r) tail b
+
 pub entry-fair : (older newer r : List ℕ) (i tail : ℕ) (judge₁ judge₂ : List ℕ → ℕ) (out : Bool)
     → judge₁ r < 65536 → judge₂ r < 65536 → Fair (judge₁ r) (judge₂ r) out
     → take 16 (drop (16 * i) older) ≡ entryFor judge₁ r tail → take 16 (drop (16 * i) newer) ≡ entryFor judge₂ r tail
@@ -57,12 +61,10 @@ entry-fair older newer r i tail judge₁ judge₂ out b₁ b₂ f p q =
     let x : List ℕ = entryFor judge₁ r tail in
     let y : List ℕ = entryFor judge₂ r tail in
     let z : 16 * i + 0 ≡ 16 * i = omega arith in
-    let n₁ : numberAt 2 older (16 * i + 6) ≡ judge₁ r = ap num (in-entry older x i 6 2 (omega arith) p) ∙ answer-back (journalKind r) (judge₁ r) tail b₁ in
-    let n₂ : numberAt 2 newer (16 * i + 6) ≡ judge₂ r = ap num (in-entry newer y i 6 2 (omega arith) q) ∙ answer-back (journalKind r) (judge₂ r) tail b₂ in
     record {
       before = ap (λ (k : ℕ). take 6 (drop k older)) (sym z) ∙ in-entry older x i 0 6 (omega arith) p ∙ before-answer (journalKind r) (judge₁ r) (judge₂ r) tail
           ∙ sym (in-entry newer y i 0 6 (omega arith) q) ∙ ap (λ (k : ℕ). take 6 (drop k newer)) z;
-      fair = rw (n₁, n₂) f;
+      fair = rw (answer-in judge₁ older r i tail b₁ p, answer-in judge₂ newer r i tail b₂ q) f;
       after = in-entry older x i 8 8 (omega arith) p ∙ ap (take 8) (after-answer (journalKind r) (judge₁ r) (judge₂ r) tail) ∙ sym (in-entry newer y i 8 8 (omega arith) q);
     }
 
