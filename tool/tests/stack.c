@@ -17,7 +17,7 @@
 #include "flight.h"
 #include "image.h"
 
-enum { STACK = 1 << 16, PAINT = 0xa5, MOST = 2560 };
+enum { STACK = 1 << 16, MOST = 2560 };
 enum { NOTHING, DRAIN, CHECK, COPY_NAME, READ, READ_ONE, WRITE, DRAIN_EVENTS, FIND_EVENT, READ_ONE_EVENTS, WALK_BACK,
     WALK_BACK_EVENTS, CALLS };
 
@@ -113,21 +113,29 @@ static void choose_events(void)
         events[event_count - 1].identifier = little(little(shown, 4) == 9 ? shown + 8 : shown + one.size - 8, 8);
 }
 
-static void measure(int which)
+/* The stack that the call used, as one paint shows it. */
+static size_t use_of(int paint)
 {
     size_t untouched = 0;
-    call = which;
-    memset(stack, PAINT, sizeof stack);
+    memset(stack, paint, sizeof stack);
     getcontext(&there);
     there.uc_stack.ss_sp = stack;
     there.uc_stack.ss_size = sizeof stack;
     there.uc_link = &here;
     makecontext(&there, make_the_call, 0);
     swapcontext(&here, &there);
-    while (untouched < STACK && stack[untouched] == PAINT)
+    while (untouched < STACK && stack[untouched] == paint)
         untouched++;
-    if (STACK - untouched > used[which])
-        used[which] = STACK - untouched;
+    return STACK - untouched;
+}
+
+/* With two paints: the lowest byte that a call leaves, of its return address, may be as one of them. */
+static void measure(int which)
+{
+    call = which;
+    size_t one = use_of(0xa5), other = use_of(0x5a), more = one > other ? one : other;
+    if (more > used[which])
+        used[which] = more;
 }
 
 static void measure_image(const struct image *of)
