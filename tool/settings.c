@@ -80,7 +80,7 @@ struct wanted {
     const char *image;
 };
 
-static bool take_option(struct wanted *w, int letter)
+static bool take_letter(struct wanted *w, int letter)
 {
     unsigned long long n;
     switch (letter) {
@@ -169,7 +169,7 @@ static int write_command(int argc, char **argv)
     int letter;
     optind = 0; /* the words before were looked at without it */
     while ((letter = getopt_long(argc, argv, "", names, NULL)) != -1)
-        if (!take_option(&w, letter))
+        if (!take_letter(&w, letter))
             return STATUS_USAGE;
     if (argc - optind != 1)
         return wrong("one FILE is wanted", "");
