@@ -26,9 +26,9 @@ use meaning::Walked;
 use one::OneTold;
 use readers::Published;
 use readers::Readers;
+use replay::Replayed;
 use settings::Settings;
 use settings::Stored;
-use replay::Replayed;
 
 fn attributes(
     sample: u64,
