@@ -3,6 +3,7 @@
  *
  *   bench compare [RINGS [SEED]]   careful C and ollskuvan_drain on the same sound and damaged rings
  *   bench tables [RINGS [SEED]]    the same with a table of events
+ *   bench walks [RINGS [SEED]]     walks of backward rings, without a table and with one
  *   bench time [ROUNDS]            the three workloads, interleaved
  *   bench sizes [ROUNDS]           the cost of a record in rings of 64 bytes to 1 MiB
  *   bench values [ROUNDS]          the cost of ollskuvan_read and ollskuvan_write
@@ -22,6 +23,7 @@
 #include "bench.h"
 #include "kinds.h"
 #include "stores.h"
+#include "walks.h"
 
 #include <errno.h>
 #include <stdlib.h>
@@ -85,6 +87,8 @@ static int list_names(void)
 {
     for (size_t k = 0; k < contender_count; k++)
         printf("drain %s\n", contenders[k].name);
+    for (size_t k = 0; k < WALKERS; k++)
+        printf("walk %s\n", walkers[k].name);
     for (unsigned which = 0; which < MADE_WORKLOADS; which++)
         printf("workload %s\n", made_workload_names[which]);
     printf("workload empty\n");
@@ -116,6 +120,9 @@ static int run_once(const char *drain, const char *workload, uint64_t budget)
     for (size_t k = 0; k < contender_count; k++)
         if (strcmp(drain, contenders[k].name) == 0)
             found = &contenders[k];
+    for (size_t k = 0; k < WALKERS; k++)
+        if (strcmp(drain, walkers[k].name) == 0)
+            found = &walkers[k];
     if (!known || found == NULL || (mixed && found->events == NULL)) {
         fprintf(stderr, "bench: no such drain or workload: %s, %s (see: bench list)\n", drain, workload);
         free(ring.events);
@@ -152,7 +159,7 @@ static uint64_t number(const char *text, uint64_t least, uint64_t most)
 
 static int usage(void)
 {
-    fprintf(stderr, "usage: bench compare [RINGS [SEED]] | tables [RINGS [SEED]] | time [ROUNDS] | mixes [ROUNDS] | sizes [ROUNDS] | values [ROUNDS]\n"
+    fprintf(stderr, "usage: bench compare [RINGS [SEED]] | tables [RINGS [SEED]] | walks [RINGS [SEED]] | time [ROUNDS] | mixes [ROUNDS] | sizes [ROUNDS] | values [ROUNDS]\n"
                     "       bench once DRAIN WORKLOAD [BUDGET] | kinds [DRAIN] | table-kinds [DRAIN] | list\n"
                     "       bench stores [STORES [SEED]] | store-times [ROUNDS] | store WHOSE CALL EVENTS\n"
                     "       bench compare-replay [TRACES [SEED]] | replay [ROUNDS] | replay-once WHOSE [CALLS]\n");
@@ -174,6 +181,8 @@ int main(int argc, char **argv)
         return compare_replay(argc > 2 ? number(argv[2], 1, UINT64_MAX) : 2000, argc > 3 ? number(argv[3], 0, UINT64_MAX) : 1);
     if (strcmp(mode, "replay-once") == 0 && (argc == 3 || argc == 4))
         return run_replays(argv[2], argc > 3 ? number(argv[3], 1, 1000) : 1);
+    if (strcmp(mode, "walks") == 0 && argc <= 4)
+        return compare_walks(argc > 2 ? number(argv[2], 1, UINT64_MAX) : 10000, argc > 3 ? number(argv[3], 0, UINT64_MAX) : 1);
     if (strcmp(mode, "once") == 0 && (argc == 4 || argc == 5))
         return run_once(argv[2], argv[3], argc > 4 ? number(argv[4], 1, UINT64_MAX) : 0);
     if (strcmp(mode, "check") == 0 && argc == 4)

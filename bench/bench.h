@@ -32,6 +32,7 @@ void *grab(size_t bytes);
 /* compare.c: the exit status. */
 int compare(uint64_t rings, uint64_t seed);
 int compare_tables(uint64_t rings, uint64_t seed);
+int compare_walks(uint64_t rings, uint64_t seed); /* of backward rings, without a table and with one */
 
 /* timing.c: processor time of this thread; the middle one of the values, which are sorted then. */
 uint64_t thread_ns(void);

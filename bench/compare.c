@@ -8,6 +8,7 @@
 #include <string.h>
 
 #include "bench.h"
+#include "walks.h"
 
 #if defined(__SANITIZE_ADDRESS__)
 #include <sanitizer/asan_interface.h>
@@ -18,7 +19,7 @@
 
 enum { GUARD = 64 };
 
-enum { ANSWERS = 34, STOPS = 12, KINDS = 23 };
+enum { ANSWERS = 34, STOPS = 14, KINDS = 23 };
 
 struct tally {
     uint64_t rings, records;
@@ -138,20 +139,34 @@ static bool same_results(const struct contender *one, const struct contender *tw
     return false;
 }
 
-/* There is no stop above 9, but 11 with a table. */
-static bool count_stop(struct tally *tally, uint32_t stop, bool tables)
+/* What is compared: two drains, or two walks of backward rings; with a table or without one. */
+struct match {
+    const struct contender *careful, *ours;
+    bool walks, tables;
+};
+
+/* A drain stops with 0 to 9; a walk with 13 too, but not with 4 and 7; 11 is for a table. */
+static bool is_stop(const struct match *match, uint32_t stop)
 {
-    bool is_stop = stop < 10 || (tables && stop == 11);
-    if (is_stop)
+    if (stop == 11)
+        return match->tables;
+    return match->walks ? (stop < 10 && stop != 4 && stop != 7) || stop == 13 : stop < 10;
+}
+
+static bool count_stop(struct tally *tally, uint32_t stop, const struct match *match)
+{
+    if (stop < STOPS && is_stop(match, stop)) {
         tally->stops[stop]++;
-    else
-        printf("stop %u, which no drain may give\n", stop);
-    return is_stop;
+        return true;
+    }
+    printf("stop %u, which no %s may give\n", stop, match->walks ? "walk" : "drain");
+    return false;
 }
 
 /* What the comparison says is worth only as much as it has met. */
-static bool enough_met(const struct tally *t, bool tables)
+static bool enough_met(const struct tally *t, const struct match *match)
 {
+    const bool tables = match->tables;
     static const uint8_t of_type[KINDS][8] = {
         [1] = { 20, 21, 30, 33 }, [2] = { 21, 30, 31 }, [3] = { 21, 30, 33 }, [4] = { 21, 30, 31 },
         [5] = { 21, 30, 31 }, [6] = { 21, 30, 31 }, [7] = { 21, 30, 31 }, [8] = { 21, 22, 30, 31 },
@@ -162,7 +177,7 @@ static bool enough_met(const struct tally *t, bool tables)
     };
     bool enough = true;
     for (unsigned stop = 0; stop < STOPS; stop++)
-        if (stop != 10 && (stop != 11 || tables) && t->stops[stop] == 0) {
+        if (is_stop(match, stop) && t->stops[stop] == 0) {
             printf("stop %u was never met\n", stop);
             enough = false;
         }
@@ -189,14 +204,15 @@ static bool enough_met(const struct tally *t, bool tables)
 }
 
 /* The very rings that are timed. */
-static unsigned compare_timed(struct made_ring *ring, struct desk *desk)
+static unsigned compare_timed(const struct match *match, struct made_ring *ring, struct desk *desk)
 {
-    const struct contender *careful = &contenders[CAREFUL], *once = &contenders[CAREFUL_ONCE], *ours = &contenders[OURS];
+    const struct contender *careful = match->careful, *once = &contenders[CAREFUL_ONCE], *ours = match->ours;
     unsigned differences = 0;
     for (unsigned which = 0; ring->events == NULL && which < MADE_WORKLOADS; which++) {
         made_fill(which, MIB, ring);
         differences += !same_results(careful, ours, ring, desk, which, 0);
-        differences += !same_results(careful, once, ring, desk, which, 0);
+        if (!match->walks)
+            differences += !same_results(careful, once, ring, desk, which, 0);
     }
     for (unsigned which = 0; ring->events != NULL && which < MADE_MIXES; which++) {
         made_table_fill(&made_mixes[which], MIB, ring);
@@ -205,10 +221,11 @@ static unsigned compare_timed(struct made_ring *ring, struct desk *desk)
     return differences;
 }
 
-static unsigned compare_made(struct made_ring *ring, struct desk *desk, struct tally *tally, uint64_t rings, uint64_t seed)
+static unsigned compare_made(const struct match *match, struct made_ring *ring, struct desk *desk, struct tally *tally, uint64_t rings,
+    uint64_t seed)
 {
     enum { LIMIT = 5 };
-    const struct contender *careful = &contenders[CAREFUL], *once = &contenders[CAREFUL_ONCE], *ours = &contenders[OURS];
+    const struct contender *careful = match->careful, *once = &contenders[CAREFUL_ONCE], *ours = match->ours;
     struct made_random r = { seed };
     unsigned differences = 0;
     for (uint64_t i = 0; i < rings && differences < LIMIT; i++) {
@@ -216,17 +233,19 @@ static unsigned compare_made(struct made_ring *ring, struct desk *desk, struct t
             made_table_case(&r, ring);
         else
             made_case(&r, ring);
+        if (match->walks)
+            made_backward(&r, ring);
         differences += !same_results(careful, ours, ring, desk, i, seed);
         count_records(tally, desk->left.journal + GUARD, desk->left.done.taken);
-        differences += !count_stop(tally, desk->left.done.stop, ring->events != NULL);
+        differences += !count_stop(tally, desk->left.done.stop, match);
         tally->rings++;
-        if (ring->events == NULL && i % 4 == 0) /* the other form of careful C is a measure only */
+        if (ring->events == NULL && !match->walks && i % 4 == 0) /* the other form of careful C is a measure only */
             differences += !same_results(careful, once, ring, desk, i, seed);
     }
     return differences;
 }
 
-static int compare_all(uint64_t rings, uint64_t seed, struct ollskuvan_event *events)
+static int compare_all(const struct match *match, uint64_t rings, uint64_t seed, struct ollskuvan_event *events)
 {
     struct tally *tally = grab(sizeof *tally);
     struct made_ring ring = { .bytes = grab(MADE_RING_MAX), .events = events };
@@ -236,17 +255,17 @@ static int compare_all(uint64_t rings, uint64_t seed, struct ollskuvan_event *ev
         .right = { .scratch = grab(scratch_max), .journal = grab(journal_max) },
         .ring_before = grab(MADE_RING_MAX),
     };
-    unsigned differences = compare_timed(&ring, &desk);
-    differences += compare_made(&ring, &desk, tally, rings, seed);
-    printf("compared careful C and %s: %llu rings, %llu records, seed %llu: %s\n",
-        events != NULL ? "ollskuvan_drain_events" : "ollskuvan_drain", (unsigned long long)tally->rings,
+    unsigned differences = compare_timed(match, &ring, &desk);
+    differences += compare_made(match, &ring, &desk, tally, rings, seed);
+    printf("compared careful C and ollskuvan_%s%s: %llu rings, %llu records, seed %llu: %s\n",
+        match->walks ? "walk_back" : "drain", events != NULL ? "_events" : "", (unsigned long long)tally->rings,
         (unsigned long long)tally->records, (unsigned long long)seed, differences == 0 ? "no difference" : "DIFFERENT");
     printf("stops met:");
     for (unsigned stop = 0; stop < STOPS; stop++)
         if (tally->stops[stop] != 0)
             printf(" %u (%llu)", stop, (unsigned long long)tally->stops[stop]);
     printf("\n");
-    bool enough = rings < 10000 || enough_met(tally, events != NULL); /* a handful of rings cannot meet everything */
+    bool enough = rings < 10000 || enough_met(tally, match); /* a handful of rings cannot meet everything */
     free(tally);
     free(ring.bytes);
     free(desk.left.scratch);
@@ -259,13 +278,26 @@ static int compare_all(uint64_t rings, uint64_t seed, struct ollskuvan_event *ev
 
 int compare(uint64_t rings, uint64_t seed)
 {
-    return compare_all(rings, seed, NULL);
+    const struct match match = { &contenders[CAREFUL], &contenders[OURS], false, false };
+    return compare_all(&match, rings, seed, NULL);
 }
 
 int compare_tables(uint64_t rings, uint64_t seed)
 {
+    const struct match match = { &contenders[CAREFUL], &contenders[OURS], false, true };
     struct ollskuvan_event *events = grab(MADE_EVENTS_MAX * sizeof *events);
-    int status = compare_all(rings, seed, events);
+    int status = compare_all(&match, rings, seed, events);
+    free(events);
+    return status;
+}
+
+int compare_walks(uint64_t rings, uint64_t seed)
+{
+    struct match match = { &walkers[CAREFUL_WALK], &walkers[OURS_WALK], true, false };
+    struct ollskuvan_event *events = grab(MADE_EVENTS_MAX * sizeof *events);
+    int status = compare_all(&match, rings, seed, NULL);
+    match.tables = true;
+    status = status != 0 ? status : compare_all(&match, rings, seed, events);
     free(events);
     return status;
 }

@@ -592,6 +592,27 @@ void made_table_case(struct made_random *r, struct made_ring *ring)
         spoil_events(r, ring);
 }
 
+/* ---- a backward ring ---- */
+
+static uint8_t *at_way(struct made_ring *ring, uint64_t way)
+{
+    return ring->bytes + ((ring->tail + way) & (ring->length - 1));
+}
+
+void made_backward(struct made_random *r, struct made_ring *ring)
+{
+    const uint64_t length = ring->length, distance = ring->head - ring->tail;
+    const uint64_t written = distance > length ? length : distance & ~UINT64_C(7);
+    const unsigned how = (unsigned)made_below(r, 4);
+    const bool plain = length != 0 && (length & (length - 1)) == 0; /* else it is refused, whatever it holds */
+    for (uint64_t way = written; plain && how != 0 && way < length; way++)
+        *at_way(ring, way) = how > 1 && written != 0 ? *at_way(ring, way - written) : 0;
+    if (how > 1 && made_below(r, 4) != 0) { /* more records than the case had room for */
+        ring->journal_length = 2 * length;
+        ring->budget = UINT64_MAX;
+    }
+}
+
 /* ---- workloads ---- */
 
 const char *const made_workload_names[MADE_WORKLOADS] = { "side-band", "small samples", "fat samples" };

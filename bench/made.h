@@ -64,6 +64,10 @@ void made_case(struct made_random *r, struct made_ring *ring);
 /* The same with a table: sound or not, identifiers that are not in it, sizes of 8 and 16. */
 void made_table_case(struct made_random *r, struct made_ring *ring);
 
+/* The same ring as a backward one, whose newest record starts at its tail: as it is, or with zeros behind its records, or
+ * gone round, which is its records once more up to the ring's length. */
+void made_backward(struct made_random *r, struct made_ring *ring);
+
 enum made_workload { MADE_SIDE_BAND, MADE_SMALL_SAMPLES, MADE_FAT_SAMPLES, MADE_WORKLOADS };
 extern const char *const made_workload_names[MADE_WORKLOADS];
 

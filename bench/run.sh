@@ -4,7 +4,7 @@
 #   bench/run.sh                 all of it: the comparison, times, ring sizes, values, instructions
 #   bench/run.sh --short         the comparison alone, without a table and with one, and of replay: fails only if careful C and ours
 #                                differ (the gate)
-#   bench/run.sh --time | --sizes | --values | --instructions | --kinds | --tables | --stores | --replay    one part, after a short comparison
+#   bench/run.sh --time | --sizes | --values | --instructions | --kinds | --tables | --stores | --replay | --walks    one part, after a short comparison
 #   bench/run.sh --sanitize      the comparison with address and undefined-behaviour sanitizers on the C side
 #
 # Options before the part: --library FILE (an archive other than target/staticlib/libollskuvan.a),
@@ -26,7 +26,7 @@ while [ $# -gt 0 ]; do
     --rings) [ $# -gt 1 ] || die "--rings needs a number"; rings=$2; shift ;;
     --seed) [ $# -gt 1 ] || die "--seed needs a number"; seed=$2; shift ;;
     --rounds) [ $# -gt 1 ] || die "--rounds needs a number"; rounds=$2; shift ;;
-    --short | --time | --sizes | --values | --instructions | --kinds | --tables | --stores | --replay | --sanitize) part=${1#--} ;;
+    --short | --time | --sizes | --values | --instructions | --kinds | --tables | --walks | --stores | --replay | --sanitize) part=${1#--} ;;
     -h | --help) sed -n '2,12p' "$0" | sed 's/^# \{0,1\}//'; exit 0 ;;
     *) die "unknown argument: $1 (see --help)" ;;
   esac
@@ -92,7 +92,7 @@ if [ "$part" = sanitize ]; then
   program=$out/bench-sanitized
 fi
 # shellcheck disable=SC2086 # the flags are words
-gcc $flags -o "$program" bench/bench.c bench/compare.c bench/timing.c bench/made.c bench/kinds.c bench/replay.c bench/careful.c bench/careful_check.c bench/careful_replay.c bench/careful_store.c bench/stores.c bench/floor.c "$library" $link ||
+gcc $flags -o "$program" bench/bench.c bench/compare.c bench/timing.c bench/made.c bench/kinds.c bench/replay.c bench/careful.c bench/careful_check.c bench/careful_replay.c bench/careful_store.c bench/stores.c bench/careful_walk.c bench/walks.c bench/floor.c "$library" $link ||
   die "the bench does not build"
 
 # instructions of one drain under callgrind, which repeat exactly
@@ -177,6 +177,35 @@ replays() {
   done
 }
 
+# instructions a record of a backward ring that is walked, and of the same ring drained
+walks() {
+  local who name workload log=$out/callgrind.log
+  command -v valgrind >/dev/null || { echo "bench: walks skipped: valgrind is missing"; return 0; }
+  rm -f "$out"/walks.*
+  printf '\ninstructions a record of a backward ring, by callgrind (the last rows: the same rings drained)\n%-14s' ''
+  "$program" list | sed -n -e 's/^workload //p' -e 's/^mix //p' | grep -v '^empty$' | while read -r workload; do printf '%18s' "$workload"; done
+  printf '\n'
+  for who in careful-walk ours-walk careful ours; do
+    printf '%-14s' "$who"
+    while read -r workload; do
+      case "$who" in
+        careful-walk) name=careful_walk_back ;;
+        ours-walk) name=ollskuvan_walk_back ;;
+        careful) name=careful_drain ;;
+        *) name=ollskuvan_drain ;;
+      esac
+      "$program" list | grep -q -x "mix $workload" && name=${name}_events
+      valgrind --tool=callgrind --toggle-collect="$name" --callgrind-out-file=/dev/null "$program" once "$who" "$workload" \
+        >"$log" 2>&1 </dev/null || { cat "$log"; die "callgrind failed"; }
+      awk '/^records/ { n = $2 } /Collected/ { c = $NF } END { printf "%.1f\n", c / n }' "$log" | tee -a "$out/walks.$who" |
+        awk '{ printf "%18.1f", $1 }'
+    done < <("$program" list | sed -n -e 's/^workload //p' -e 's/^mix //p' | grep -v '^empty$')
+    printf '\n'
+  done
+  printf '%-14s' ratio
+  paste "$out/walks.ours-walk" "$out/walks.careful-walk" | awk '{ printf "%18.3f", $1 / $2 } END { print "" }'
+}
+
 # instructions of one record check
 checks() {
   local whose name which log=$out/callgrind.log
@@ -212,9 +241,9 @@ kinds() { # kinds|table-kinds
 
 case "$part" in
   short) "$program" stores $((rings / 2)) "$seed" || exit 1; "$program" kinds || exit 1; "$program" table-kinds || exit 1; "$program" compare "$rings" "$seed" || exit 1; "$program" tables $((rings / 2)) "$seed" || exit 1
-    "$program" compare-replay $((rings / 10)) "$seed" || exit 1 ;;
+    "$program" compare-replay $((rings / 10)) "$seed" || exit 1; "$program" walks $((rings / 2)) "$seed" || exit 1 ;;
   sanitize) "$program" stores $((rings / 2)) "$seed" || exit 1; "$program" compare "$rings" "$seed" || exit 1; "$program" tables $((rings / 2)) "$seed" || exit 1
-    "$program" compare-replay $((rings / 10)) "$seed" || exit 1 ;;
+    "$program" compare-replay $((rings / 10)) "$seed" || exit 1; "$program" walks $((rings / 2)) "$seed" || exit 1 ;;
   *)
     "$program" stores $((rings / 2)) "$seed" || die "no times: the two differ on a store"
     "$program" kinds || die "no times: the drains differ, or a kind is missing"
@@ -222,6 +251,7 @@ case "$part" in
     "$program" compare "$rings" "$seed" || die "no times: the drains differ"
     "$program" tables $((rings / 2)) "$seed" || die "no times: the drains with a table differ"
     "$program" compare-replay $((rings / 10)) "$seed" || die "no times: the replays differ"
+    "$program" walks $((rings / 2)) "$seed" || die "no times: the walks differ"
     case "$part" in all | time) "$program" time $rounds || exit 1 ;; esac
     case "$part" in all | time | tables) "$program" mixes $rounds || exit 1 ;; esac
     case "$part" in all | replay) "$program" replay $rounds || exit 1; replays || exit 1 ;; esac
@@ -230,5 +260,6 @@ case "$part" in
     case "$part" in all | instructions) instructions && instructions 1 && checks || exit 1 ;; esac
     case "$part" in all | stores) stores || exit 1 ;; esac
     case "$part" in all | instructions | tables) tables && tables 1 && tables 32 || exit 1 ;; esac
+    case "$part" in all | instructions | walks) walks || exit 1 ;; esac
     case "$part" in all | kinds) kinds kinds || exit 1; echo; echo "with a table of eleven events"; kinds table-kinds || exit 1 ;; esac ;;
 esac

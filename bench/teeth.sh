@@ -1,5 +1,5 @@
 #!/usr/bin/env bash
-# Does the comparison bite? Plants one mistake at a time in a copy of careful.c or careful_replay.c, or of careful_store.c, and runs the
+# Does the comparison bite? Plants one mistake at a time in a copy of careful.c, or of careful_walk.c, or careful_replay.c, or of careful_store.c, and runs the
 # comparison: each must be found. Not part of the gate; run it after a change of made.c or compare.c.
 #
 #   bench/teeth.sh [ARCHIVE]       target/staticlib/libollskuvan.a; RINGS=20000 SEED=1
@@ -11,17 +11,20 @@ out=target/bench/teeth
 mkdir -p "$out" || exit 2
 found=0 missed=0
 
-plant() { # WORDS SED-EXPRESSION (over the whole file at once) [tables, stores: in the comparison with a table, of stores [FILE: careful.c]]
+plant() { # WORDS SED-EXPRESSION (over the whole file at once) [tables, stores: in the comparison with a table, of stores [FILE: careful.c; walks: careful_walk.c]]
   local file=${4:-careful.c}
   [ "${3:-}" = stores ] && file=careful_store.c
   cp bench/careful.c bench/careful_store.c bench/careful_replay.c "$out" || exit 2
+  local file=careful.c drains=$out/careful.c walks=bench/careful_walk.c
+  [ "${3:-}" != walks ] || file=careful_walk.c drains=bench/careful.c walks=$out/careful_walk.c
+  rm -f "$out"/*.c
   sed -z "$2" "bench/$file" >"$out/$file" || exit 2
   if cmp -s "bench/$file" "$out/$file"; then
     echo "bench/teeth.sh: '$1' changes nothing: $file has moved on" >&2
     exit 2
   fi
   gcc -std=c11 -O2 -w -DWITHOUT_VALUES -Iinclude -Ibench -o "$out/bench" bench/bench.c bench/compare.c bench/timing.c bench/made.c bench/kinds.c bench/replay.c bench/careful_check.c bench/stores.c \
-    bench/floor.c "$out/careful.c" "$out/careful_store.c" "$out/careful_replay.c" "$library" || exit 2
+    "$walks" bench/walks.c bench/floor.c "$drains" "$out/careful_store.c" "$out/careful_replay.c" "$library" || exit 2
   # in a shell of its own: some mistakes end in a crash, which is found too
   if bash -c '"$@"; exit $?' teeth "$out/bench" "${3:-compare}" "${RINGS:-20000}" "${SEED:-1}" >"$out/log" 2>&1; then
     echo "MISSED: $1"
@@ -69,9 +72,9 @@ plant "no hardware index" 's/bit(branch_sample_type, INDEX_BIT) ? 16 : 8/8/'
 plant "the index by bit 16" 's/define INDEX_BIT 17/define INDEX_BIT 16/'
 plant "the index after the entries alone" 's/if (left < p->branch_words)/if (left == 0)/'
 plant "23 behind the size" 's/if (!p->build_id_known)\n            return 23;\n        if (size <= 40 + p->trailer)\n            return 30;/if (size <= 40 + p->trailer)\n            return 30;\n        if (!p->build_id_known)\n            return 23;/'
-plant "the edition narrowed" 's/if (edition - 1 > 2)/if ((uint8_t)edition - 1u > 2)/'
-plant "edition 2 knows type 16" 's/last_type\[4\] = { 0, 9, 15, 20 }/last_type[4] = { 0, 9, 16, 20 }/'
-plant "edition 1 knows bit 16" 's/last_bit\[4\] = { 0, 15, 18, 24 }/last_bit[4] = { 0, 16, 18, 24 }/'
+plant "the edition narrowed" 's/if (edition - 1 > 3)/if ((uint8_t)edition - 1u > 3)/'
+plant "edition 2 knows type 16" 's/last_type\[5\] = { 0, 9, 15, 20, 21 }/last_type[5] = { 0, 9, 16, 20, 21 }/'
+plant "edition 1 knows bit 16" 's/last_bit\[5\] = { 0, 15, 18, 24, 24 }/last_bit[5] = { 0, 16, 18, 24, 24 }/'
 plant "the code page size is forgotten" 's/LAST_BITS UINT64_C(0xe80000)/LAST_BITS UINT64_C(0x680000)/'
 plant "the identifier of a SAMPLE at its end" 's/load64(type == 9 ? record + HEADER : record + size - 8)/load64(record + size - 8)/' tables
 plant "the identifier of others behind the header" 's/load64(type == 9 ? record + HEADER : record + size - 8)/load64(record + HEADER)/' tables
@@ -104,6 +107,15 @@ plant "a record cut at the ring's end" 's/memcpy(ring, record + first, size - fi
 plant "53 for a record longer than the ring" 's/size == body ? 0 : 53/size == body \&\& size <= 512 ? 0 : 53/' compare-replay careful_replay.c
 plant "a version of a store is 51" 's/return length == 8 ? 52 : 51/return 51/' compare-replay careful_replay.c
 plant "a dropped record that is not counted" 's/        r->dropped++;//' compare-replay careful_replay.c
+plant "a size of 0 is 6" 's/size == 0 ? 0 : 6/6/' walks
+plant "13 before 6" 's/if (unlikely(size < HEADER || size % 8 != 0)) {/if (unlikely(size > rest)) {\n            stop = 13;\n            break;\n        }\n        if (unlikely(size < HEADER || size % 8 != 0)) {/' walks
+plant "past the length by a word" 's/unlikely(size > rest)/unlikely(size > rest + 8)/' walks
+plant "the length itself is 13" 's/unlikely(size > rest)/unlikely(size >= rest)/' walks
+plant "more than one length" 's/if (unlikely(rest == 0)) {/if (unlikely(rest == 0 \&\& left == 0)) {/' walks
+plant "8 before 13" 's/if (unlikely(size > rest)) {/if (unlikely(left == 0)) {\n            stop = most == budget ? 8 : 9;\n            break;\n        }\n        if (unlikely(size > rest)) {/' walks
+plant "starts without the head" 's/store64(journal + 8, head + way)/store64(journal + 8, way)/' walks
+plant "head of any kind" 's/(head \& 7) != 0 ? 5 : 0/0/' walks
+plant "11 before 5" 's/uint32_t stop = refused(ring_len, edition, head);\n    if (stop == 0 \&\& !sound/uint32_t stop = refused(ring_len, edition, head);\n    if ((stop == 0 || stop == 5) \&\& !sound/' walks
 rm -rf "$out"
 echo "planted mistakes: $found found, $missed missed"
 [ "$missed" -eq 0 ]

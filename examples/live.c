@@ -12,40 +12,41 @@
 #include "memory.h"
 #include "messages.h"
 
-enum { CPUS_MAX = 4096, NAP_MS = 5 };
+enum { CPUS_MAX = 4096 };
 
 /* ---- signals ---- */
 
 static volatile sig_atomic_t interrupted;
-static const int signals[] = { SIGINT, SIGTERM };
-enum { SIGNALS = sizeof signals / sizeof signals[0] };
+static const int signals[] = { SIGINT, SIGTERM, SIGUSR1 };
+enum { SIGNALS = sizeof signals / sizeof signals[0], ENDING = 2 }; /* the first ones end any recording */
 static struct sigaction before[SIGNALS];
-static bool caught;
+static size_t caught; /* how many of them */
 
+/* One that ends the program goes before one that asks for the rings. */
 static void on_interrupt(int signal)
 {
-    (void)signal;
-    interrupted = 1;
+    if (interrupted == 0 || interrupted == SIGUSR1)
+        interrupted = signal;
 }
 
 /* A signal that the caller has us ignore stays ignored. */
-static void catch_signals(void)
+static void catch_signals(size_t count)
 {
     struct sigaction ours = { .sa_handler = on_interrupt };
     interrupted = 0;
-    for (size_t i = 0; i < SIGNALS; i++) {
+    for (size_t i = 0; i < count; i++) {
         sigaction(signals[i], NULL, &before[i]);
         if (before[i].sa_handler != SIG_IGN)
             sigaction(signals[i], &ours, NULL);
     }
-    caught = true;
+    caught = count;
 }
 
 static void restore_signals(void)
 {
-    for (size_t i = 0; i < SIGNALS && caught; i++)
+    for (size_t i = 0; i < caught; i++)
         sigaction(signals[i], &before[i], NULL);
-    caught = false;
+    caught = 0;
 }
 
 /* ---- which cpus ---- */
@@ -83,7 +84,7 @@ static int open_ring(struct live *live, int cpu)
     char why[WHY_ROOM];
     const struct live_want *w = &live->want;
     struct perf_want want = { .cpu = cpu, .pages = w->pages, .program = live->program.pid, .clock = w->clock,
-        .branch = w->branch, .counters = w->counters, .table = w->table, .edition = w->edition };
+        .branch = w->branch, .counters = w->counters, .table = w->table, .backward = w->backward, .edition = w->edition };
     switch (perf_ring_open(&live->rings[live->count], &want, why)) {
     case PERF_OPEN:
         live->count++;
@@ -128,7 +129,7 @@ static bool for_each_ring(struct live *live, bool (*act)(const struct perf_ring 
 
 int live_start(struct live *live)
 {
-    catch_signals();
+    catch_signals(live->want.backward ? SIGNALS : ENDING);
     if (!for_each_ring(live, perf_ring_start))
         return STATUS_FAILED;
     live->began = now_ns();
@@ -168,18 +169,52 @@ static void tell_end(int status)
         complain("the program was ended by signal %d (%s)", WTERMSIG(status), strsignal(WTERMSIG(status)));
 }
 
-void live_record(struct live *live, void (*look)(void *context), void *context)
+/* How much longer than a step it was, since then. */
+static uint64_t lateness(uint64_t since)
 {
-    const struct timespec nap = { 0, NAP_MS * 1000000L };
+    uint64_t step = STEP_MS * UINT64_C(1000000), took = now_ns() - since;
+    return took > step ? took - step : 0;
+}
+
+/* Backward rings run over what is wanted: they are paused first of all. */
+static enum live_end ended_by(struct live *live, enum live_end end)
+{
+    if (live->want.backward && !for_each_ring(live, perf_ring_pause))
+        complain("what was recorded last may be overwritten meanwhile");
+    return end;
+}
+
+enum live_end live_record(struct live *live, void (*look)(void *context), void *context)
+{
+    const struct timespec nap = { 0, STEP_MS * 1000000L };
     const uint64_t until = live->want.seconds > 0 ? live->began + (uint64_t)(live->want.seconds * 1e9) : UINT64_MAX;
     bool has_program = live->program.pid != 0;
     int status = 0;
     while (!interrupted && now_ns() < until) {
+        uint64_t since = now_ns();
         nanosleep(&nap, NULL); /* a signal may end it early */
+        live->late = lateness(since);
+        if (live->want.late != 0 && live->late > live->want.late)
+            return ended_by(live, LIVE_LATE);
         look(context);
         if (has_program && program_ended(&live->program, &status)) {
+            enum live_end end = ended_by(live, LIVE_PROGRAM);
             tell_end(status);
-            return;
+            return end;
         }
     }
+    return ended_by(live, interrupted == SIGUSR1 ? LIVE_ASKED : interrupted ? LIVE_SIGNAL : LIVE_TIME);
+}
+
+void live_wait(struct live *live)
+{
+    const struct timespec nap = { 0, STEP_MS * 1000000L };
+    int status = 0;
+    catch_signals(ENDING);
+    while (live->program.pid != 0 && !interrupted) {
+        nanosleep(&nap, NULL);
+        if (program_ended(&live->program, &status))
+            tell_end(status);
+    }
+    restore_signals();
 }

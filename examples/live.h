@@ -1,7 +1,7 @@
 /*
  * A recording: a ring for each cpu, and a program if one is given. From its
- * start to its stop SIGINT and SIGTERM end the recording; before and after they
- * do what they did.
+ * start to its stop SIGINT and SIGTERM end the recording, of backward rings SIGUSR1
+ * too; before and after they do what they did.
  */
 #ifndef EXAMPLES_LIVE_H
 #define EXAMPLES_LIVE_H
@@ -20,6 +20,8 @@ struct live_want {
     uint64_t branch; /* a branch sample type; 0: no branches */
     uint32_t counters; /* of counter_names */
     bool table; /* each ring with a table of its events, also without counters */
+    bool backward; /* flight recorders: they run over their oldest records until they are paused */
+    uint64_t late; /* ns: a step of the recorder that comes later than that ends the recording; 0: none does */
     uint32_t edition;
     double seconds; /* how long; 0: until the program ends */
     char **program; /* NULL: none */
@@ -30,6 +32,7 @@ struct live {
     struct perf_ring *rings;
     size_t count;
     uint64_t began, ended; /* of the monotonic clock: all rings were recording between these */
+    uint64_t late; /* ns: how late the last step came */
     struct program program;
 };
 
@@ -40,8 +43,21 @@ int live_start(struct live *live);
 int live_stop(struct live *live);
 void live_close(struct live *live);
 
-/* Until the time is over, the program has ended or a signal comes: look is
- * called every few milliseconds. */
-void live_record(struct live *live, void (*look)(void *context), void *context);
+enum { STEP_MS = 5 };
+
+enum live_end {
+    LIVE_TIME,    /* the time is over */
+    LIVE_PROGRAM, /* the program has ended */
+    LIVE_SIGNAL,  /* SIGINT or SIGTERM */
+    LIVE_ASKED,   /* SIGUSR1, which ends the recording of backward rings alone */
+    LIVE_LATE,    /* a step came late */
+};
+
+/* Until one of these: look is called at each step, every STEP_MS. Backward rings
+ * are paused before anything else is done. */
+enum live_end live_record(struct live *live, void (*look)(void *context), void *context);
+
+/* Until the program has ended by itself, or SIGINT or SIGTERM comes. */
+void live_wait(struct live *live);
 
 #endif

@@ -354,7 +354,7 @@ fails() { # STATUS WORDS COMMAND..
 fails 1 "$work/none did not start: No such file" "$programs/late" --live -- "$work/none"
 fails 1 "$work/none did not start: No such file" "$programs/controller" -- "$work/none"
 fails 1 'did not start: Permission denied' "$programs/controller" -- /etc/passwd
-fails 2 '--report goes with neither' "$programs/controller" --report 2 --save "$work/none"
+fails 2 '--report goes with none of' "$programs/controller" --report 2 --save "$work/none"
 fails 0 'the program ended with 7' "$programs/controller" -- sh -c 'exit 7'
 fails 0 'the program was ended by signal 9' "$programs/controller" -- sh -c 'kill -KILL $$'
 for p in "late --live --short --seconds 0.05" "controller --seconds 0.05" "load_test 100"; do
@@ -415,6 +415,76 @@ head -c 100 "$kept" >"$kept.cut" && cp "$kept.cut" "$kept.before"
 "$programs/controller" --seconds 0.1 --settings "$kept.cut" >/dev/null 2>"$work/kept.err" && wrong "controller starts from a store that is cut short"
 grep -q 'refused with 51 at byte 63' "$work/kept.err" || wrong "a store that is cut short: $(cat "$work/kept.err")"
 cmp -s "$kept.cut" "$kept.before" || wrong "controller writes over a store that it cannot read"
+
+# ---- flight recorders: rings that run over themselves until they are paused
+fly() { # NAME COMMAND-BEFORE.. -- OPTION..: the workload NAME under a flight recorder
+  local name=$1 before=()
+  shift
+  while [ "$1" != -- ]; do before+=("$1"); shift; done
+  shift
+  "${before[@]}" "$programs/controller" --flight "$work/$name" "$@" -- "$programs/workload" "$name" "$work/$name.facts" >"$work/$name.out" 2>"$work/$name.err" ||
+    { why="controller --flight failed: $(tail -n 1 "$work/$name.err")"; return 1; }
+  grep -q 'the program ended with 3' "$work/$name.err" && { why=$(head -n 1 "$work/$name.err"); return 3; }
+  why="$(head -n 1 "$work/$name.out") $(tail -n 1 "$work/$name.err")"
+  ! grep -q 'the program' "$work/$name.err" || return 2
+  ! grep -q 'refused' "$work/$name.out" || return 1
+}
+last_time() { # NAME: of the last record of the report, ns
+  flat "$work/$1.txt" | awk -v base="$(sed -n 's/^times are ms since \([0-9.]*\) s .*/\1/p' "$work/$1.txt")" \
+    '$1 ~ /^[0-9]+\.[0-9]+$/ { ms = $1 } END { split(base, part, "."); ns = part[2] + int(ms * 1000000)
+      printf "%d%09d\n", part[1] + int(ns / 1000000000), ns % 1000000000 }'
+}
+# At a signal: a heater whose step came late asks for the rings and goes on. What it did after that is not in them.
+firing() {
+  local asked own
+  fly firing -- || return
+  asked=$(fact firing asked 2) own=$(awk '$1 == "asked" { print $4 / 1e6 }' "$work/firing.facts")
+  why="the heater's step was not late"
+  [ -n "$asked" ] || return 2
+  why="$(head -n 1 "$work/firing.out") (it asked after a step that came $own ms late)"
+  grep -q -E '^paused after [0-9.]+ s: a signal came$' "$work/firing.out" || return 1
+  [ $(($(fact firing heater 4) - asked)) -gt 50000000 ] || return 1
+  explain firing --watch "$(fact firing heater 2)" --period 10
+  why="$(head -n 1 "$work/firing.txt") (it asked after a step that came $own ms late)"
+  [ "$(last_time firing)" -lt "$(fact firing heater 4)" ] || return 1
+  [ $(($(last_time firing) - asked)) -lt 30000000 ] || return 2
+  near "$(sed -n 's/^late: \([0-9.]*\) ms past its period of 10 ms.*/\1/p' "$work/firing.txt")" "$own" 5 || return 1
+  grep -q -E "^late: [0-9.]+ ms past its period of 10 ms; meanwhile cpu [0-9]+ ran 'backup'" "$work/firing.line" || return 1
+  echo "firing: $(head -n 1 "$work/firing.txt") (it asked after a step that came $own ms late; the rings end $((($(last_time firing) - asked) / 1000)) us after that)"
+}
+undisturbed firing
+# By itself: a backup keeps the recorder from its own step. The program goes on to its end.
+stalled() {
+  local late pid
+  command -v taskset >/dev/null || { why="taskset is missing"; return 3; }
+  fly stalled taskset -c 0 -- --late 60 || return
+  late=$(sed -n 's/^paused after [0-9.]* s: a step of 5 ms came \([0-9.]*\) ms late$/\1/p' "$work/stalled.out")
+  [ -n "$late" ] && near "$late" 120 40 || return 1
+  pid=$(sed -n 's/^end \([0-9]*\) [0-9]* controller$/\1/p' "$work/stalled-names.txt" | tail -n 1)
+  [ -n "$(fact stalled cpu 4)" ] && [ -n "$pid" ] || return 1
+  explain stalled --watch "$pid" --period 6
+  why="$(head -n 1 "$work/stalled.txt") (the recorder says $late ms)"
+  near "$(sed -n 's/^late: \([0-9.]*\) ms past its period of 6 ms.*/\1/p' "$work/stalled.txt")" "$late" 5 || return 1
+  grep -q -E "^late: .* meanwhile cpu 0 ran 'backup'" "$work/stalled.line" || return 1
+  [ "$(last_time stalled)" -lt "$(fact stalled cpu 4)" ] || return 1
+  echo "stalled: $(head -n 1 "$work/stalled.txt") (the recorder says $late ms)"
+}
+undisturbed stalled
+# Rings of one page go round many times: what is left is read whole, and none of it is refused; with several events too.
+goes_round() { # OPTION..
+  "$programs/controller" --flight "$work/round" --pages 1 "$@" -- "$programs/load_test" 20000 16 >"$work/round.out" 2>&1 ||
+    { cat "$work/round.out"; wrong "controller --flight $* failed"; return; }
+  grep -q 'refused' "$work/round.out" && wrong "controller --flight $* refuses records of a live kernel"
+  grep -q -E ': a backward ring of 4096 bytes, [0-9]+ records?, stop (13: the oldest record is overwritten in part|0: the whole length)$' "$work/round.out" ||
+    wrong "controller --flight $*: no ring has gone round: $(cat "$work/round.out")"
+  "$programs/late" --short "$work"/round-cpu*.img >"$work/round.txt" 2>&1
+  grep -q 'a flight recorder: the last [0-9.]* ms; what came before is overwritten$' "$work/round.txt" || wrong "late on the rings of a flight recorder: $(cat "$work/round.txt")"
+  grep -q -E ' [1-9][0-9]* refused' "$work/round.txt" && wrong "late refuses records of a flight recorder"
+  grep -q 'NOT READ' "$work/round.txt" && wrong "late does not read a flight recorder to its end"
+  grep -E '^[0-9]+ records?, .* backward ring' "$work/round.out"
+}
+goes_round
+goes_round --events page-faults,cpu-clock
 
 # ---- under load
 for budget in 1 16 40; do

@@ -69,8 +69,8 @@ static int open_event(struct perf_event_attr *attr, pid_t pid, int cpu)
     return (int)syscall(SYS_perf_event_open, attr, pid, cpu, -1, PERF_FLAG_FD_CLOEXEC);
 }
 
-/* All events of a ring have the same layout and the same clock. */
-static void common(struct perf_event_attr *attr)
+/* All events of a ring have the same layout, the same clock and the same direction. */
+static void common(struct perf_event_attr *attr, bool backward)
 {
     memset(attr, 0, sizeof *attr);
     attr->size = sizeof *attr;
@@ -81,6 +81,7 @@ static void common(struct perf_event_attr *attr)
     attr->disabled = 1;
     attr->use_clockid = 1;
     attr->clockid = CLOCK_MONOTONIC;
+    attr->write_backward = backward; /* since Linux 4.7 */
 }
 
 static void with_mappings(struct perf_event_attr *attr)
@@ -118,9 +119,9 @@ static const struct {
     { PERF_COUNT_SW_CPU_MIGRATIONS, 1, 0 },
 };
 
-static void counter_attr(struct perf_event_attr *attr, size_t number)
+static void counter_attr(struct perf_event_attr *attr, size_t number, bool backward)
 {
-    common(attr);
+    common(attr, backward);
     attr->config = counters[number].config;
     attr->sample_period = counters[number].period;
     attr->sample_type |= counters[number].bits;
@@ -129,7 +130,7 @@ static void counter_attr(struct perf_event_attr *attr, size_t number)
 /* The ring's first event: the switches of the whole cpu. */
 static void first_attr(struct perf_event_attr *attr, const struct perf_want *want)
 {
-    common(attr);
+    common(attr, want->backward);
     attr->context_switch = 1;
     attr->comm = 1;
     attr->comm_exec = 1;
@@ -160,7 +161,7 @@ void perf_want_table(const struct perf_want *want, struct event_table *table)
     add_row(table, SWITCHES_NUMBER, &attr, "switches");
     for (size_t i = 0; i < COUNTERS; i++)
         if ((want->counters >> i & 1) != 0) {
-            counter_attr(&attr, i);
+            counter_attr(&attr, i, want->backward);
             add_row(table, COUNTER_NUMBER + i, &attr, counter_names[i]);
         }
 }
@@ -176,7 +177,8 @@ static int open_or_without_build_id(struct perf_event_attr *attr, pid_t pid, int
     return fd;
 }
 
-static enum perf_answer map_ring(struct perf_ring *ring, size_t pages, char why[WHY_ROOM])
+/* A ring that is mapped for reading alone is one that the kernel writes over its oldest records. */
+static enum perf_answer map_ring(struct perf_ring *ring, size_t pages, bool backward, char why[WHY_ROOM])
 {
     long page = sysconf(_SC_PAGESIZE);
     if (page <= 0 || pages > OLLSKUVAN_RING_MAX / (size_t)page) {
@@ -184,7 +186,7 @@ static enum perf_answer map_ring(struct perf_ring *ring, size_t pages, char why[
         return PERF_FAILED;
     }
     ring->mapped_length = (pages + 1) * (size_t)page;
-    void *base = mmap(NULL, ring->mapped_length, PROT_READ | PROT_WRITE, MAP_SHARED, ring->fd, 0);
+    void *base = mmap(NULL, ring->mapped_length, backward ? PROT_READ : PROT_READ | PROT_WRITE, MAP_SHARED, ring->fd, 0);
     if (base == MAP_FAILED) {
         int error = errno;
         refuse(why, "mapping a ring of %zu pages: %s%s", pages, strerror(error),
@@ -207,7 +209,7 @@ static enum perf_answer map_ring(struct perf_ring *ring, size_t pages, char why[
 static enum perf_answer open_program_events(struct perf_ring *ring, const struct perf_want *want, char why[WHY_ROOM])
 {
     struct perf_event_attr attr;
-    common(&attr);
+    common(&attr, want->backward);
     with_mappings(&attr);
     /* it has no samples of its own, and no software event has branches */
     attr.sample_type = ring->attributes.sample_type & ~OLLSKUVAN_BIT_BRANCHES;
@@ -231,11 +233,11 @@ static bool add_to_table(struct event_table *table, int fd, const struct perf_ev
     return true;
 }
 
-static enum perf_answer open_counter(struct perf_ring *ring, int cpu, size_t number, char why[WHY_ROOM])
+static enum perf_answer open_counter(struct perf_ring *ring, const struct perf_want *want, size_t number, char why[WHY_ROOM])
 {
     struct perf_event_attr attr;
-    counter_attr(&attr, number);
-    int fd = ring->counter_fds[number] = open_event(&attr, -1, cpu);
+    counter_attr(&attr, number, want->backward);
+    int fd = ring->counter_fds[number] = open_event(&attr, -1, want->cpu);
     if (fd < 0)
         return refuse_open(why, counter_names[number], errno);
     if (ioctl(fd, PERF_EVENT_IOC_SET_OUTPUT, ring->fd) == 0 && add_to_table(&ring->table, fd, &attr, counter_names[number]))
@@ -258,7 +260,7 @@ static enum perf_answer open_counters(struct perf_ring *ring, const struct perf_
     }
     for (size_t i = 0; i < COUNTERS && answer == PERF_OPEN; i++)
         if ((want->counters >> i & 1) != 0)
-            answer = open_counter(ring, want->cpu, i, why);
+            answer = open_counter(ring, want, i, why);
     return answer;
 }
 
@@ -273,7 +275,7 @@ static enum perf_answer open_events(struct perf_ring *ring, const struct perf_wa
         .sample_type = attr.sample_type, .read_format = attr.read_format, .branch_sample_type = attr.branch_sample_type,
         .sample_id_all = 1, .edition = want->edition,
     };
-    enum perf_answer answer = map_ring(ring, want->pages, why);
+    enum perf_answer answer = map_ring(ring, want->pages, want->backward, why);
     if (answer == PERF_OPEN && want->program != 0)
         answer = open_program_events(ring, want, why);
     return answer == PERF_OPEN && (want->counters != 0 || want->table) ? open_counters(ring, want, why) : answer;
@@ -307,6 +309,12 @@ bool perf_ring_start(const struct perf_ring *ring, char why[WHY_ROOM])
 bool perf_ring_stop(const struct perf_ring *ring, char why[WHY_ROOM])
 {
     return switch_events(ring, PERF_EVENT_IOC_DISABLE, "stopped", why);
+}
+
+bool perf_ring_pause(const struct perf_ring *ring, char why[WHY_ROOM])
+{
+    return ioctl(ring->fd, PERF_EVENT_IOC_PAUSE_OUTPUT, 1) == 0 ||
+        refuse(why, "the ring of cpu %d cannot be stopped: %s", ring->cpu, strerror(errno));
 }
 
 void perf_ring_close(struct perf_ring *ring)

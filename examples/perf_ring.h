@@ -42,6 +42,7 @@ struct perf_want {
     uint64_t branch; /* not 0: samples of the cpu's cycles with the branches before them, by this branch sample type */
     uint32_t counters; /* a bit for each of counter_names; not cpu-clock if clock is set */
     bool table; /* a table of the ring's events even if no counters are sampled */
+    bool backward; /* written backward, over its oldest records: nobody moves its tail */
     uint32_t edition;
 };
 
@@ -78,13 +79,16 @@ enum perf_answer {
 enum perf_answer perf_ring_open(struct perf_ring *ring, const struct perf_want *want, char why[WHY_ROOM]);
 bool perf_ring_start(const struct perf_ring *ring, char why[WHY_ROOM]);
 bool perf_ring_stop(const struct perf_ring *ring, char why[WHY_ROOM]);
+/* Nothing more is written, from now on: for a backward ring, before it is read. */
+bool perf_ring_pause(const struct perf_ring *ring, char why[WHY_ROOM]);
 void perf_ring_close(struct perf_ring *ring);
 
 /* The head, and behind it the barrier that the manual page asks for: the bytes
  * up to this head may then be read. */
 uint64_t perf_ring_head(const struct perf_ring *ring);
 uint64_t perf_ring_tail(const struct perf_ring *ring);
-/* All reads are done before the kernel sees the new tail. */
+/* All reads are done before the kernel sees the new tail. Not for a backward ring,
+ * which is mapped for reading alone. */
 void perf_ring_give_back(const struct perf_ring *ring, uint64_t tail);
 
 /* Whether the next switch might have found no room between these two: the kernel

@@ -7,9 +7,11 @@
  * libollskuvan.a, handles every stop, hands back each tail, and names what is
  * refused. With --events more events write into the same ring, and it is drained
  * with a table of all of them. With --save nothing is drained until the end; the rings are then
- * written as images that the report takes. With --settings it starts from a store of settings, and With --trace what the kernel wrote and each drain go to
+ * written as images that the report takes. With --settings it starts from a store of settings, and With --trace what the kernel wrote and each drain go to With --flight the rings are written backward,
  * keeps in it what it was started with.
  * a file too, which ollskuvan replay plays again.
+ * over their oldest records, until a signal comes or a step runs late: then they are paused,
+ * walked and saved.
  */
 #define _GNU_SOURCE
 #include <getopt.h>
@@ -23,6 +25,7 @@
 #include "commands.h"
 #include "events.h"
 #include "kept.h"
+#include "flight.h"
 #include "live.h"
 #include "memory.h"
 #include "messages.h"
@@ -31,12 +34,12 @@
 #include "readers.h"
 #include "trace.h"
 
-enum { BUDGET_MAX = KEPT_BUDGET_MAX, REFUSALS_SHOWN = 20, PATH_ROOM = 512, STOPS = 12, REFUSALS = 64, TURNS = 64 };
+enum { BUDGET_MAX = KEPT_BUDGET_MAX, REFUSALS_SHOWN = 20, PATH_ROOM = 512, STOPS = 14, REFUSALS = 64, TURNS = 64 };
 
 struct options {
     struct live_want want;
     uint64_t budget;
-    const char *save;
+    const char *save; /* with --flight too */
     const char *settings; /* the store that it keeps them in */
     const char *trace;
     bool again; /* each ring's drains once more, as one */
@@ -242,7 +245,9 @@ static void look_at_room(struct controller *c)
 static void look(void *context)
 {
     struct controller *c = context;
-    if (c->options.save != NULL) {
+    if (c->options.want.backward) {
+        return; /* it runs over itself: there is nothing to look at until it is paused */
+    } else if (c->options.save != NULL) {
         look_at_room(c);
     } else if (c->options.report != 0) {
         serve_all(c, TURNS);
@@ -357,6 +362,73 @@ static bool end_traces(struct controller *c)
     return written;
 }
 
+/* ---- flight recorders ---- */
+
+/* All that the ring holds is counted as drained records are. */
+static void count_flight(struct controller *c, const struct perf_ring *ring, const struct flight *flight)
+{
+    c->taken += flight->walked.taken;
+    c->bytes += flight->walked.bytes;
+    if (flight->walked.stop < STOPS) /* there is no other */
+        c->by_stop[flight->walked.stop]++;
+    for (uint64_t i = 0; i < flight->walked.taken; i++) {
+        look_at_entry(c, ring, flight_entry(flight, i));
+        if (ring->table.count != 0)
+            count_event(c, ring, flight->end, flight_entry(flight, i));
+    }
+}
+
+static bool save_flight(struct controller *c, const struct perf_ring *ring)
+{
+    uint64_t head = perf_ring_head(ring);
+    struct flight flight = flight_walk(&ring->attributes, &ring->table, ring->bytes, ring->length, head);
+    char path[PATH_ROOM], why[WHY_ROOM], end[32];
+    snprintf(end, sizeof end, "-cpu%d.img", ring->cpu);
+    count_flight(c, ring, &flight);
+    free(flight.journal);
+    if (!path_for(path, c->options.save, end, "--save"))
+        return false;
+    if (!ring_image_save(path, &ring->attributes, head, perf_ring_tail(ring), ring->bytes, ring->length, why) ||
+        !event_table_save(&ring->table, path, why)) {
+        complain("%s: %s", path, why);
+        return false;
+    }
+    printf("saved %s: a backward ring of %zu bytes, %llu %s, stop %u: %s\n", path, ring->length,
+        (unsigned long long)flight.walked.taken, plural(flight.walked.taken, "record", "records"), flight.walked.stop,
+        flight.walked.stop == OLLSKUVAN_STOP_NOTHING ? (flight.round ? "the whole length" : "it has not gone round")
+            : ollskuvan_stop_text(flight.walked.stop));
+    if (!flight_is_whole(flight.walked.stop))
+        c->broken = true;
+    return true;
+}
+
+static void say_end(const struct controller *c, enum live_end end)
+{
+    double after = (double)(c->live.ended - c->live.began) / 1e9;
+    const char *why = end == LIVE_TIME ? "the time was over" : end == LIVE_PROGRAM ? "the program had ended" : "a signal came";
+    if (end == LIVE_LATE)
+        printf("paused after %.3f s: a step of %d ms came %.3f ms late\n", after, STEP_MS, (double)c->live.late / 1e6);
+    else
+        printf("paused after %.3f s: %s\n", after, why);
+}
+
+/* The rings are paused. A program that asked, or that was only looked at, runs on to its end. */
+static int land(struct controller *c, enum live_end end)
+{
+    bool saved = true;
+    say_end(c, end);
+    names_from_proc(&c->names, true);
+    for (size_t i = 0; i < c->live.count; i++)
+        saved = save_flight(c, &c->live.rings[i]) && saved;
+    saved = save_names(c) && saved;
+    if (saved)
+        printf("saved %s-names.txt: the names of threads, for --names of the report\n", c->options.save);
+    fflush(stdout);
+    if (end == LIVE_LATE || end == LIVE_ASKED)
+        live_wait(&c->live);
+    return saved && !c->broken ? STATUS_DONE : STATUS_FAILED;
+}
+
 /* ---- the end ---- */
 
 static void print_kinds(const struct controller *c)
@@ -382,10 +454,14 @@ static void print_counts(const char *what, const uint64_t *counts, unsigned most
 
 static void summary(const struct controller *c)
 {
-    printf("%llu %s, %llu %s, in %llu %s of at most %llu %s; the longest took %.1f us\n", (unsigned long long)c->taken,
-        plural(c->taken, "record", "records"), (unsigned long long)c->bytes, plural(c->bytes, "byte", "bytes"),
-        (unsigned long long)c->drains, plural(c->drains, "drain", "drains"), (unsigned long long)c->options.budget,
-        plural(c->options.budget, "record", "records"), (double)c->longest_ns / 1000);
+    printf("%llu %s, %llu %s, in ", (unsigned long long)c->taken, plural(c->taken, "record", "records"), (unsigned long long)c->bytes,
+        plural(c->bytes, "byte", "bytes"));
+    if (c->options.want.backward)
+        printf("%zu backward %s\n", c->live.count, plural(c->live.count, "ring", "rings"));
+    else
+        printf("%llu %s of at most %llu %s; the longest took %.1f us\n", (unsigned long long)c->drains,
+            plural(c->drains, "drain", "drains"), (unsigned long long)c->options.budget, plural(c->options.budget, "record", "records"),
+            (double)c->longest_ns / 1000);
     print_kinds(c);
     print_events(c);
     print_counts("stop", c->by_stop, STOPS, ollskuvan_stop_text);
@@ -408,7 +484,8 @@ static void usage(FILE *out)
         "Reads live rings, one a cpu, and counts what they hold; or saves them.\n"
         "  --seconds S   how long (2); with PROGRAM until it ends, and it is ended after S\n"
         "  --budget N    records of one drain (32; at most 4096)\n"
-        "  --pages N     pages of a ring (4, with --save 256; a power of two up to 256)\n"
+        "  --pages N     pages of a ring (4, with --save and --flight 256; a power of two up\n"
+        "                to 256)\n"
         "  --cpu N       this cpu alone (all that are online)\n"
         "  --clock       samples of the cpu clock too\n"
         "  --branch N    samples of the cpu's cycles too, with the branches before each, by\n"
@@ -428,6 +505,12 @@ static void usage(FILE *out)
         "  --trace NAME  write NAME-cpuN.trace for each ring while it is drained: its records\n"
         "                and drains, which ollskuvan replay plays again; its table, and what\n"
         "                the drains took, in .trace.table and .trace.journal\n"
+        "  --flight NAME flight recorders: rings that run over their oldest records. They are\n"
+        "                paused and saved, as with --save, when SIGUSR1, SIGINT or SIGTERM\n"
+        "                comes, when PROGRAM ends, after --seconds if they are given, or by\n"
+        "                --late. PROGRAM runs on after SIGUSR1 and --late\n"
+        "  --late MS     with --flight: when a step of the recorder's own, every 5 ms, comes\n"
+        "                more than MS late\n"
         "  --help        this\n"
         "Exit status: 0 done; 1 something failed; 2 wrong arguments; 3 the kernel does\n"
         "not allow perf events.\n",
@@ -437,6 +520,7 @@ static void usage(FILE *out)
 static bool take_option(struct options *o, int letter)
 {
     unsigned long long n;
+    double number;
     switch (letter) {
     case 's':
         return decimal_argument(optarg, "--seconds", 86400, &o->want.seconds);
@@ -464,7 +548,18 @@ static bool take_option(struct options *o, int letter)
         o->want.edition = (uint32_t)n;
         return true;
     case 'w':
+    case 'f':
+        if (o->save != NULL) {
+            complain("one of --save and --flight is wanted, once");
+            return false;
+        }
         o->save = optarg;
+        o->want.backward = letter == 'f';
+        return true;
+    case 'l':
+        if (!decimal_argument(optarg, "--late", 3600000, &number))
+            return false;
+        o->want.late = (uint64_t)(number * 1e6);
         return true;
     case 't':
         if (strcmp(optarg, "-") == 0)
@@ -493,7 +588,8 @@ static bool read_options(struct options *o, int argc, char **argv, bool *help)
         { "seconds", 1, NULL, 's' }, { "budget", 1, NULL, 'b' }, { "pages", 1, NULL, 'p' }, { "cpu", 1, NULL, 'c' },
         { "clock", 0, NULL, 'k' }, { "branch", 1, NULL, 'r' }, { "events", 1, NULL, 'v' }, { "edition", 1, NULL, 'e' },
         { "save", 1, NULL, 'w' }, { "trace", 1, NULL, 'x' }, { "again", 0, NULL, 'g' }, { "report", 1, NULL, 'o' }, { "settings", 1, NULL, 't' },
-        { "help", 0, NULL, 'h' }, { NULL, 0, NULL, 0 },
+        { "flight", 1, NULL, 'f' },
+        { "late", 1, NULL, 'l' }, { "help", 0, NULL, 'h' }, { NULL, 0, NULL, 0 },
     };
     int letter;
     optind = 0; /* a program of several commands has looked at its own arguments before */
@@ -506,7 +602,15 @@ static bool read_options(struct options *o, int argc, char **argv, bool *help)
     if (!kept_events_go(&o->want))
         return false;
     if (o->report != 0 && (o->save != NULL || o->again)) {
-        complain("--report goes with neither --save nor --again: each of the two readers drains by its own tail");
+        complain("--report goes with none of --save, --flight and --again: each of the two readers drains by its own tail");
+        return false;
+    }
+    if (o->want.backward && o->again) {
+        complain("--again goes with drains, and a backward ring is not drained");
+        return false;
+    }
+    if (o->want.late != 0 && !o->want.backward) {
+        complain("--late goes with --flight: what shall be paused?");
         return false;
     }
     if (o->trace != NULL && (o->save != NULL || o->report != 0)) {
@@ -514,7 +618,7 @@ static bool read_options(struct options *o, int argc, char **argv, bool *help)
         return false;
     }
     o->want.program = optind < argc ? argv + optind : NULL;
-    if (o->want.seconds == 0 && o->want.program == NULL)
+    if (o->want.seconds == 0 && o->want.program == NULL && !o->want.backward)
         o->want.seconds = 2;
     return true;
 }
@@ -591,11 +695,15 @@ static int control(struct controller *c)
         return STATUS_FAILED;
     progress_begin();
     status = live_start(&c->live);
-    if (status == STATUS_DONE)
-        live_record(&c->live, look, c);
+    enum live_end end = status == STATUS_DONE ? live_record(&c->live, look, c) : LIVE_SIGNAL;
     int stopped = live_stop(&c->live);
     if (status != STATUS_DONE || stopped != STATUS_DONE)
         return status != STATUS_DONE ? status : stopped;
+    if (c->options.want.backward) {
+        status = land(c, end);
+        summary(c);
+        return status;
+    }
     if (c->options.report != 0) {
         serve_the_rest(c);
         print_readers(c);

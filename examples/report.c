@@ -191,9 +191,21 @@ static void print_table(const struct page *p)
 
 /* ---- the rings ---- */
 
+/* How far back it reaches, from the last record of all rings. */
+static void print_flight(const struct page *p, const struct source *s)
+{
+    char text[200], ms[MS_ROOM];
+    const char *before = s->round ? "what came before is overwritten" : "it has not gone round";
+    if (s->any_time)
+        snprintf(text, sizeof text, "a flight recorder: the last %s ms; %s", ms_in_words(ms, p->story->last_time - s->first_time), before);
+    else
+        snprintf(text, sizeof text, "a flight recorder; %s", before);
+    print_sentence(p->out, p->columns, 2, text);
+}
+
 static void print_source(const struct page *p, const struct source *s)
 {
-    char text[200], events[32] = "";
+    char text[200], events[48] = "";
     if (s->table.count != 0)
         snprintf(events, sizeof events, ", a table of %zu %s", s->table.count, plural(s->table.count, "event", "events"));
     snprintf(text, sizeof text, "%s: ring of %zu %s, edition %u%s", s->label, s->length, plural(s->length, "byte", "bytes"), s->attributes.edition, events);
@@ -207,7 +219,9 @@ static void print_source(const struct page *p, const struct source *s)
             plural(s->stale, "name", "names"), plural(s->stale, "its", "their"));
         print_sentence(p->out, p->columns, 2, text);
     }
-    if (s->stop != OLLSKUVAN_STOP_NOTHING) {
+    if (s->backward)
+        print_flight(p, s);
+    if (!source_is_whole(s)) {
         fprintf(p->out, "  NOT READ TO ITS END: stop %u at tail %llu\n", s->stop, (unsigned long long)s->stop_tail);
         fprintf(p->out, "  (%s)\n", ollskuvan_stop_text(s->stop));
     }

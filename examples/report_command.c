@@ -15,6 +15,7 @@
 #include "arguments.h"
 #include "commands.h"
 #include "events.h"
+#include "flight.h"
 #include "live.h"
 #include "messages.h"
 #include "names.h"
@@ -42,7 +43,8 @@ static void usage(FILE *out)
         "usage: %s [OPTION..] IMAGE..\n"
         "       %s [OPTION..] --live [-- PROGRAM ARG..]\n"
         "Why a thread ran late: from saved rings of one recording ('-': standard\n"
-        "input), or recorded now. X.table beside X.img is its table of events.\n"
+        "input), or recorded now. X.table beside X.img is its table of events. Rings of\n"
+        "record --flight are read from the oldest record to the newest.\n"
         "  --watch W     the thread: its number or its name (else the one that waited\n"
         "                longest)\n"
         "  --period MS   how often it shall run: late is what comes after that (with\n"
@@ -89,8 +91,12 @@ static int tell_image(struct story *story, const char *path)
     const char *slash = strrchr(path, '/');
     unsigned source = story_add_source(story, slash != NULL ? slash + 1 : path, &image.attributes, image.length);
     story->sources[source].table = table;
-    story_take(story, source, image.bytes, image.head, image.tail);
-    story->sources[source].full = ring_is_full(image.length, image.head, image.tail);
+    if (ring_is_backward(image.head, image.tail)) {
+        story_take_back(story, source, image.bytes, image.head);
+    } else {
+        story_take(story, source, image.bytes, image.head, image.tail);
+        story->sources[source].full = ring_is_full(image.length, image.head, image.tail);
+    }
     free(image.bytes);
     return STATUS_DONE;
 }

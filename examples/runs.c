@@ -41,10 +41,16 @@ static void merge_gaps(struct story *story)
     story->gap_count = kept;
 }
 
-/* Whether what happened on it after its last record is not known. */
+/* Whether what happened on it after its last record is not known. A backward ring is read from its end. */
 static bool ends_unknown(const struct source *s)
 {
-    return s->stop != OLLSKUVAN_STOP_NOTHING || s->full || s->cut;
+    return (s->stop != OLLSKUVAN_STOP_NOTHING && !s->backward) || s->full || s->cut;
+}
+
+/* Whether what happened on it before its first record is not known, while another ring may tell of that time. */
+static bool begins_unknown(const struct source *s)
+{
+    return s->backward && s->round && s->any_time;
 }
 
 static void add_gaps_of_rings(struct story *story)
@@ -53,6 +59,8 @@ static void add_gaps_of_rings(struct story *story)
         const struct source *s = &story->sources[i];
         if (ends_unknown(s))
             add_gap(story, s->last_time, UINT64_MAX);
+        if (begins_unknown(s))
+            add_gap(story, 0, s->first_time);
         if (!s->any_time && (s->switches != 0 || s->lost != 0)) /* it may tell of anyone, at any time */
             add_gap(story, 0, UINT64_MAX);
     }

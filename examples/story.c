@@ -4,6 +4,7 @@
 #include <stdlib.h>
 #include <string.h>
 
+#include "flight.h"
 #include "memory.h"
 #include "messages.h"
 
@@ -68,10 +69,15 @@ unsigned story_add_source(struct story *story, const char *label, const struct r
     return (unsigned)story->source_count++;
 }
 
+bool source_is_whole(const struct source *source)
+{
+    return source->stop == OLLSKUVAN_STOP_NOTHING || (source->backward && flight_is_whole(source->stop));
+}
+
 bool story_is_whole(const struct story *story)
 {
     for (size_t i = 0; i < story->source_count; i++)
-        if (story->sources[i].stop != OLLSKUVAN_STOP_NOTHING)
+        if (!source_is_whole(&story->sources[i]))
             return false;
     return !story->cut;
 }

@@ -101,7 +101,9 @@ struct source {
     size_t length;
     uint64_t records, refused, bytes, lost, switches;
     uint64_t stale;       /* records that have stale bytes after their name */
-    uint32_t stop;        /* of the drain that did not reach the head, else of the last one */
+    bool backward;        /* a flight recorder's: its records were written from the newest on */
+    bool round;           /* backward: what came before its first record is not there */
+    uint32_t stop;        /* of the drain that did not reach the head, else of the last one; backward: of the walk */
     uint64_t stop_tail;
     bool full;            /* what came after its last record is not known */
     bool whole_cpu;       /* its switches are those of a cpu, not of a thread */
@@ -153,6 +155,12 @@ unsigned story_add_source(struct story *story, const char *label, const struct r
 /* Takes all records from tail to head. Returns the new tail; the source holds
  * why it stopped. */
 uint64_t story_take(struct story *story, unsigned source, const uint8_t *ring, uint64_t head, uint64_t tail);
+
+/* Takes all records of a backward ring, the oldest first. */
+void story_take_back(struct story *story, unsigned source, const uint8_t *ring, uint64_t head);
+
+/* Whether the ring was read as far as there are records. */
+bool source_is_whole(const struct source *source);
 
 /* Names that are known from elsewhere. */
 void story_names(struct story *story, const struct names *names);

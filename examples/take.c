@@ -1,10 +1,12 @@
 /*
  * Records to events.
  */
+#include <stdlib.h>
 #include <string.h>
 
 #include "bytes.h"
 #include "events.h"
+#include "flight.h"
 #include "memory.h"
 #include "messages.h"
 #include "story.h"
@@ -342,4 +344,25 @@ uint64_t story_take(struct story *story, unsigned number, const uint8_t *ring, u
         add_event(&r, number, one.answer);
         tail = one.tail;
     }
+}
+
+/* From the journal's last entry, the oldest record, to its first. */
+void story_take_back(struct story *story, unsigned number, const uint8_t *ring, uint64_t head)
+{
+    struct source *source = &story->sources[number];
+    struct reading r = { .story = story };
+    struct flight flight = flight_walk(&source->attributes, &source->table, ring, source->length, head);
+    for (uint64_t i = 0; i < flight.walked.taken; i++) {
+        uint64_t start = little(flight_entry(&flight, i) + OLLSKUVAN_JOURNAL_TAIL, 8);
+        struct ollskuvan_one one = read_one(&r, source, ring, flight.end, start);
+        r.record = (one.in_scratch != 0 ? story->scratch : ring) + one.place;
+        r.size = (size_t)one.size;
+        add_event(&r, number, one.answer);
+    }
+    source = &story->sources[number];
+    source->backward = true;
+    source->round = flight.round;
+    source->stop = flight.walked.stop;
+    source->stop_tail = flight.end;
+    free(flight.journal);
 }

@@ -78,6 +78,23 @@ for image in rings/events/*.img; do
   grep -q 'a table of 4 events$' "$out/$name.txt" || wrong "$name: read without its table"
   grep -q ', 0 refused, ' "$out/$name.txt" || wrong "$name: records of an event are refused"
 done
+# backward rings: from the oldest record to the newest, as far back as they reach. Those of one thread that only sleeps have nobody
+# who waited, but somebody to watch
+for image in rings/backward/*.img; do
+  name=backward-$(basename "$image" .img)
+  case $name in
+    *-tasks) try "$name" 1 "$image" ;;
+    *) try "$name" 0 "$image" ;;
+  esac
+  grep -q '^  a flight recorder: the last [0-9.]* ms; ' "$out/$name.txt" || wrong "$name: not read as a backward ring"
+  grep -q ', 0 refused, ' "$out/$name.txt" || wrong "$name: records are refused"
+  awk '/^times are/ { on = 1; next } on && $1 ~ /^[0-9]+\.[0-9]+$/ { if ($1 + 0 < before) exit 1; before = $1 + 0; n++ } END { exit n == 0 }' "$out/$name.txt" ||
+    wrong "$name: a record stands before an older one"
+done
+grep -q 'it has not gone round$' "$out/backward-short.txt" || wrong "backward-short: it has gone round"
+for name in round whole tasks events; do
+  grep -q 'what came before is overwritten$' "$out/backward-$name.txt" || wrong "backward-$name: it has not gone round"
+done
 # the same without one of the events, with no table, and with tables that are none
 alter() { # NAME SED-EXPRESSION
   cp rings/events/counters.img "$out/$1.img" && sed "$2" rings/events/counters.table >"$out/$1.table"
@@ -92,6 +109,15 @@ cp rings/events/counters.img "$out/tableless.img"
 told tableless 0 'edition 3$'
 alter fewer '5d'
 told fewer 0 ', 10 refused, '
+back() { # NAME OFFSET OCTAL-BYTES: a backward ring with other bytes
+  cp rings/backward/short.img "$out/$1.img" && printf "$3" | dd of="$out/$1.img" bs=1 seek="$2" conv=notrunc status=none
+}
+back back-size $((50 + 4096 - 80 + 6)) '\004'
+told back-size 1 'NOT READ TO ITS END: stop 6 at tail'
+back back-edition 48 '\007'
+told back-edition 1 'NOT READ TO ITS END: stop 2 at tail'
+back back-odd 0 '\001'
+told back-odd 1 'NOT READ TO ITS END: stop 4 at tail'
 alter unsound 's/0x10086/0x86/'
 told unsound 1 'NOT READ TO ITS END: stop 11 at tail'
 alter twice '5p'
@@ -205,6 +231,14 @@ refuses 1 'broken.store: no settings: refused with 51 at byte 8: 1 byte is left'
 cmp -s "$out/broken.store" "$out/broken.kept" || wrong "controller --settings writes over a store that it cannot read"
 refuses 1 'Is a directory' controller --settings "$out"
 refuses 2 "--settings: a file is wanted, not '-'" controller --settings -
+refuses 1 'No such file' controller --flight "$out/none/saved"
+refuses 2 'one of --save and --flight is wanted, once' controller --save "$out/a" --flight "$out/b"
+refuses 2 'one of --save and --flight is wanted, once' controller --flight "$out/a" --flight "$out/b"
+refuses 2 '--late goes with --flight' controller --late 5
+refuses 2 '--late goes with --flight' controller --late 5 --save "$out/a"
+refuses 2 '--late: more than 0' controller --late 0 --flight "$out/a"
+refuses 2 '--again goes with drains' controller --again --flight "$out/a"
+refuses 2 '--report goes with none of --save, --flight and --again' controller --report 4 --flight "$out/a"
 "$late" --help | grep -q '^usage: late ' || wrong "late --help"
 (exec -a 'x/two words' "$late" --help) | grep -q '^usage: two words ' || wrong "the usage does not take its name from argv[0]"
 

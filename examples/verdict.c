@@ -458,7 +458,7 @@ enum { CAUTIONS_SHOWN = 3 };
 
 static void say_of_ring(struct verdict *v, const struct source *s)
 {
-    if (s->stop != OLLSKUVAN_STOP_NOTHING)
+    if (!source_is_whole(s))
         say(v, "caution: %s was not read to its end: %s", s->label, ollskuvan_stop_text(s->stop));
     else if (s->full)
         say(v, "caution: %s is full: what came after its last record is not known", s->label);
@@ -471,7 +471,7 @@ static void say_of_rings(struct verdict *v, const struct story *story)
     size_t count = 0;
     for (size_t i = 0; i < story->source_count; i++) {
         const struct source *s = &story->sources[i];
-        bool faulty = s->stop != OLLSKUVAN_STOP_NOTHING || s->full || s->alone_in_time;
+        bool faulty = !source_is_whole(s) || s->full || s->alone_in_time;
         if (faulty && ++count <= CAUTIONS_SHOWN)
             say_of_ring(v, s);
     }

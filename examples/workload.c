@@ -7,14 +7,19 @@
  *   workload moved FACTS    a heater loses one cpu to a backup and is moved to another 40 ms later, where an innocent
  *                           program runs all the time
  *   workload periodic FACTS a heater that sleeps until its next step each time, every 20 ms; one step a backup delays
+ *   workload firing FACTS   a heater with steps every 10 ms that sends SIGUSR1 to its parent, a flight recorder, when a
+ *                           backup has delayed one of them, and goes on
+ *   workload stalled FACTS  a backup that takes its parent's cpu for 120 ms: the parent runs on one cpu alone
  *
- * moved and periodic end with 3 where they may not have a rank, or there is one cpu alone.
+ * All but known and kiln end with 3 where they may not have a rank, or there is one cpu alone. What has a rank ends by
+ * the clock.
  */
 #define _GNU_SOURCE
 #include <errno.h>
 #include <fcntl.h>
 #include <pthread.h>
 #include <sched.h>
+#include <signal.h>
 #include <stdarg.h>
 #include <stdbool.h>
 #include <stdint.h>
@@ -439,6 +444,57 @@ static int periodic(void)
     return 0;
 }
 
+/* Once one of its steps comes more than 15 ms late it asks for the flight recorder's rings. */
+static void fire(uint64_t start, uint64_t period)
+{
+    bool asked = false;
+    for (unsigned step = 0; step < STEPS; step++) {
+        uint64_t due = start + step * period;
+        sleep_until(due);
+        uint64_t now = now_ns();
+        if (!asked && now - due > 15 * MS) {
+            asked = true;
+            if (kill(getppid(), SIGUSR1) != 0)
+                die("kill");
+            fprintf(facts, "asked %llu late %llu\n", (unsigned long long)now, (unsigned long long)(now - due));
+        }
+        work(MS);
+    }
+    fprintf(facts, "heater %d ended %llu\n", getpid(), (unsigned long long)now_ns());
+    fflush(facts);
+}
+
+static int firing(void)
+{
+    const uint64_t period = 10 * MS;
+    int cpus[2];
+    if (!may_have_places(cpus, 50))
+        return NOT_HERE;
+    const uint64_t start = now_ns() + 10 * MS, due = start + DELAYED * period;
+    pid_t backup = runner("backup", cpus[1], 60, due - 2 * MS, due + 30 * MS);
+    call_me("heater");
+    fire(start, period);
+    wait_for(backup);
+    return 0;
+}
+
+/* The backup is on the cpu that this program, and so its parent, has to itself. */
+static int stalled(void)
+{
+    const uint64_t start = now_ns() + 200 * MS;
+    int cpu = sched_getcpu();
+    if (!has_place(0, cpu, 50)) {
+        fprintf(stderr, "workload: it needs the right to a rank\n");
+        return NOT_HERE;
+    }
+    pid_t backup = runner("backup", cpu, 60, start, start + 120 * MS);
+    call_me("firing");
+    wait_for(backup);
+    sleep_until(start + 400 * MS);
+    fprintf(facts, "cpu %d ended %llu\n", cpu, (unsigned long long)now_ns());
+    return 0;
+}
+
 static int with_facts(const char *path, int (*act)(void))
 {
     facts = fopen(path, "w");
@@ -460,6 +516,10 @@ int main(int argc, char **argv)
         return with_facts(argv[2], moved);
     if (argc == 3 && strcmp(argv[1], "periodic") == 0)
         return with_facts(argv[2], periodic);
-    fprintf(stderr, "usage: workload known FACTS | workload kiln | workload moved FACTS | workload periodic FACTS\n");
+    if (argc == 3 && strcmp(argv[1], "firing") == 0)
+        return with_facts(argv[2], firing);
+    if (argc == 3 && strcmp(argv[1], "stalled") == 0)
+        return with_facts(argv[2], stalled);
+    fprintf(stderr, "usage: workload known FACTS | workload kiln | workload moved|periodic|firing|stalled FACTS\n");
     return 2;
 }

@@ -122,10 +122,11 @@ extern "C" {
  *
  * Stops: the drain ends (read_one takes nothing), and tail, scratch and journal
  * are as they stood before that record. Tested at every record in this order:
- * 1, 2, 4, 5, 0, 8, 9, 6, 7, 3; with a table of events 11 stands after 5.
+ * 1, 2, 4, 5, 0, 8, 9, 6, 7, 3; with a table of events 11 stands after 5. The
+ * walk of a backward ring has an order of its own: 1, 2, 5, 11, 0, 6, 13, 8, 9, 3.
  */
 #define OLLSKUVAN_OK 0u                  /* a record: accepted; a copy or a writing: done */
-#define OLLSKUVAN_STOP_NOTHING 0u        /* head equals tail: nothing to take */
+#define OLLSKUVAN_STOP_NOTHING 0u        /* head equals tail: nothing to take; walk: a size of 0, or the whole length is walked */
 #define OLLSKUVAN_STOP_RING_LENGTH 1u    /* the ring's length is not allowed */
 #define OLLSKUVAN_STOP_EDITION 2u        /* the edition is not 1, 2, 3 or 4 */
 #define OLLSKUVAN_STOP_SCRATCH 3u        /* the record crosses the ring's end and the scratch is shorter than it */
@@ -137,6 +138,7 @@ extern "C" {
 #define OLLSKUVAN_STOP_JOURNAL 9u        /* fewer than 16 journal bytes are left */
 /* 10 is never used again. It was kept for a header that crosses the ring's end, which cannot be once 1 and 5 pass. */
 #define OLLSKUVAN_STOP_TABLE 11u         /* the table of events is not allowed */
+#define OLLSKUVAN_STOP_OVERWRITTEN 13u   /* walk: the record's size runs past the ring's length: its end was overwritten */
 
 /* The same numbers as answers of check, read and write, and of the store's two calls, where nothing stops. */
 #define OLLSKUVAN_REFUSED_RING_LENGTH 1u /* write_store: the ring's length is not allowed */
@@ -894,13 +896,75 @@ struct ollskuvan_replayed ollskuvan_replay(const uint8_t *trace, size_t trace_le
     uint8_t *journal, size_t journal_len);
 
 /* ------------------------------------------------------------------------
+ * The backward ring: a flight recorder.
+ *
+ * An event that is opened with write_backward, and mapped for reading alone,
+ * writes its records from high addresses to low ones and runs over its oldest
+ * ones for ever: nobody reads while it records. To look at it the writing is
+ * stopped first (ioctl PERF_EVENT_IOC_PAUSE_OUTPUT with 1 on the event whose ring
+ * it is), then data_head is read, behind it your own read barrier; data_tail is
+ * never written. All events of the ring must have write_backward set.
+ */
+
+struct ollskuvan_walked {
+    uint64_t taken; /* records taken: the number of journal entries written */
+    uint64_t bytes; /* bytes walked: the sum of the records' sizes, at most ring_len */
+    uint32_t stop;  /* why it ended: OLLSKUVAN_STOP_... */
+};
+
+/*
+ * ollskuvan_walk_back takes the records of a backward ring from the newest, which
+ * starts at head, to older ones, which follow upward; at most budget of them, over
+ * at most one ring length. head is data_head as the kernel keeps it: it begins at 0
+ * and falls, so that it soon is near 2^64. It is not reduced by the ring's length.
+ *
+ * At every record the stops are tested in the order 1, 2, 5 (head alone), 0, 6, 13,
+ * 8, 9, 3; the first that holds ends the walk and is reported as stop. 4 and 7 do
+ * not occur.
+ *   0 has two meanings. bytes equals ring_len: the whole length is walked, and the
+ *      ring has no further record. Else a header of size 0 follows, whatever its
+ *      other bytes are: nothing was written there yet.
+ *   6: the size is not 0, and below 8 or no multiple of 8.
+ *   13: the bytes walked plus the size pass ring_len. The end of this record, the
+ *      oldest, was overwritten by the newest ones: in a ring that has gone round
+ *      this is the usual end, and all that can be read was taken.
+ * So 0, 6 and 13 are told even with the budget used up or the journal full.
+ *
+ * A record taken is shown, copied and checked as ollskuvan_drain does it, and goes
+ * to the journal in the same way. The entry's tail count is where the record
+ * starts: head plus the bytes walked before it, wrapping. No tail moves. Afterwards
+ * ring, journal and scratch are as after a drain; at most one record crosses the
+ * ring's end. A scratch as long as the ring, or of OLLSKUVAN_RECORD_MAX bytes, never
+ * gives stop 3, a budget of ring_len / 8 never 8, a journal of 2 * ring_len bytes
+ * never 9.
+ *
+ * From an entry to its record: ollskuvan_read_one with head plus walked.bytes as the
+ * head, and the entry's own tail count as the tail. The journal has the newest
+ * record first: read its entries from the last one to have the oldest first.
+ */
+struct ollskuvan_walked ollskuvan_walk_back(const uint8_t *ring, size_t ring_len, uint64_t head,
+    uint64_t sample_type, uint64_t read_format, uint32_t sample_id_all, uint64_t user_mask, uint64_t interrupt_mask,
+    uint64_t branch_sample_type, uint32_t edition, uint64_t budget, uint8_t *scratch, size_t scratch_len,
+    uint8_t *journal, size_t journal_len);
+
+/*
+ * ollskuvan_walk_back_events is ollskuvan_walk_back with a table of events. Its
+ * stops are tested in the order 1, 2, 5, 11, 0, 6, 13, 8, 9, 3: a table that is not
+ * allowed is 11 even where the ring is empty. Records are answered as by
+ * ollskuvan_drain_events, and read with ollskuvan_read_one_events.
+ */
+struct ollskuvan_walked ollskuvan_walk_back_events(const uint8_t *ring, size_t ring_len, uint64_t head,
+    const struct ollskuvan_event *events, size_t event_count, uint32_t edition, uint64_t budget,
+    uint8_t *scratch, size_t scratch_len, uint8_t *journal, size_t journal_len);
+
+/* ------------------------------------------------------------------------
  * The numbers in words, for messages. These four are plain C and stand in
  * libollskuvan_words.a; a program that does not use them links libollskuvan.a
  * alone. None gives a null pointer, and what they give is never freed.
  */
 
-/* Why a drain stopped; the answer to a record, a name or a value. They differ
- * for 0, 6 and 7. "unknown answer" for a number that is not used. */
+/* Why a drain or a walk stopped; the answer to a record, a name or a value. They
+ * differ for 0, 6 and 7. "unknown answer" for a number that is not used. */
 const char *ollskuvan_stop_text(uint32_t stop);
 const char *ollskuvan_refusal_text(uint32_t refusal);
 

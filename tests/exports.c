@@ -2,7 +2,7 @@
  * Calls every export of libollskuvan.a from C, at the edges: empty slices, null
  * with length 0, edition 257, budget 0, journals of 15 and 16 bytes, scratch one
  * byte short, buffers one byte short, values one word short, tables of 0, 32 and 33
- * events, traces that end in the middle.
+ * events, traces that end in the middle, backward rings that have gone round and that have not.
  *
  * With WITHOUT_VALUES defined, ollskuvan_read, ollskuvan_read_one and ollskuvan_write are left out.
  *
@@ -1376,6 +1376,166 @@ static void test_replay(void)
     rooms = replay_journal = NULL;
 }
 
+/* ---- the backward ring ---- */
+
+/* A walk with empty attributes, in edition 3. */
+static struct ollskuvan_walked walk(const uint8_t *ring, size_t length, uint64_t head, uint64_t budget, uint8_t *scratch,
+    size_t scratch_len, uint8_t *journal, size_t journal_len)
+{
+    return ollskuvan_walk_back(ring, length, head, NONE, 3, budget, scratch, scratch_len, journal, journal_len);
+}
+
+static void walked(int line, struct ollskuvan_walked w, uint64_t taken, uint64_t bytes, uint32_t stop)
+{
+    is(line, "records of the walk", w.taken, taken);
+    is(line, "bytes of the walk", w.bytes, bytes);
+    is(line, "the end of the walk", w.stop, stop);
+}
+#define WALKED(w, taken, bytes, stop) walked(__LINE__, w, taken, bytes, stop)
+
+/* Bytes at a count of a ring of 64. */
+static void lay_at(uint8_t *ring, uint64_t count, const uint8_t *bytes, size_t n)
+{
+    size_t i;
+    for (i = 0; i < n; i++)
+        ring[(count + i) % 64] = bytes[i];
+}
+
+/* One that has not gone round: LOST at 2^64 - 32, a switch at 2^64 - 8, zeros from 0 on. */
+static void test_walk_short(void)
+{
+    uint8_t *ring = block(64), *journal = block(48), *before = block(64);
+    const uint64_t head = UINT64_MAX - 31; /* 2^64 - 32 */
+
+    memset(ring, 0, 64);
+    lay_at(ring, head, LOST, 24);
+    lay_at(ring, head + 24, SWITCH, 8);
+    memcpy(before, ring, 64);
+    WALKED(walk(ring, 64, head, 9, NULL, 0, journal, 48), 2, 32, OLLSKUVAN_STOP_NOTHING);
+    OK(memcmp(ring, before, 64) == 0);
+    IS(get(journal + OLLSKUVAN_JOURNAL_LENGTH, 4), 16);
+    IS(get(journal + OLLSKUVAN_JOURNAL_KIND, 2), OLLSKUVAN_TYPE_LOST);
+    IS(get(journal + OLLSKUVAN_JOURNAL_ANSWER, 2), OLLSKUVAN_OK);
+    IS(get(journal + OLLSKUVAN_JOURNAL_TAIL, 8), head);
+    IS(get(journal + 16 + OLLSKUVAN_JOURNAL_KIND, 2), OLLSKUVAN_TYPE_SWITCH);
+    IS(get(journal + 16 + OLLSKUVAN_JOURNAL_TAIL, 8), head + 24);
+    OK(untouched(journal + 32, 16));
+    /* a size of 0 ends it with 0, whatever else stands in that header, and with the budget used up or no journal room */
+    memset(ring, 0xff, 6);
+    WALKED(walk(ring, 64, head, 2, NULL, 0, journal, 48), 2, 32, OLLSKUVAN_STOP_NOTHING);
+    WALKED(walk(ring, 64, head, 9, NULL, 0, journal, 32), 2, 32, OLLSKUVAN_STOP_NOTHING);
+    WALKED(walk(ring, 64, 0, 0, NULL, 0, NULL, 0), 0, 0, OLLSKUVAN_STOP_NOTHING);
+    /* the others in their order: 8, 9 */
+    WALKED(walk(ring, 64, head, 1, NULL, 0, journal, 31), 1, 24, OLLSKUVAN_STOP_BUDGET);
+    WALKED(walk(ring, 64, head, 2, NULL, 0, journal, 31), 1, 24, OLLSKUVAN_STOP_JOURNAL);
+    WALKED(walk(ring, 64, head, 0, NULL, 0, NULL, 0), 0, 0, OLLSKUVAN_STOP_BUDGET);
+    /* 6 before 13, 8 and 9: sizes that are not 0 */
+    put16(ring + 6, 4);
+    WALKED(walk(ring, 64, head, 2, NULL, 0, journal, 32), 2, 32, OLLSKUVAN_STOP_SIZE);
+    put16(ring + 6, 12);
+    WALKED(walk(ring, 64, head, 2, NULL, 0, journal, 32), 2, 32, OLLSKUVAN_STOP_SIZE);
+    put16(ring + 6, 65535);
+    WALKED(walk(ring, 64, head, 2, NULL, 0, journal, 32), 2, 32, OLLSKUVAN_STOP_SIZE);
+    /* 13: past the length by eight bytes; just the length is none; before 8 and 9 */
+    put16(ring + 6, 40);
+    WALKED(walk(ring, 64, head, 2, NULL, 0, journal, 32), 2, 32, OLLSKUVAN_STOP_OVERWRITTEN);
+    put16(ring + 6, 65528);
+    WALKED(walk(ring, 64, head, 0, NULL, 0, NULL, 0), 0, 0, OLLSKUVAN_STOP_BUDGET);
+    WALKED(walk(ring, 64, 0, 0, NULL, 0, NULL, 0), 0, 0, OLLSKUVAN_STOP_OVERWRITTEN);
+    put16(ring + 6, 32);
+    WALKED(walk(ring, 64, head, 2, NULL, 0, journal, 48), 2, 32, OLLSKUVAN_STOP_BUDGET);
+    WALKED(walk(ring, 64, head, 3, NULL, 0, journal, 48), 3, 64, OLLSKUVAN_STOP_NOTHING);
+    IS(get(journal + 32 + OLLSKUVAN_JOURNAL_ANSWER, 2), OLLSKUVAN_REFUSED_TYPE);
+    IS(get(journal + 32 + OLLSKUVAN_JOURNAL_TAIL, 8), 0);
+    free(ring);
+    free(journal);
+    free(before);
+}
+
+/* One that has gone round, head at place 56: a LOST across the ring's end, a COMM, and a LOST of which eight bytes are left. */
+static void test_walk_round(void)
+{
+    uint8_t *ring = block(64), *journal = block(64), *scratch = block(32);
+    const uint64_t head = UINT64_MAX - 64 * 1000 - 7; /* 2^64 - 64 * 1000 - 8 */
+
+    lay_at(ring, head, LOST, 24);
+    lay_at(ring, head + 24, COMM, 24);
+    lay_at(ring, head + 48, SWITCH, 8);
+    lay_at(ring, head + 56, LOST, 8);
+    WALKED(walk(ring, 64, head, 9, scratch, 32, journal, 64), 3, 56, OLLSKUVAN_STOP_OVERWRITTEN);
+    OK(memcmp(scratch, LOST, 24) == 0 && untouched(scratch + 24, 8));
+    IS(get(journal + 32 + OLLSKUVAN_JOURNAL_TAIL, 8), head + 48);
+    OK(untouched(journal + 48, 16));
+    /* a scratch one byte short: 3, after 8 and 9, and nothing is written */
+    memset(scratch, 0xc3, 32);
+    memset(journal, 0xc3, 64);
+    WALKED(walk(ring, 64, head, 9, scratch, 23, journal, 64), 0, 0, OLLSKUVAN_STOP_SCRATCH);
+    WALKED(walk(ring, 64, head, 0, scratch, 23, journal, 64), 0, 0, OLLSKUVAN_STOP_BUDGET);
+    WALKED(walk(ring, 64, head, 1, scratch, 23, journal, 15), 0, 0, OLLSKUVAN_STOP_JOURNAL);
+    OK(untouched(scratch, 32) && untouched(journal, 64));
+    /* its oldest record ends just at the length */
+    lay_at(ring, head + 56, SWITCH, 8);
+    WALKED(walk(ring, 64, head, 4, scratch, 24, journal, 64), 4, 64, OLLSKUVAN_STOP_NOTHING);
+    WALKED(walk(ring, 64, head, 3, scratch, 24, journal, 64), 3, 56, OLLSKUVAN_STOP_BUDGET);
+#ifndef WITHOUT_VALUES
+    /* from an entry to its record: the head is as far as the walk came */
+    {
+        uint64_t fields[OLLSKUVAN_FIELDS];
+        struct ollskuvan_one one = ollskuvan_read_one(ring, 64, head + 64, get(journal + 16 + OLLSKUVAN_JOURNAL_TAIL, 8), NONE, 3,
+            scratch, 32, fields, OLLSKUVAN_FIELDS);
+        IS(one.size, 24);
+        IS(one.in_scratch, 0);
+        IS(fields[OLLSKUVAN_TYPE], OLLSKUVAN_TYPE_COMM);
+        IS(fields[OLLSKUVAN_COMM_NAME_COUNT], 4);
+    }
+#endif
+    free(ring);
+    free(journal);
+    free(scratch);
+}
+
+/* The calls' own refusals, null with length 0, and a table. */
+static void test_walk_calls(void)
+{
+    uint8_t *ring = block(64), *journal = block(48);
+    struct ollskuvan_event *one = events(1), *two = events(2), *most = events(32), *more = events(33);
+
+    two[1] = EVENTS[1];
+    lay_events(ring); /* three records, 64 bytes */
+    WALKED(ollskuvan_walk_back(NULL, 0, 3, NONE, 257, 0, NULL, 0, NULL, 0), 0, 0, OLLSKUVAN_STOP_RING_LENGTH);
+    WALKED(ollskuvan_walk_back(ring, 63, 3, NONE, 257, 0, NULL, 0, NULL, 0), 0, 0, OLLSKUVAN_STOP_RING_LENGTH);
+    WALKED(ollskuvan_walk_back(ring, 64, 3, NONE, 257, 0, NULL, 0, NULL, 0), 0, 0, OLLSKUVAN_STOP_EDITION);
+    WALKED(ollskuvan_walk_back(ring, 64, 3, NONE, 4, 0, NULL, 0, NULL, 0), 0, 0, OLLSKUVAN_STOP_ALIGNMENT);
+    WALKED(ollskuvan_walk_back_events(NULL, 0, 3, NULL, 0, 257, 0, NULL, 0, NULL, 0), 0, 0, OLLSKUVAN_STOP_RING_LENGTH);
+    WALKED(ollskuvan_walk_back_events(ring, 64, 3, NULL, 0, 0, 0, NULL, 0, NULL, 0), 0, 0, OLLSKUVAN_STOP_EDITION);
+    WALKED(ollskuvan_walk_back_events(ring, 64, 3, NULL, 0, 4, 0, NULL, 0, NULL, 0), 0, 0, OLLSKUVAN_STOP_ALIGNMENT);
+    WALKED(ollskuvan_walk_back_events(ring, 64, 0, NULL, 0, 4, 0, NULL, 0, NULL, 0), 0, 0, OLLSKUVAN_STOP_TABLE);
+    WALKED(ollskuvan_walk_back_events(ring, 64, 0, more, 33, 4, 9, NULL, 0, journal, 48), 0, 0, OLLSKUVAN_STOP_TABLE);
+    OK(untouched(journal, 48));
+    WALKED(ollskuvan_walk_back_events(ring, 64, 0, most, 32, 4, 0, NULL, 0, NULL, 0), 0, 0, OLLSKUVAN_STOP_BUDGET);
+    most[31].identifier = most[0].identifier;
+    WALKED(ollskuvan_walk_back_events(ring, 64, 0, most, 32, 4, 0, NULL, 0, NULL, 0), 0, 0, OLLSKUVAN_STOP_TABLE);
+    one[0].sample_id_all = 0;
+    WALKED(ollskuvan_walk_back_events(ring, 64, 0, one, 1, 4, 0, NULL, 0, NULL, 0), 0, 0, OLLSKUVAN_STOP_TABLE);
+    /* each record with its event; without the second event two of the three are 26, as in a drain; edition 1 reads none */
+    WALKED(ollskuvan_walk_back_events(ring, 64, 0, two, 2, 4, 9, NULL, 0, journal, 48), 3, 64, OLLSKUVAN_STOP_NOTHING);
+    IS(answers(journal, 3), 0);
+    IS(get(journal + 32 + OLLSKUVAN_JOURNAL_TAIL, 8), 48);
+    WALKED(ollskuvan_walk_back_events(ring, 64, 0, two, 1, 4, 9, NULL, 0, journal, 48), 3, 64, OLLSKUVAN_STOP_NOTHING);
+    IS(answers(journal, 3), OLLSKUVAN_REFUSED_IDENTIFIER);
+    WALKED(ollskuvan_walk_back_events(ring, 64, 0, two, 2, 1, 9, NULL, 0, journal, 48), 3, 64, OLLSKUVAN_STOP_NOTHING);
+    IS(answers(journal, 3), 202120);
+    memset(ring, 0, 8); /* an empty ring is asked for its table first */
+    WALKED(ollskuvan_walk_back_events(ring, 64, 0, two, 2, 4, 0, NULL, 0, NULL, 0), 0, 0, OLLSKUVAN_STOP_NOTHING);
+    WALKED(ollskuvan_walk_back_events(ring, 64, 0, two, 0, 4, 0, NULL, 0, NULL, 0), 0, 0, OLLSKUVAN_STOP_TABLE);
+    free(ring);
+    free(journal);
+    free(one);
+    free(two);
+    free(most);
+    free(more);
+}
+
 int main(void)
 {
     IS(OLLSKUVAN_TRAILER_BITS, 66246);
@@ -1383,6 +1543,7 @@ int main(void)
     IS(sizeof(struct ollskuvan_drained), 32);
     IS(sizeof(struct ollskuvan_one), 40);
     IS(sizeof(struct ollskuvan_event), 56);
+    IS(sizeof(struct ollskuvan_walked), 24);
     test_drain();
     test_drain_events();
     test_find_event();
@@ -1393,6 +1554,9 @@ int main(void)
     test_dirty_names();
     test_publish();
     test_replay();
+    test_walk_short();
+    test_walk_round();
+    test_walk_calls();
 #ifndef WITHOUT_VALUES
     test_dirty_values();
     test_read_write();

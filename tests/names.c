@@ -57,7 +57,7 @@ enum kind {
     LEAST_WORDS_READ, OLDEST_EDITION, RING_SHORTEST, RING_LONGEST, RECORD_LONGEST,
     ENTRY_BYTES, ENTRY_OFFSET, ENTRY_KIND_GIVEN,
     MEANING_GIVEN, STOP_GIVEN, CHECK_GIVEN, COPY_GIVEN, WRITE_GIVEN, DIRTY_CHECK_GIVEN, DIRTY_WRITE_GIVEN,
-    EVENTS_MOST, TABLE_STOP_GIVEN, EVENT_ANSWER_GIVEN,
+    EVENTS_MOST, TABLE_STOP_GIVEN, EVENT_ANSWER_GIVEN, WALK_STOP_GIVEN,
     STORE_BYTE_WRITTEN, STORE_READ_GIVEN, STORE_WRITE_GIVEN,
     KIND_OFFERS, KIND_DRAINS, REPLAY_GIVEN
 };
@@ -108,6 +108,7 @@ struct row {
 #define DIRTY_WRITTEN(w, ...) ROW(DIRTY_WRITE_GIVEN, #w, w, NULL, __VA_ARGS__)
 #define MOST_EVENTS(w) ROW(EVENTS_MOST, #w, w, NULL, 0)
 #define TABLE_STOP(w, ...) ROW(TABLE_STOP_GIVEN, #w, w, NULL, __VA_ARGS__)
+#define WALK_STOP(w, ...) ROW(WALK_STOP_GIVEN, #w, w, NULL, __VA_ARGS__)
 #define EVENT_ANSWER(w, ...) ROW(EVENT_ANSWER_GIVEN, #w, w, NULL, __VA_ARGS__)
 #define STORE_BYTE(w, place) ROW(STORE_BYTE_WRITTEN, #w, w, NULL, place)
 #define STORE_READ(w, ...) ROW(STORE_READ_GIVEN, #w, w, NULL, __VA_ARGS__)
@@ -228,6 +229,15 @@ static uint64_t stopped(const uint64_t n[8])
     spell(ring + n[2] % 64 / 8 * 8 + 6, n[7], 2);
     return ollskuvan_drain(ring, (size_t)n[0], n[1], n[2], NONE, (uint32_t)n[3], n[4], scratch, (size_t)n[6],
         journal, (size_t)n[5]).stop;
+}
+
+/* The walk of a backward ring of zeros whose record at head has this size. */
+static uint64_t ended(uint64_t head, uint64_t size)
+{
+    uint8_t ring[64] = {0}, journal[64];
+    spell(ring + head % 64, 14, 4);
+    spell(ring + head % 64 + 6, size, 2);
+    return ollskuvan_walk_back(ring, 64, head, NONE, 3, 1, NULL, 0, journal, sizeof journal).stop;
 }
 
 /* A table of so many events, identifiers 1, 2 and so on, with sample bit 16 and sample_id_all; over a ring whose one
@@ -353,6 +363,7 @@ static uint64_t shown(const struct row *row)
     case DIRTY_CHECK_GIVEN: return checked_dirty(n[0], n[1]);
     case DIRTY_WRITE_GIVEN: return written_dirty(n[0], n[1], n[2]);
     case EVENTS_MOST: return most_events();
+    case WALK_STOP_GIVEN: return ended(n[0], n[1]);
     case TABLE_STOP_GIVEN: return answered(n[0], 14, 16, 1, buffer);
     case EVENT_ANSWER_GIVEN: return answered(1, n[0], n[1], n[2], buffer) ? 999 : (uint64_t)buffer[6];
     case STORE_BYTE_WRITTEN: return store_byte(n[0]);

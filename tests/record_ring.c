@@ -10,6 +10,9 @@
  * event a line, the words of struct ollskuvan_event. The image's own attributes
  * are then those of its first event.
  *
+ * A backward plan saves the counts that the kernel keeps: its head has fallen from
+ * 0, and its tail is 0.
+ *
  * Needs the right to open perf events (root, or a low perf_event_paranoid).
  * Only software events are used. What the records hold comes from small
  * workloads of this program alone; where stacks are recorded it runs on one of
@@ -76,7 +79,8 @@ static void open_ring(struct recording *r, pid_t pid, int cpu, size_t pages)
     if (r->fd < 0)
         die("perf_event_open");
     r->length = pages * 4096;
-    base = mmap(NULL, r->length + 4096, PROT_READ | PROT_WRITE, MAP_SHARED, r->fd, 0);
+    /* mapped for reading alone a ring is written over its oldest records */
+    base = mmap(NULL, r->length + 4096, r->attr.write_backward ? PROT_READ : PROT_READ | PROT_WRITE, MAP_SHARED, r->fd, 0);
     if (base == MAP_FAILED)
         die("mmap of the ring");
     r->page = (struct perf_event_mmap_page *)base;
@@ -736,6 +740,101 @@ static void plan_events_children(const char *out)
     save_several(&several, out);
 }
 
+/* ---- backward rings: flight recorders, which are paused and then saved ---- */
+
+static void pause_output(struct recording *r)
+{
+    if (ioctl(r->fd, PERF_EVENT_IOC_PAUSE_OUTPUT, 1))
+        die("pause");
+}
+
+/* Switches of one thread, so many naps long. */
+static void backward_switches(const char *out, uint64_t sample_type, int count)
+{
+    struct recording r;
+    software(&r.attr, PERF_COUNT_SW_DUMMY, sample_type, 1);
+    r.attr.context_switch = 1;
+    r.attr.write_backward = 1;
+    open_ring(&r, 0, -1, 1);
+    start(&r);
+    naps(count);
+    pause_output(&r);
+    stop(&r);
+    save(&r, out);
+}
+
+/* It does not go round: behind the oldest record are zeros. */
+static void plan_backward_short(const char *out)
+{
+    backward_switches(out, IDENTITY | PERF_SAMPLE_IDENTIFIER, 12);
+}
+
+/* Records of 40 bytes: the oldest is overwritten in part. */
+static void plan_backward_round(const char *out)
+{
+    backward_switches(out, IDENTITY | PERF_SAMPLE_IDENTIFIER, 200);
+}
+
+/* Records of 32 bytes: the ring holds 128 of them, and the oldest is whole. */
+static void plan_backward_whole(const char *out)
+{
+    backward_switches(out, IDENTITY, 300);
+}
+
+/* Records of many sizes, several times round. */
+static void backward_tasks_part(void)
+{
+    int i;
+    for (i = 0; i < 12; i++)
+        rename_and_fork();
+}
+
+static void plan_backward_tasks(const char *out)
+{
+    struct recording r;
+    pid_t pid = child(backward_tasks_part);
+    software(&r.attr, PERF_COUNT_SW_DUMMY, ALL_IDENTITY, 1);
+    r.attr.inherit = 1;
+    r.attr.comm = r.attr.comm_exec = r.attr.task = 1;
+    r.attr.mmap = r.attr.mmap2 = r.attr.build_id = 1;
+    r.attr.write_backward = 1;
+    open_ring(&r, pid, 0, 1);
+    start(&r);
+    let_run(pid);
+    pause_output(&r);
+    stop(&r);
+    save(&r, out);
+}
+
+static void backward_part(void)
+{
+    int i;
+    for (i = 0; i < 40; i++) {
+        deeper((unsigned)i % 9, 60000);
+        touch_pages(12);
+        naps(2);
+        if (i % 8 == 0)
+            prctl(PR_SET_NAME, i % 16 ? "kiln-1" : "kiln");
+    }
+}
+
+/* Four events of different counters, several times round. */
+static void plan_backward_events(const char *out)
+{
+    int i;
+    choose_several(&several);
+    several.attrs[2].sample_type &= ~(uint64_t)(PERF_SAMPLE_REGS_USER | PERF_SAMPLE_REGS_INTR);
+    several.attrs[2].sample_regs_user = several.attrs[2].sample_regs_intr = 0;
+    for (i = 0; i < EVENTS; i++)
+        several.attrs[i].write_backward = 1;
+    open_several(&several, 0, -1, 1);
+    switch_several(&several, PERF_EVENT_IOC_ENABLE);
+    on_own_stack(backward_part);
+    pause_output(&several.r);
+    switch_several(&several, PERF_EVENT_IOC_DISABLE);
+    save_several(&several, out);
+}
+
 static const struct {
     const char *name;
     void (*run)(const char *out);
@@ -757,6 +856,11 @@ static const struct {
     {"kernel", plan_kernel, "filters and their symbols"},
     {"events/counters", plan_events_counters, "four events of different counters in one ring, with their table"},
     {"events/children", plan_events_children, "the same of a process with children"},
+    {"backward/short", plan_backward_short, "a backward ring that has not gone round"},
+    {"backward/round", plan_backward_round, "one that has: its oldest record is overwritten in part"},
+    {"backward/whole", plan_backward_whole, "one whose oldest record is whole"},
+    {"backward/tasks", plan_backward_tasks, "names, forks, execs, exits and mappings, several times round"},
+    {"backward/events", plan_backward_events, "four events with their table, several times round"},
 };
 
 int main(int argc, char **argv)
@@ -764,7 +868,7 @@ int main(int argc, char **argv)
     size_t i, count = sizeof PLANS / sizeof *PLANS;
     if (argc == 2 && strcmp(argv[1], "list") == 0) {
         for (i = 0; i < count; i++)
-            printf("%-18s %s\n", PLANS[i].name, PLANS[i].holds);
+            printf("%-19s %s\n", PLANS[i].name, PLANS[i].holds);
         return 0;
     }
     for (i = 0; argc == 3 && i < count; i++) {

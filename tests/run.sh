@@ -7,7 +7,7 @@
 #   tests/run.sh without-values  for an archive that has no ollskuvan_read and ollskuvan_write yet
 #   tests/run.sh standin         with the independent reader in the library's place: tries the tests
 #                                themselves and says nothing about the library
-#   tests/run.sh long COUNT SEED COUNT drains, COUNT with a table and COUNT values with this seed, and nothing else
+#   tests/run.sh long COUNT SEED COUNT drains, COUNT with a table, COUNT walks and COUNT values with this seed, and nothing else
 #   tests/run.sh soak MINUTES [SEED]
 #                                random and damaged rings, records and images until the time is up, with
 #                                progress every ten seconds; stops at the first difference
@@ -100,6 +100,7 @@ if [ $mode = long ]; then
         "$out/reader" drains --count "$drains" --seed "$seed"
     part "tables of events: $drains drains and their records, seed $seed" \
         "$out/reader" tables --count "$drains" --seed "$seed"
+    part "backward rings: $drains walks, seed $seed" "$out/reader" walks --count "$drains" --seed "$seed"
     part "values: $values records, seed $seed" "$out/reader" values --count "$values" --seed "$seed"
     echo "long run: no difference"
     exit 0
@@ -135,9 +136,12 @@ part "stores of settings: $((values / 2)) made ones, seed $seed" \
     "$out/reader" stores --count $((values / 2)) --seed "$seed"
 part "replay of traces: $((values / 5)) traces, seed $seed" \
     "$out/reader" replays --count $((values / 5)) --seed "$seed"
+part "backward rings: $((drains / 4)) walks, seed $seed" \
+    "$out/reader" walks --count $((drains / 4)) --seed "$seed"
 part "what misc means" "$out/reader" meanings --count "$values" --seed "$seed"
 part "real rings" "$out/reader" rings rings
 part "real rings of several events" "$out/reader" table-rings rings/events --seed "$seed"
+part "real backward rings" "$out/reader" back-rings rings/backward --seed "$seed"
 if [ $mode != without-values ]; then
     part "each sample bit, read format, type and trailer bit" "$out/reader" bits
     part "values: $values records, seed $seed" "$out/reader" values --count "$values" --seed "$seed"

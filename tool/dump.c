@@ -7,7 +7,9 @@
 
 #include "bytes.h"
 #include "command.h"
+#include "flight.h"
 #include "image.h"
+#include "messages.h"
 #include "show.h"
 
 static bool all;
@@ -17,7 +19,8 @@ static const struct takes takes = {
     "Prints every record with its place, type, misc and size, and each of its fields by name. A record\n"
     "that is refused is printed with the refusal and its bytes. Lists show their count, their bytes, their\n"
     "place in the record, and what comes first. A name's flag is 1 where stale bytes follow its zero, which\n"
-    "are shown.\n"
+    "are shown. A ring of record --flight, which was written backward, is printed from its oldest record\n"
+    "to its newest.\n"
     "  --all   lists and bytes whole\n",
     flags, 1, 1,
 };
@@ -86,6 +89,39 @@ static int print_records(const struct image *image)
     return image_end(image, &done);
 }
 
+/* How the walk ended. */
+static int flight_end(const struct image *image, const struct flight *flight)
+{
+    const struct ollskuvan_walked *w = &flight->walked;
+    printf("stop %" PRIu32 " after %" PRIu64 " bytes: %s\n", w->stop, w->bytes,
+        w->stop != OLLSKUVAN_STOP_NOTHING ? ollskuvan_stop_text(w->stop)
+            : flight->round ? "the whole length" : "the ring has not gone round");
+    if (flight_is_whole(w->stop))
+        return STATUS_DONE;
+    complain("%s: not read to its end: stop %" PRIu32 ": %s", image->name, w->stop, ollskuvan_stop_text(w->stop));
+    return STATUS_FAILED;
+}
+
+/* A backward ring, the oldest record first. */
+static int print_flight(const struct image *image)
+{
+    const struct ring_attributes attributes = { image->sample_type, image->read_format, image->user_mask,
+        image->interrupt_mask, image->branch_sample_type, image->sample_id_all, image->edition };
+    struct flight flight = flight_walk(&attributes, &image->table, image->ring, image->length, image->head);
+    struct image walked = *image;
+    uint64_t refused = 0;
+    walked.head = flight.end;
+    print_image(image);
+    printf("written     backward: the oldest record first\n");
+    for (uint64_t i = 0; i < flight.walked.taken && !ferror(stdout); i++)
+        refused += !print_record(&walked, i, little(flight_entry(&flight, i) + OLLSKUVAN_JOURNAL_TAIL, 8));
+    int status = flight_end(image, &flight);
+    printf("%" PRIu64 " %s, %" PRIu64 " bytes, %" PRIu64 " refused\n", flight.walked.taken,
+        flight.walked.taken == 1 ? "record" : "records", flight.walked.bytes, refused);
+    free(flight.journal);
+    return status;
+}
+
 int dump_command(int argc, char **argv)
 {
     struct image image;
@@ -94,7 +130,8 @@ int dump_command(int argc, char **argv)
         return status;
     if (!image_read(&image, argv[1]))
         return STATUS_FAILED;
-    status = image_is_none(&image) ? STATUS_FAILED : print_records(&image);
+    status = image_is_none(&image) ? STATUS_FAILED
+        : ring_is_backward(image.head, image.tail) ? print_flight(&image) : print_records(&image);
     image_free(&image);
     return finished(status);
 }

@@ -28,7 +28,9 @@ static const struct {
 } notes[] = {
     { OLLSKUVAN_STOP_RING_LENGTH, "It is a power of two from 64 to 1,048,576 bytes." },
     { OLLSKUVAN_STOP_SCRATCH, "A scratch as long as the ring, or of 65,528 bytes, is long enough for any record." },
-    { OLLSKUVAN_STOP_DISTANCE, "No later call can go on: the image is damaged, or head and tail are of another ring." },
+    { OLLSKUVAN_STOP_DISTANCE,
+        "No later call can go on: the image is damaged, head and tail are of another ring, or the ring\n"
+        "    was written backward, and is walked, not drained." },
     { OLLSKUVAN_STOP_ALIGNMENT,
         "No later call can go on: the image is damaged, or head and tail are of another ring." },
     { OLLSKUVAN_STOP_SIZE, "A drain cannot go on from there: what lies between tail and head is no record." },
@@ -38,6 +40,9 @@ static const struct {
     { OLLSKUVAN_STOP_TABLE,
         "It has 1 to 32 events, no two with the same identifier, each with sample bit 16 and\n"
         "    sample_id_all." },
+    { OLLSKUVAN_STOP_OVERWRITTEN,
+        "A walk of a backward ring ends so where the ring has gone round: newer records took the place of\n"
+        "    its end. All that can be read was taken." },
     { OLLSKUVAN_REFUSED_NAME_ROOM, "The name and one zero are copied whole or not at all." },
     { OLLSKUVAN_REFUSED_TYPE, "Edition 1 knows types 1 to 9, edition 2 types 1 to 15, edition 3 types 1 to 20, edition 4 types 1 to 21." },
     { OLLSKUVAN_REFUSED_SAMPLE_TYPE,

@@ -24,7 +24,7 @@ build() { # NAME FLAGS.. FILES..: C99 with the tool's own files
   ${CC:-cc} -std=c99 -pedantic -Wall -Wextra -Werror -g -Iinclude -Iwords -Iexamples -Itool -o "$out/$name" "$@" \
     $archives || { echo "tool/test.sh: $name does not build"; exit 1; }
 }
-shared='tool/image.c tool/command.c examples/events.c examples/messages.c examples/text.c'
+shared='tool/image.c tool/command.c examples/events.c examples/flight.c examples/memory.c examples/messages.c examples/text.c'
 # what a writing of a store is made of, so that it can end or fail at each step
 steps='-Wl,--wrap=write,--wrap=fsync,--wrap=rename,--wrap=fchmod,--wrap=close'
 # shellcheck disable=SC2086
@@ -77,7 +77,7 @@ mkdir -p $out/indexed && $out/values indexed $out/indexed || wrong "the images w
 $out/values dirty $out/made || wrong "the image of dirty names"
 $out/values check >$out/values.txt || { wrong "the header's sentences on values"; head $out/values.txt; }
 tail -n 1 $out/values.txt
-$out/stack rings/*.img rings/events/*.img examples/rings/*.img $out/made/*.img $out/indexed/*.img ||
+$out/stack rings/*.img rings/events/*.img rings/backward/*.img examples/rings/*.img $out/made/*.img $out/indexed/*.img ||
   wrong "a call uses more stack than the header says"
 
 # ---- every ring: dump beside ringdump, from a file and from standard input
@@ -146,8 +146,39 @@ cp rings/events/counters.img $out/spoilt.img && sed 's/^/x/' rings/events/counte
 $tool dump $out/spoilt.img >/dev/null 2>$out/spoilt.err && wrong "a table that is none"
 grep -q 'spoilt.img: no table of events: line 1' $out/spoilt.err || wrong "a table that is none is not named"
 
+# ---- backward rings: the oldest record first, as many as the walk takes, each as one of its event; a drain takes none of them
+ends() { # NAME STOP WORDS
+  grep -q "^stop $2 after [0-9]* bytes: $3\$" "$out/backward-$1.txt" || wrong "dump of backward/$1: $(grep '^stop' "$out/backward-$1.txt")"
+}
+for image in rings/backward/*.img; do
+  name=backward-$(basename "$image" .img)
+  $tool dump "$image" >"$out/$name.txt" || wrong "dump $image failed"
+  grep -q '^written     backward: the oldest record first$' "$out/$name.txt" || wrong "dump $image: not as a backward ring"
+  grep -q ' bytes, 0 refused$' "$out/$name.txt" || wrong "dump $image: records are refused"
+  awk '/^record / { sample = /: SAMPLE,/ } /^    trailer time / { print $3 } sample && /^    time / { print $2 }' "$out/$name.txt" >$out/times.txt
+  [ -s $out/times.txt ] && sort -n -c $out/times.txt 2>/dev/null || wrong "dump $image: a record stands before an older one"
+  $tool journal "$image" >$out/journal.txt 2>/dev/null && wrong "journal $image: exit 0"
+  cmp -s $out/journal.txt <(echo 'stop 4 tail 0') && target/bin/ringdump <"$image" | cmp -s - $out/journal.txt ||
+    wrong "journal $image: a backward ring is drained"
+  tried=$((tried + 1))
+done
+ends short 0 'the ring has not gone round'
+ends round 13 'the oldest record is overwritten in part'
+ends whole 0 'the whole length'
+ends events 13 'the oldest record is overwritten in part'
+grep -q '^edition     3, a table of 4 events$' $out/backward-events.txt || wrong "dump of backward/events: without its table"
+# damaged: the size of the oldest record but one says 4; a head that is odd is no backward ring's
+byte_at() { printf "$3" | dd of="$out/$1.img" bs=1 seek="$2" conv=notrunc status=none; }
+cp rings/backward/short.img $out/back-size.img && byte_at back-size $((50 + 4096 - 80 + 6)) '\004'
+$tool dump $out/back-size.img >$out/back-size.txt 2>$out/back-size.err && wrong "a backward ring with a size of 4: exit 0"
+grep -q '^stop 6 after 880 bytes: ' $out/back-size.txt && grep -q 'not read to its end: stop 6' $out/back-size.err ||
+  wrong "a backward ring with a size of 4"
+cp rings/backward/short.img $out/back-odd.img && byte_at back-odd 0 '\001'
+$tool dump $out/back-odd.img >$out/back-odd.txt 2>&1 && wrong "a backward ring with an odd head: exit 0"
+grep -q 'stop 4 at tail 0' $out/back-odd.txt || wrong "a backward ring with an odd head"
+
 # ---- the dumps that are kept
-for name in tasks kernel every-type every-type-plain every-type-edition-2 every-type-edition-3 lost-counts indexed indexed-edition-2 dirty-names; do
+for name in backward-short tasks kernel every-type every-type-plain every-type-edition-2 every-type-edition-3 lost-counts indexed indexed-edition-2 dirty-names; do
   if [ "${1:-}" = --write ]; then
     cp "$out/$name.txt" "tool/expected/$name.txt"
   else
@@ -492,6 +523,18 @@ case $? in
   *) wrong "record failed: $(tail -n 1 $out/record.txt)" ;;
 esac
 
+$tool record --seconds 0.2 --pages 1 --flight $out/flight >$out/record.txt 2>&1
+case $? in
+  0)
+    for image in $out/flight-cpu*.img; do
+      $tool dump "$image" >$out/live.txt || wrong "dump of $image, a flight recorder's"
+      grep -q '^written     backward' $out/live.txt && grep -q ' bytes, 0 refused$' $out/live.txt || wrong "dump of $image, a flight recorder's"
+    done
+    ;;
+  3) ;;
+  *) wrong "record --flight failed: $(tail -n 1 $out/record.txt)" ;;
+esac
+
 $tool record --seconds 0.2 --events page-faults,cpu-clock --save $out/several >$out/record.txt 2>&1
 case $? in
   0)
@@ -569,7 +612,7 @@ if [ -x target/examples/decode ]; then
 fi
 
 # ---- damaged images under the sanitizers
-$out/damage ${DAMAGED:-1000} $out/damaged.img rings/*.img examples/rings/*.img $out/made/*.img $out/indexed/*.img 2>$out/damage.txt ||
+$out/damage ${DAMAGED:-1000} $out/damaged.img rings/*.img rings/backward/*.img examples/rings/*.img $out/made/*.img $out/indexed/*.img 2>$out/damage.txt ||
   { wrong "dump or journal of a damaged image: $(head -n 20 $out/damage.txt)"; }
 said=$(grep -E 'runtime error|Sanitizer' $out/damage.txt | head -n 3)
 [ -z "$said" ] || wrong "the sanitizers: $said"

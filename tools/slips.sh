@@ -45,7 +45,7 @@ apply() { # CRATE SLIP
 
 of_batch() { grep -lx "batch: $1" tools/slips/*.edit; }
 value() { sed -n "s/^$1: //p" "$2"; }
-theorems() { sed -n 's/^.*tables\/specs\/Compared\.antt:[0-9:]*: error: `\([^`]*\)`.*/\1/p' "$1" | sort -u | tr '\n' ' '; }
+theorems() { sed -n 's/^.*tables\/specs\/[A-Z][a-z]*\.antt:[0-9:]*: error: `\([^`]*\)`.*/\1/p' "$1" | sort -u | tr '\n' ' '; }
 
 # meaning itself must still be accepted, and the named theorem refused
 seen() { # LOG SLIP

@@ -26,6 +26,7 @@ const struct ollskuvan_answer ollskuvan_answers[] = {
     { OLLSKUVAN_STOP_JOURNAL, "the journal is full", NULL },
     /* 10 has no text: it is never used again */
     { OLLSKUVAN_STOP_TABLE, "the table of events is not allowed", NULL },
+    { OLLSKUVAN_STOP_OVERWRITTEN, "the oldest record is overwritten in part", NULL },
     { OLLSKUVAN_REFUSED_NAME_ROOM, NULL, "the name is too long for its buffer" },
     { OLLSKUVAN_REFUSED_TYPE, NULL, "a record type that the edition doesn't know" },
     { OLLSKUVAN_REFUSED_SAMPLE_TYPE, NULL, "a sample bit that the edition doesn't know" },

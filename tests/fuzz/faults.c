@@ -27,6 +27,10 @@ struct ollskuvan_drained reader_drain_events(const uint8_t *, size_t, uint64_t, 
 size_t reader_find_event(const struct ollskuvan_event *, size_t, uint64_t);
 struct ollskuvan_one reader_read_one_events(const uint8_t *, size_t, uint64_t, uint64_t, const struct ollskuvan_event *,
     size_t, uint32_t, uint8_t *, size_t, uint64_t *, size_t);
+struct ollskuvan_walked reader_walk_back(const uint8_t *, size_t, uint64_t, uint64_t, uint64_t, uint32_t, uint64_t,
+    uint64_t, uint64_t, uint32_t, uint64_t, uint8_t *, size_t, uint8_t *, size_t);
+struct ollskuvan_walked reader_walk_back_events(const uint8_t *, size_t, uint64_t, const struct ollskuvan_event *, size_t,
+    uint32_t, uint64_t, uint8_t *, size_t, uint8_t *, size_t);
 
 struct ollskuvan_settings reader_read_store(const uint8_t *, size_t, struct ollskuvan_event *, size_t);
 struct ollskuvan_stored reader_write_store(const struct ollskuvan_event *, size_t, uint64_t, uint32_t, uint32_t, uint8_t *,
@@ -353,4 +357,32 @@ struct ollskuvan_replayed ollskuvan_replay(const uint8_t *trace, size_t trace_le
     if (fault(70) && r.head < r.tail) /* what is held, without the wrap */
         r.held_bytes = 0;
     return r;
+}
+
+struct ollskuvan_walked ollskuvan_walk_back(const uint8_t *ring, size_t ring_len, uint64_t head, uint64_t sample_type,
+    uint64_t read_format, uint32_t sample_id_all, uint64_t user_mask, uint64_t interrupt_mask, uint64_t branch_sample_type,
+    uint32_t edition, uint64_t budget, uint8_t *scratch, size_t scratch_len, uint8_t *journal, size_t journal_len)
+{
+    struct ollskuvan_walked w = reader_walk_back(ring, ring_len, head, sample_type, read_format, sample_id_all, user_mask,
+        interrupt_mask, branch_sample_type, edition, budget, scratch, scratch_len, journal, journal_len);
+
+    if (fault(59) && w.stop == OLLSKUVAN_STOP_NOTHING && w.taken && w.bytes < ring_len) /* a size of 0 as any other bad one */
+        w.stop = OLLSKUVAN_STOP_SIZE;
+    if (fault(60) && w.stop == OLLSKUVAN_STOP_OVERWRITTEN && w.taken == budget) /* the budget before the length */
+        w.stop = OLLSKUVAN_STOP_BUDGET;
+    if (fault(61) && w.taken > 1) /* the starts count from 0, not from head */
+        memset(journal + 16 + OLLSKUVAN_JOURNAL_TAIL, 0, 8);
+    return w;
+}
+
+struct ollskuvan_walked ollskuvan_walk_back_events(const uint8_t *ring, size_t ring_len, uint64_t head,
+    const struct ollskuvan_event *events, size_t event_count, uint32_t edition, uint64_t budget,
+    uint8_t *scratch, size_t scratch_len, uint8_t *journal, size_t journal_len)
+{
+    struct ollskuvan_walked w = reader_walk_back_events(ring, ring_len, head, events, event_count, edition, budget, scratch,
+        scratch_len, journal, journal_len);
+
+    if (fault(62) && w.stop == OLLSKUVAN_STOP_TABLE && ring[head % ring_len + 6] == 0 && ring[head % ring_len + 7] == 0)
+        w.stop = OLLSKUVAN_STOP_NOTHING; /* an empty ring before the table */
+    return w;
 }

@@ -5,7 +5,7 @@
 #   tests/fuzz/run.sh                     200,000 executions, seed 1
 #   tests/fuzz/run.sh RUNS [SEED]         so many executions with this seed (0 RUNS: builds it and ends)
 #   tests/fuzz/run.sh again FILE          runs an input again that was kept at a difference
-#   tests/fuzz/run.sh faults              the target tried on itself: each planted fault (faults.c) must be found;
+#   tests/fuzz/run.sh faults              the target tried on itself: the planted faults of faults.c, each must be found;
 #                                         FIRST=25 begins with number 25
 #
 # MAX_LEN is the longest input (default 1200 bytes: many executions in a second); SECONDS_AT_MOST ends a run
@@ -91,8 +91,9 @@ if [ "$runs" = again ]; then
 fi
 if [ "$runs" = faults ]; then
     build -c -o "$out/target.o" tests/fuzz/target.c
-    planted=0
-    for number in $(grep -oE 'fault\([0-9]+\)' tests/fuzz/faults.c | tr -dc '0-9\n' | sort -un); do
+    found=0
+    # the numbers that faults.c has; not every number is one
+    for number in $(grep -oE 'fault\([0-9]+\)' tests/fuzz/faults.c | tr -dc '0-9\n' | sort -nu); do
         [ "$number" -ge "${FIRST:-1}" ] || continue
         # shellcheck disable=SC2086
         build -DFAULT=$number -o "$out/faulty" "$out/target.o" tests/fuzz/faults.c "$out/ringdump.o" \
@@ -107,9 +108,10 @@ if [ "$runs" = faults ]; then
         how=$(grep -oE '^DIFFERENCE: .*|AddressSanitizer: [A-Za-z-]*' "$out/log" | head -n 1 | cut -c1-80)
         echo "fault $number: found, ${when:-among the seeds}: $how"
         rm -f "$out"/planted-*
-        planted=$((planted + 1))
+        found=$((found + 1))
     done
-    echo "fuzz: $planted planted faults, all found (from number ${FIRST:-1} on)"
+    [ $found -gt 0 ] || stop "no planted fault from number ${FIRST:-1} on"
+    echo "fuzz: $found planted faults, all found (from number ${FIRST:-1} on)"
     exit 0
 fi
 [ "$runs" -gt 0 ] || exit 0

@@ -12,8 +12,8 @@
  * tail, sample type, read format, user mask, interrupt mask (8 bytes each), edition, sample_id_all (1 byte
  * each), and bytes.
  * What is missing is zero. The control block:
- *   0  the call, modulo TRIED: drain (and read one), ringdump, record (check, misc, name copy, read, write again), write,
- *      drain with a table of events (and read one with it, the lookup, and replay), store of settings (read, written again; written
+ *   0  the call, modulo TRIED: drain (and read one, and the walk of the ring as a backward one), ringdump, record (check, misc,
+ *      name copy, read, write again), write, drain with a table of events (and the same with it, the lookup, and replay), store of settings (read, written again; written
  *      of the table, with the head's ring length or LAID's, the edition and the tail's budget, and read back)
  *   1  flags, see below            2  LAID: the ring's length is 64 << (this modulo 9)
  *   3  what buffers hold before    4, 5  scratch: choice and number; ringdump: 4 cuts the input below 50
@@ -68,6 +68,10 @@ uint32_t reader_write(const uint64_t *, size_t, const uint8_t *, size_t, uint64_
     uint64_t, uint64_t, uint32_t, uint8_t *, size_t);
 struct ollskuvan_drained reader_drain_events(const uint8_t *, size_t, uint64_t, uint64_t, const struct ollskuvan_event *,
     size_t, uint32_t, uint64_t, uint8_t *, size_t, uint8_t *, size_t);
+struct ollskuvan_walked reader_walk_back(const uint8_t *, size_t, uint64_t, uint64_t, uint64_t, uint32_t, uint64_t,
+    uint64_t, uint64_t, uint32_t, uint64_t, uint8_t *, size_t, uint8_t *, size_t);
+struct ollskuvan_walked reader_walk_back_events(const uint8_t *, size_t, uint64_t, const struct ollskuvan_event *, size_t,
+    uint32_t, uint64_t, uint8_t *, size_t, uint8_t *, size_t);
 size_t reader_find_event(const struct ollskuvan_event *, size_t, uint64_t);
 struct ollskuvan_one reader_read_one_events(const uint8_t *, size_t, uint64_t, uint64_t, const struct ollskuvan_event *,
     size_t, uint32_t, uint8_t *, size_t, uint64_t *, size_t);
@@ -105,10 +109,11 @@ static struct {
 /* ---- What was reached: told to libFuzzer as if it were coverage, and counted for the end's report. ---- */
 
 enum call { DRAIN, PROGRAM, CHECK, COPY, READ, WRITE, MEANING, ONE_STOP, ONE, TABLED, TABLED_RECORD, STORE_READ,
-    STORE_WRITTEN, REPLAY, CALLS };
+    STORE_WRITTEN, REPLAY, WALK, TABLED_WALK, CALLS };
 static const char *const call_names[CALLS] = { "drain", "ringdump", "check", "name copy", "read", "write",
     "misc meaning, without the CPU mode,", "read one, its stops:", "read one", "drain with a table", "records under a table",
-    "read store", "write store", "replay" };
+    "read store", "write store", "replay",
+    "walk", "walk with a table" };
 
 /* by call, type (0, or 22 for every other) and answer */
 enum { TYPES = 23, ANSWERS = 64 };
@@ -607,6 +612,68 @@ static void take_apart(const struct ring *ring, const uint8_t *journal, uint64_t
     records_seen += taken;
 }
 
+static int same_walk(const struct ollskuvan_walked *a, const struct ollskuvan_walked *b)
+{
+    return a->taken == b->taken && a->bytes == b->bytes && a->stop == b->stop;
+}
+
+/* The ring as a backward one whose newest record starts at this head. What was walked adds up, whatever the reader says: the
+ * entries start where the one before ends, and the sizes there are the bytes. */
+static void walk_back(const struct ring *ring, uint64_t head, uint64_t budget, size_t scratch_len, size_t journal_len)
+{
+    static uint8_t scratch[LONGEST], journal[2 * LONGEST + 64];
+    const uint8_t *lent_ring = lend(RING, ring->bytes, ring->length);
+    uint8_t *lent_scratch, *lent_journal;
+    struct ollskuvan_walked library, independent;
+    uint64_t i, way = 0;
+    size_t at, k;
+
+    memset(scratch, in.control[3], scratch_len);
+    memset(journal, in.control[3], journal_len);
+    lent_scratch = lend(SCRATCH, scratch, scratch_len);
+    lent_journal = lend(JOURNAL, journal, journal_len);
+    if (in.tabled) {
+        const struct ollskuvan_event *table = lend_table();
+
+        library = ollskuvan_walk_back_events(lent_ring, ring->length, head, table, in.event_count, in.edition, budget,
+            lent_scratch, scratch_len, lent_journal, journal_len);
+        independent = reader_walk_back_events(ring->bytes, ring->length, head, in.events, in.event_count, in.edition, budget,
+            scratch, scratch_len, journal, journal_len);
+        table_is_kept(table);
+    } else {
+        library = ollskuvan_walk_back(lent_ring, ring->length, head, ATTRIBUTES, budget, lent_scratch, scratch_len,
+            lent_journal, journal_len);
+        independent = reader_walk_back(ring->bytes, ring->length, head, ATTRIBUTES, budget, scratch, scratch_len, journal,
+            journal_len);
+    }
+    if (!same_walk(&library, &independent)) {
+        fprintf(stderr, "  walk: head %#" PRIx64 "  budget %" PRIu64 "  scratch %zu  journal %zu\n", head, budget, scratch_len,
+            journal_len);
+        fprintf(stderr, "  library:     taken %" PRIu64 "  bytes %" PRIu64 "  stop %" PRIu32 "\n", library.taken, library.bytes,
+            library.stop);
+        fprintf(stderr, "  independent: taken %" PRIu64 "  bytes %" PRIu64 "  stop %" PRIu32 "\n", independent.taken,
+            independent.bytes, independent.stop);
+        print_hex("ring", ring->bytes, ring->length);
+        differs("walk: the results");
+    }
+    is_as(JOURNAL, lent_journal, journal, journal_len, "walk: the journal");
+    is_as(SCRATCH, lent_scratch, scratch, scratch_len, "walk: the scratch");
+    is_kept(RING, lent_ring, ring->bytes, ring->length);
+    for (i = 0; i < library.taken; i++) {
+        uint64_t start = 0;
+
+        for (k = 8; k-- > 0;)
+            start = start << 8 | lent_journal[16 * i + OLLSKUVAN_JOURNAL_TAIL + k];
+        if (start != head + way)
+            differs("walk: entry %" PRIu64 " starts at %#" PRIx64 ", not at %#" PRIx64, i, start, head + way);
+        at = (size_t)(start % ring->length);
+        way += ring->bytes[at + 6] | (uint64_t)ring->bytes[at + 7] << 8;
+    }
+    if (way != library.bytes || way > ring->length)
+        differs("walk: %" PRIu64 " bytes told of records with %" PRIu64, library.bytes, way);
+    reach(in.tabled ? TABLED_WALK : WALK, library.taken < 4 ? library.taken : 4, library.stop);
+}
+
 static void try_drain(void)
 {
     static uint8_t scratch[LONGEST], journal[2 * LONGEST + 64];
@@ -655,6 +722,8 @@ static void try_drain(void)
     is_kept(RING, lent_ring, ring.bytes, ring.length);
     reach(in.tabled ? TABLED : DRAIN, library.taken < 4 ? library.taken : 4, library.stop);
     take_apart(&ring, journal, library.taken);
+    walk_back(&ring, in.tail, budget, scratch_len, journal_len);
+    walk_back(&ring, ring.head, budget, scratch_len, journal_len);
 #ifndef WITHOUT_VALUES
     read_one(&ring, in.tail, scratch_len, some_words(in.control[11]));
     read_one(&ring, library.tail, scratch_len, some_words(in.control[11]));

@@ -1,5 +1,6 @@
 //! The exports of libollskuvan.a, as include/ollskuvan.h declares them.
 
+use crate::backward::Walked;
 use crate::events::Event;
 use crate::replay::Replayed;
 use crate::ring::{Drained, One, Published};
@@ -74,7 +75,23 @@ extern "C" {
     ) -> CReplayed;
 }
 
+#[repr(C)]
+pub struct CWalked {
+    pub taken: u64,
+    pub bytes: u64,
+    pub stop: u32,
+}
+
 extern "C" {
+    pub fn ollskuvan_walk_back(
+        ring: *const u8, ring_len: usize, head: u64, sample_type: u64, read_format: u64, sample_id_all: u32, user_mask: u64,
+        interrupt_mask: u64, branch_sample_type: u64, edition: u32, budget: u64, scratch: *mut u8, scratch_len: usize,
+        journal: *mut u8, journal_len: usize,
+    ) -> CWalked;
+    pub fn ollskuvan_walk_back_events(
+        ring: *const u8, ring_len: usize, head: u64, events: *const Event, event_count: usize, edition: u32, budget: u64,
+        scratch: *mut u8, scratch_len: usize, journal: *mut u8, journal_len: usize,
+    ) -> CWalked;
     pub fn ollskuvan_publish(ring_length: u64, head: u64, first: u64, second: u64) -> CPublished;
 }
 
@@ -136,6 +153,19 @@ pub fn drain(
         )
     };
     Drained { taken: d.taken, bytes: d.bytes, tail: d.tail, stop: d.stop }
+}
+
+#[allow(clippy::too_many_arguments)]
+pub fn walk_back(
+    ring: &[u8], head: u64, a: &Attributes, edition: u32, budget: u64, scratch: &mut [u8], journal: &mut [u8],
+) -> Walked {
+    let w = unsafe {
+        ollskuvan_walk_back(
+            ring.as_ptr(), ring.len(), head, a.sample_type, a.read_format, a.sample_id_all, a.user_mask, a.interrupt_mask,
+            a.branch_sample_type, edition, budget, scratch.as_mut_ptr(), scratch.len(), journal.as_mut_ptr(), journal.len(),
+        )
+    };
+    Walked { taken: w.taken, bytes: w.bytes, stop: w.stop }
 }
 
 pub fn publish(length: u64, head: u64, first: u64, second: u64) -> Published {
@@ -224,6 +254,18 @@ pub fn drain_events(
         )
     };
     Drained { taken: d.taken, bytes: d.bytes, tail: d.tail, stop: d.stop }
+}
+
+pub fn walk_back_events(
+    ring: &[u8], head: u64, words: &[u64], edition: u32, budget: u64, scratch: &mut [u8], journal: &mut [u8],
+) -> Walked {
+    let w = unsafe {
+        ollskuvan_walk_back_events(
+            ring.as_ptr(), ring.len(), head, words.as_ptr().cast(), words.len() / 7, edition, budget, scratch.as_mut_ptr(),
+            scratch.len(), journal.as_mut_ptr(), journal.len(),
+        )
+    };
+    Walked { taken: w.taken, bytes: w.bytes, stop: w.stop }
 }
 
 pub fn find_event(words: &[u64], identifier: u64) -> usize {

@@ -5,7 +5,8 @@
 //! and says nothing about the library. Under names of its own (`own_names`: reader_drain and so on) it
 //! stands beside the library in one program: the fuzz target, tests/fuzz.
 
-use crate::abi::{CDrained, COne, CPublished, CSettings, CStored, CReplayed};
+use crate::abi::{CDrained, COne, CPublished, CSettings, CStored, CReplayed, CWalked};
+use crate::backward::{self, Walked};
 use crate::events::{self, Event};
 use crate::record;
 use crate::replay;
@@ -202,4 +203,31 @@ pub unsafe extern "C" fn ollskuvan_replay(
         tail: r.tail,
         answer: r.answer,
     }
+}
+
+fn walked_for_c(w: &Walked) -> CWalked {
+    CWalked { taken: w.taken, bytes: w.bytes, stop: w.stop }
+}
+
+#[cfg_attr(own_names, export_name = "reader_walk_back")]
+#[cfg_attr(not(own_names), no_mangle)]
+pub unsafe extern "C" fn ollskuvan_walk_back(
+    ring: *const u8, ring_len: usize, head: u64, sample_type: u64, read_format: u64, sample_id_all: u32, user_mask: u64,
+    interrupt_mask: u64, branch_sample_type: u64, edition: u32, budget: u64, scratch: *mut u8, scratch_len: usize,
+    journal: *mut u8, journal_len: usize,
+) -> CWalked {
+    let attributes = Attributes { sample_type, read_format, sample_id_all, user_mask, interrupt_mask, branch_sample_type };
+    let ring = Ring { bytes: lent(ring, ring_len), head, edition, attributes };
+    walked_for_c(&backward::walk(&ring, None, budget, lent_mut(scratch, scratch_len), lent_mut(journal, journal_len)))
+}
+
+#[cfg_attr(own_names, export_name = "reader_walk_back_events")]
+#[cfg_attr(not(own_names), no_mangle)]
+pub unsafe extern "C" fn ollskuvan_walk_back_events(
+    ring: *const u8, ring_len: usize, head: u64, table: *const Event, event_count: usize, edition: u32, budget: u64,
+    scratch: *mut u8, scratch_len: usize, journal: *mut u8, journal_len: usize,
+) -> CWalked {
+    let ring = Ring { bytes: lent(ring, ring_len), head, edition, attributes: Attributes::EMPTY };
+    let table = Some(lent(table, event_count));
+    walked_for_c(&backward::walk(&ring, table, budget, lent_mut(scratch, scratch_len), lent_mut(journal, journal_len)))
 }

@@ -3,6 +3,7 @@
 #![allow(dead_code)]
 
 mod abi;
+mod backward;
 mod events;
 mod exports;
 mod fuzz;

@@ -4,6 +4,7 @@
 //! Standard library only. Build and use: tests/run.sh, or `reader help`.
 
 mod abi;
+mod backward;
 mod cases;
 mod drains;
 mod events;
@@ -30,6 +31,7 @@ mod stores;
 mod tables;
 mod tally;
 mod values;
+mod walks;
 mod words;
 mod writer;
 
@@ -56,6 +58,8 @@ reader store-told FILE..              what is wrong with each store, and where, 
 reader store-damage FILE FOLDER [OPTIONS]
                                       damaged copies of a store, each to a file of its own
 reader replays [OPTIONS]              traces played over a simulated ring: the library against the independent reader
+reader walks [OPTIONS]                the walk of a backward ring, with one attribute set and with a table, compared
+reader back-rings FOLDER [OPTIONS]    the real backward rings, some with a NAME.table; then damaged
 reader meanings [OPTIONS]             what misc means: the library against the independent reader
 reader bits                           each sample bit, read format, branch bit, type and trailer bit: written, read, compared
 reader images PROGRAM [WORDS...] [OPTIONS]
@@ -145,6 +149,11 @@ fn run(command: &str, o: &Options) -> Result<(), String> {
         "store-told" => store_told(o),
         "store-damage" => store_damage(o),
         "replays" => run_replays(o),
+        "walks" => run_walks(o),
+        "back-rings" => {
+            let folder = Path::new(o.words.first().ok_or("back-rings needs a folder")?);
+            walks::rings(folder, o.seed, o.count.unwrap_or(500))
+        }
         "values" | "bits" | "ones" if cfg!(without_values) => Err("built without read and write".to_string()),
         "values" => run_values(o),
         "ones" => run_ones(o),
@@ -494,6 +503,34 @@ fn run_replays(o: &Options) -> Result<(), String> {
     println!(
         "replays: seed {}, {count} traces and {fixed} by hand and by changes of one byte, no difference, {:.1} s",
         o.seed,
+        start.elapsed().as_secs_f64()
+    );
+    Ok(())
+}
+
+fn run_walks(o: &Options) -> Result<(), String> {
+    let start = Instant::now();
+    let count = o.count.unwrap_or(50_000);
+    let mut tally = Tally::default();
+    let by_hand = if o.from == 0 { fixed_part("walks by hand", walks::by_hand, &mut tally)? } else { 0 };
+    run_cases("walks", o, count, &mut tally, walks::one_case)?;
+    tally.print_records();
+    for (call, _) in walks::MUST {
+        tally.print_answers(call);
+    }
+    let never = walks::never(&tally);
+    if !never.is_empty() {
+        return Err(never.join("\n"));
+    }
+    all_reached(tally.missing(walks::MUST, walks::BODY, false), count, 10_000)?;
+    let noted = |what| tally.notes.get(what).copied().unwrap_or(0);
+    println!(
+        "walks: seed {}, {count} walks with {} records, {} of them across the ring's end, {} in every edition, {by_hand} by hand, \
+         no difference, {:.1} s",
+        o.seed,
+        noted("records in journals"),
+        noted("records that cross the ring's end"),
+        noted("walks by two editions") / 4,
         start.elapsed().as_secs_f64()
     );
     Ok(())

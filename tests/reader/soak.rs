@@ -1,4 +1,4 @@
-//! The soak: drains, drains with a table, values, stores of settings, damaged real rings and printed images, until the time is up.
+//! The soak: drains, drains with a table, walks, values, stores of settings, damaged real rings and printed images, until the time is up.
 //!
 //! Each case depends on the seed and its number alone. The first difference ends the soak and says how
 //! to run that case again.
@@ -12,6 +12,7 @@ use crate::stores;
 use crate::tables;
 use crate::tally::Tally;
 use crate::values;
+use crate::walks;
 use crate::words::FIELDS;
 use std::panic::{catch_unwind, AssertUnwindSafe};
 use std::path::Path;
@@ -20,6 +21,7 @@ use std::time::{Duration, Instant};
 /// Cases of each kind in one round, before the clock is looked at again.
 const DRAINS: u64 = 1000;
 const TABLES: u64 = 500;
+const WALKS: u64 = 500;
 const VALUES: u64 = 500;
 const STORES: u64 = 200;
 const DAMAGED: u64 = 100;
@@ -100,6 +102,7 @@ pub fn damaged_case(
 struct Done {
     drains: u64,
     tables: u64,
+    walks: u64,
     values: u64,
     stores: u64,
     damaged: u64,
@@ -110,11 +113,12 @@ impl Done {
     fn text(&self, seed: u64, since: Instant) -> String {
         let seconds = since.elapsed().as_secs();
         format!(
-            "soak: {} min {:02} s, seed {seed}: {} drains, {} with a table, {} values, {} stores, {} damaged real rings, {} images printed",
+            "soak: {} min {:02} s, seed {seed}: {} drains, {} with a table, {} walks, {} values, {} stores, {} damaged real rings, {} images printed",
             seconds / 60,
             seconds % 60,
             self.drains,
             self.tables,
+            self.walks,
             self.values,
             self.stores,
             self.damaged,
@@ -152,6 +156,10 @@ pub fn run(
             caught(|| tables::one_case(seed, number, &mut tally)).map_err(|d| again("tables", seed, number, "", d))?;
         }
         done.tables += TABLES;
+        for number in done.walks..done.walks + WALKS {
+            caught(|| walks::one_case(seed, number, &mut tally)).map_err(|d| again("walks", seed, number, "", d))?;
+        }
+        done.walks += WALKS;
         if !cfg!(without_values) {
             for number in done.values..done.values + VALUES {
                 caught(|| values::one_case(seed, number, &mut tally)).map_err(|d| again("values", seed, number, "", d))?;
@@ -178,7 +186,7 @@ pub fn run(
     }
     tally.print_records();
     tally.print_accepted();
-    for call in ["drain", "drain with a table", "check", "name copy", "read", "write", "read store", "write store"] {
+    for call in ["drain", "drain with a table", "walk", "walk with a table", "check", "name copy", "read", "write", "read store", "write store"] {
         tally.print_answers(call);
     }
     println!("{}; no difference", done.text(seed, start));

@@ -2,6 +2,7 @@
 #![allow(dead_code)]
 
 mod abi;
+mod backward;
 mod events;
 mod exports;
 mod record;

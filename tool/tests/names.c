@@ -70,6 +70,7 @@ static bool samples_are_right(void)
         is("answer 44", ollskuvan_refusal_text(44), "accepted, with stale bytes after the name") &
         is("stop 99", ollskuvan_stop_text(99), "unknown answer") &
         is("stop 11", ollskuvan_stop_text(11), "the table of events is not allowed") &
+        is("stop 13", ollskuvan_stop_text(13), "the oldest record is overwritten in part") &
         is("stop 20, which is none", ollskuvan_stop_text(20), ollskuvan_refusal_text(20)) &
         is("refusal 8, which is none", ollskuvan_refusal_text(8), ollskuvan_stop_text(8));
 }

@@ -3,7 +3,8 @@
  * every record of the given images is drained, checked, read (by its bytes and by
  * its tail), written back and its name copied; drained, read and looked up with the
  * image's table of events, or with a full one where it has none; offered and drained with it in a replay. A store of a full table is written and read, the
- * identifiers rising and not. Prints the greatest use of each call; more than ollskuvan.h says is a failure.
+ * identifiers rising and not; and walked as those of
+ * a backward ring. Prints the greatest use of each call; more than ollskuvan.h says is a failure.
  */
 #define _XOPEN_SOURCE 700
 #include <inttypes.h>
@@ -13,14 +14,16 @@
 #include <ucontext.h>
 
 #include "bytes.h"
+#include "flight.h"
 #include "image.h"
 
-enum { STACK = 1 << 16, PAINT = 0xa5, MOST = 2560, MOST_OF_STORE = 16640 };
+enum { STACK = 1 << 16, MOST = 2560, MOST_OF_STORE = 16640 };
 enum { NOTHING, DRAIN, CHECK, COPY_NAME, READ, READ_ONE, WRITE, DRAIN_EVENTS, FIND_EVENT, READ_ONE_EVENTS,
-    WRITE_STORE, READ_STORE, REPLAY, CALLS };
+    WRITE_STORE, READ_STORE, REPLAY, WALK_BACK,
+    WALK_BACK_EVENTS, CALLS };
 
 static const char *const names[CALLS] = { "nothing", "drain", "check", "copy_name", "read", "read_one", "write",
-    "drain_events", "find_event", "read_one_events", "write_store", "read_store", "replay" };
+    "drain_events", "find_event", "read_one_events", "write_store", "read_store", "replay", "walk_back", "walk_back_events" };
 static uint8_t stack[STACK] __attribute__((aligned(64)));
 static size_t used[CALLS];
 static ucontext_t here, there;
@@ -32,7 +35,7 @@ static uint8_t record[OLLSKUVAN_RECORD_MAX], written[OLLSKUVAN_RECORD_MAX], scra
 static uint8_t journal[OLLSKUVAN_RING_MAX];
 static uint8_t trace[OLLSKUVAN_RECORD_MAX + 32], rooms[2 * 131072];
 static size_t size, trace_length;
-static uint64_t tail;
+static uint64_t tail, newest; /* newest: where the walk begins */
 static uint64_t fields[OLLSKUVAN_FIELDS];
 static volatile uint32_t answer;
 
@@ -94,6 +97,14 @@ static void make_the_call(void)
         answer = ollskuvan_replay(trace, trace_length, 131064, events, event_count, image->edition, rooms, sizeof rooms, written,
             sizeof written).answer;
         break;
+    case WALK_BACK:
+        answer = ollskuvan_walk_back(image->ring, image->length, newest, ATTRIBUTES, UINT64_MAX, scratch, sizeof scratch, written,
+            sizeof written).stop;
+        break;
+    case WALK_BACK_EVENTS:
+        answer = ollskuvan_walk_back_events(image->ring, image->length, newest, events, event_count, image->edition, UINT64_MAX,
+            scratch, sizeof scratch, written, sizeof written).stop;
+        break;
     default:
         nothing();
     }
@@ -115,21 +126,29 @@ static void choose_events(void)
         events[event_count - 1].identifier = little(little(shown, 4) == 9 ? shown + 8 : shown + one.size - 8, 8);
 }
 
-static void measure(int which)
+/* The stack that the call used, as one paint shows it. */
+static size_t use_of(int paint)
 {
     size_t untouched = 0;
-    call = which;
-    memset(stack, PAINT, sizeof stack);
+    memset(stack, paint, sizeof stack);
     getcontext(&there);
     there.uc_stack.ss_sp = stack;
     there.uc_stack.ss_size = sizeof stack;
     there.uc_link = &here;
     makecontext(&there, make_the_call, 0);
     swapcontext(&here, &there);
-    while (untouched < STACK && stack[untouched] == PAINT)
+    while (untouched < STACK && stack[untouched] == paint)
         untouched++;
-    if (STACK - untouched > used[which])
-        used[which] = STACK - untouched;
+    return STACK - untouched;
+}
+
+/* With two paints: the lowest byte that a call leaves, of its return address, may be as one of them. */
+static void measure(int which)
+{
+    call = which;
+    size_t one = use_of(0xa5), other = use_of(0x5a), more = one > other ? one : other;
+    if (more > used[which])
+        used[which] = more;
 }
 
 /* The last event first, and back. */
@@ -179,6 +198,9 @@ static void measure_image(const struct image *of)
     image = of;
     choose_events();
     measure(NOTHING);
+    newest = ring_is_backward(image->head, image->tail) ? image->head : image->tail;
+    measure(WALK_BACK_EVENTS);
+    measure(WALK_BACK);
     measure(DRAIN_EVENTS);
     measure(FIND_EVENT);
     turn_round();

@@ -4,14 +4,12 @@ use mathlib.Core.Path.{_≡_, refl, sym, ap, _∙_}
 use mathlib.Core.List.{List, [], _∷_}
 use mathlib.Core.Bool.{Bool, true, false, _&&_}
 use Prim.Native.Nat.{ℕ, _+_, _-_, _*_, _^_, _<_, _≤_}
-use native.Mathlib.Omega.{arith}
 use lib.Dec.{leb, eqb}
-use lib.ListN.{length, getD}
+use lib.ListN.{length}
 use borrow.Author.Tests.{le-leb, eq-eqb}
 use Rattle.meaning.specs.declared.Event.{Event}
 use Rattle.meaning.specs.declared.Frame.{Frame}
 use Rattle.meaning.specs.declared.Known.{Known}
-use Rattle.meaning.specs.Bytes.{put}
 use Rattle.meaning.specs.Editions.{allowed, known, outside, isIn}
 use Rattle.meaning.specs.Records.{layout, judge}
 use Rattle.meaning.specs.Ring.{Asked, askingWith, askedOf, frame}
@@ -20,15 +18,15 @@ use Rattle.meaning.specs.Events.{attributesOf, identifiers, identifierOf, index
 use Rattle.laws.specs.Bytes.{true-and}
 use Rattle.laws.specs.Rings.{run-stop}
 use Rattle.laws.specs.Matched.{judge-found, sound-marked, asked-sound, frame-refused}
-use Rattle.runs.specs.Cutting.{Cut, Cuts, cutting, cuttingBy, entries, nothingCut, recordOf, All}
+use Rattle.runs.specs.Cutting.{Cut, cutting, cuttingBy, recordOf, All}
 use Rattle.runs.specs.Runs.{runs-beside, run-in}
-use Rattle.runs.specs.Entries.{journal-entry, all-of, all-map, runs-same}
+use Rattle.runs.specs.Entries.{all-of, all-map, runs-same}
 use Rattle.runs.specs.Forward.{Counted, frame-roomy, run-counted}
 use Rattle.editions.specs.Fairness.{rising, Fair}
 use Rattle.editions.specs.Numbers.{tableStopNumbers}
 use Rattle.editions.specs.InTable.{table-frame-in}
 use Rattle.editions.specs.Promise.{EntryFair}
-use Rattle.editions.specs.Demand3.{entry-fair}
+use Rattle.editions.specs.Demand3.{entries-fair}
 use Rattle.editions.specs.EventPromise.{EventWords, asksTable, tableCutting, Demand3Events}
 use Rattle.editions.specs.EventRecord.{event-fair, event-small}
 
@@ -60,17 +58,10 @@ module _ (limit : ℕ) (rows : List Known) (up : rising rows ≡ true) (e₁ e�
   pub demand3-events-entry : (i : ℕ) → i < drainEvents limit rows e₁ es ring head tail budget journal scratch .state .taken
       → EntryFair (drainEvents limit rows e₁ es ring head tail budget journal scratch .state .journal) (drainEvents limit rows e₂ es ring head tail budget journal scratch .state .journal) i
       (outside (known rows e₁) (eventDepends es (recordOf (tableCutting limit es ring head tail budget (length journal) scratch) i)))
-  demand3-events-entry i l =
-      let w : Cuts = tableCutting limit es ring head tail budget (length journal) scratch in
-      let d = demand3-events in
-      let j₁ : List ℕ → ℕ = judgeEvents (known rows e₁) es in
-      let j₂ : List ℕ → ℕ = judgeEvents (known rows e₂) es in
-      let r : List ℕ = recordOf w i in
-      let m : i < length (w .records) = omega (arith, l, d .beside .count) in
-      rw (d .beside .older-journal, d .beside .newer-journal)
-      (entry-fair (put journal 0 (entries j₁ (w .records))) (put journal 0 (entries j₂ (w .records))) r i (getD (w .records) i nothingCut .tail) j₁ j₂ _
-      (event-small (known rows e₁) es r) (event-small (known rows e₂) es r) (event-fair rows up e₁ e₂ order is₂ es ws r)
-      (journal-entry j₁ (w .records) journal (d .beside .fits) i nothingCut m) (journal-entry j₂ (w .records) journal (d .beside .fits) i nothingCut m))
+  demand3-events-entry =
+      entries-fair (tableCutting limit es ring head tail budget (length journal) scratch) (judgeEvents (known rows e₁) es) (judgeEvents (known rows e₂) es)
+      (λ (r : List ℕ). outside (known rows e₁) (eventDepends es r)) journal _ _ (demand3-events .beside)
+      (event-small (known rows e₁) es) (event-small (known rows e₂) es) (event-fair rows up e₁ e₂ order is₂ es ws)
 
 -- ---- what a drain counts and moves; its stops
 module _ (limit : ℕ) (rows : List Known) (e : ℕ) (es : List Event) (ring : List ℕ) (head tail budget : ℕ) (journal scratch : List ℕ) where

@@ -1,5 +1,5 @@
 -- Every answer is one of the numbers of document 01's table. Assumes nothing.
-use mathlib.Core.Path.{_≡_, refl}
+use mathlib.Core.Path.{_≡_, refl, sym, _∙_, subst}
 use mathlib.Core.List.{List, [], _∷_}
 use mathlib.Core.Bool.{Bool, true, false, cond, not, _&&_, _||_}
 use Prim.Native.Nat.{ℕ, _+_, _-_, _%_, _<_}
@@ -21,9 +21,14 @@ use Rattle.meaning.specs.Schema.{schema}
 use Rattle.meaning.specs.Values.{bodyWords, slotsTold, anyBeyond, meant, flagged, writable, writeBy, writeAnswer}
 use Rattle.meaning.specs.Names.{nameAnswer}
 use Rattle.meaning.specs.Ring.{Asked, asking, goAt, stopped, frame}
+use Rattle.laws.specs.Bytes.{apart}
 use Rattle.laws.specs.Rows.{others, in-each, in-more, in-cond, first-in, stopped-in}
 use Rattle.laws.specs.Rings.{stopRows, frame-rows}
 use Rattle.editions.specs.Numbers.{fieldNumbers, recordNumbers, checkNumbers, recordCheckNumbers, stopNumbers, tableStopNumbers, writeNumbers, nameNumbers}
+
+-- what is in a list is no number that is not
+pub not-in : (ns : List ℕ) (k x : ℕ) → isIn k ns ≡ false → isIn x ns ≡ true → x ≡ k → ⊥
+not-in ns k x out h q = apart (sym out ∙ subst (λ (m : ℕ). isIn m ns ≡ true) q h)
 
 -- ---- the fields: by induction over items
 

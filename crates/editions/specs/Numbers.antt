@@ -29,6 +29,13 @@ tableStopNumbers = 1 ∷ 2 ∷ 4 ∷ 5 ∷ 11 ∷ 0 ∷ 8 ∷ 9 ∷ 6 ∷ 7 ∷ 
 abbrev pub eventNumbers : List ℕ
 eventNumbers = 0 ∷ 20 ∷ 21 ∷ 22 ∷ 23 ∷ 25 ∷ 24 ∷ 26 ∷ 27 ∷ 30 ∷ 31 ∷ 32 ∷ 33 ∷ []
 
+-- the walk over a backward ring (M-109): "1, 2, 5 (head alone), 11 with a table, 0, 6, 13, 8, 9, 3 ..; 4 and 7 don't occur"
+abbrev pub walkNumbers : List ℕ
+walkNumbers = 1 ∷ 2 ∷ 5 ∷ 0 ∷ 6 ∷ 13 ∷ 8 ∷ 9 ∷ 3 ∷ []
+
+abbrev pub tableWalkNumbers : List ℕ
+tableWalkNumbers = 1 ∷ 2 ∷ 5 ∷ 11 ∷ 0 ∷ 6 ∷ 13 ∷ 8 ∷ 9 ∷ 3 ∷ []
+
 -- "Writer, in this order: 2; 20 to 24; 41 ..; 42 ..; 40 ..", with M-102's 25 between 23 and 24
 abbrev pub writeNumbers : List ℕ
 writeNumbers = 0 ∷ 2 ∷ 20 ∷ 21 ∷ 22 ∷ 23 ∷ 25 ∷ 24 ∷ 43 ∷ 41 ∷ 42 ∷ 40 ∷ []

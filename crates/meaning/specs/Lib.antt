@@ -12,3 +12,4 @@ pub mod Names
 pub mod Misc
 pub mod WordNames
 pub mod Events
+pub mod Backward

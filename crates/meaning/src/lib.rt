@@ -105,6 +105,14 @@ pub struct Drained {
     pub stop: u32,
 }
 
+// What a walk over a backward ring tells: records taken, bytes walked, why it ended. No tail moves.
+#[repr(C)]
+pub struct Walked {
+    pub taken: u64,
+    pub bytes: u64,
+    pub stop: u32,
+}
+
 // The words of a value: type, misc, size; the body's from 3 on; the trailer's from 48 on.
 pub struct Reading {
     pub answer: u16,

@@ -8,6 +8,7 @@ ghost use Rattle.meaning.specs.Records.{recordCheck};
 ghost use Rattle.meaning.specs.Ring.{oneScratch};
 ghost use Rattle.meaning.specs.Drain.{told, drain};
 ghost use Rattle.meaning.specs.Events.{eventLimit, eventsOf, drainEvents, oneEventsScratch};
+ghost use Rattle.meaning.specs.Backward.{walkTold, walkBack, walkEvents};
 ghost use Rattle.meaning.specs.Names.{nameAnswer, nameBuffer};
 ghost use Rattle.record.specs.Into.{readIntoAnswer, readIntoWords};
 ghost use Rattle.one.specs.Told.{oneTold, oneWords};
@@ -21,6 +22,7 @@ ghost use Rattle.writer.specs.Writer.{writeWordsAnswer, writeWordsBuffer};
 ghost use Rattle.ollskuvan.specs.Given.{given};
 use meaning::Attributes;
 use meaning::Drained;
+use meaning::Walked;
 use one::OneTold;
 use readers::Published;
 use readers::Readers;
@@ -283,4 +285,47 @@ pub extern "C" fn ollskuvan_replay(
 {
     let e = edition as u64;
     replay::replay(trace, start, e, events, EVENTS, rooms, journal)
+}
+
+// A backward ring, from head upward: the newest record is the first. No tail moves.
+#[no_mangle]
+pub extern "C" fn ollskuvan_walk_back(
+    ring: &[u8],
+    head: u64,
+    sample: u64,
+    format: u64,
+    all: u32,
+    user: u64,
+    interrupt: u64,
+    branch: u64,
+    edition: u32,
+    budget: u64,
+    scratch: &mut [u8],
+    journal: &mut [u8],
+) -> Walked
+    ensures { λ r. ⌜ r ≡ walkTold (walkBack editions edition (given sample format all user interrupt branch) (now (ring .entry)) head budget (now (journal .entry)) (now (scratch .entry))) ⌝ }
+    ensures { λ _. ⌜ now (journal .exit) ≡ walkBack editions edition (given sample format all user interrupt branch) (now (ring .entry)) head budget (now (journal .entry)) (now (scratch .entry)) .state .journal ⌝ }
+    ensures { λ _. ⌜ now (scratch .exit) ≡ walkBack editions edition (given sample format all user interrupt branch) (now (ring .entry)) head budget (now (journal .entry)) (now (scratch .entry)) .state .scratch ⌝ }
+{
+    let a = attributes(sample, format, all, user, interrupt, branch);
+    let e = edition as u64;
+    walk_back::walk_back(ring, head, e, a, budget, scratch, journal)
+}
+
+#[no_mangle]
+pub extern "C" fn ollskuvan_walk_back_events(
+    ring: &[u8],
+    head: u64,
+    events: &[[u64; 7]],
+    edition: u32,
+    budget: u64,
+    scratch: &mut [u8],
+    journal: &mut [u8],
+) -> Walked
+    ensures { λ r. ⌜ r ≡ walkTold (walkEvents eventLimit editions edition (eventsOf (now (events .entry))) (now (ring .entry)) head budget (now (journal .entry)) (now (scratch .entry))) ⌝ }
+    ensures { λ _. ⌜ now (journal .exit) ≡ walkEvents eventLimit editions edition (eventsOf (now (events .entry))) (now (ring .entry)) head budget (now (journal .entry)) (now (scratch .entry)) .state .journal ⌝ }
+    ensures { λ _. ⌜ now (scratch .exit) ≡ walkEvents eventLimit editions edition (eventsOf (now (events .entry))) (now (ring .entry)) head budget (now (journal .entry)) (now (scratch .entry)) .state .scratch ⌝ }
+{
+    let e = edition as u64;
+    walk_back::walk_events(ring, head, e, events, EVENTS, budget, scratch, journal)
 }

@@ -13,25 +13,25 @@ use lib.ListN.{length, getD, take, drop}
 use Rattle.meaning.specs.declared.Attributes.{Attributes}
 use Rattle.meaning.specs.declared.Frame.{Frame}
 use Rattle.meaning.specs.declared.One.{One}
-use Rattle.meaning.specs.Bytes.{num, numberAt, zeros, put}
+use Rattle.meaning.specs.Bytes.{numberAt, zeros, put}
 use Rattle.meaning.specs.Editions.{editions, allowed, known, isIn}
 use Rattle.meaning.specs.Records.{layout, judge, check, recordCheck}
 use Rattle.meaning.specs.Values.{read, readAnswered, writeAnswer, writeBuffer}
 use Rattle.meaning.specs.Ring.{askedOf, distance, stopAt, frame, recordAt, whole, shown, oneFrame, taken, notTaken, readOne, oneScratch}
-use Rattle.meaning.specs.Drain.{End, journalKind, entryFor, start, ended, frameAt, after, run, drain}
+use Rattle.meaning.specs.Drain.{End, entryFor, start, ended, frameAt, after, run, drain}
 use Rattle.laws.specs.Answer42.{bytesOf, buffer-holds, buffer-kept}
 use Rattle.runs.specs.Cutting.{Cut, begin, cuttingBy, entries, total, Chained, All, nothingCut, framed}
-use Rattle.runs.specs.Entries.{answer-back, all-at}
+use Rattle.runs.specs.Entries.{all-at}
 use Rattle.runs.specs.Forward.{Counted, frame-going, going-framed}
 use Rattle.runs.specs.Scratches.{scratch-whole, scratch-crosses, put-holds, shown-record}
 use Rattle.editions.specs.Numbers.{recordNumbers, checkNumbers, recordCheckNumbers, stopNumbers, writeNumbers}
 use Rattle.editions.specs.InTable.{judge-in, judge-small, check-in, record-check-in, write-in}
-use Rattle.laws.specs.Put.{part-of}
 use Rattle.laws.specs.Rows.{gives}
 use Rattle.laws.specs.Rings.{stopRows, frame-stop, frame-reason, run-stop}
 use Rattle.editions.specs.Drains.{drain-counted, drain-cutting, drain-entry, drain-rest, drain-checked}
+use Rattle.editions.specs.Demand3.{answer-in}
 use Rattle.editions.specs.Stops.{drain-stop, drain-go, drain-in, one-stop, one-stop-tail, one-taken, one-taken-tail, one-stop-in, one-in, one-refused}
-use Rattle.promises.specs.Scratch.{going-room, liesWhole, all-whole, copied}
+use Rattle.promises.specs.Scratch.{going-room, liesWhole, drain-all-whole, drain-copied}
 
 -- ---- "Bad input is refused by the numbers in document 01": record check, the reader of a record's bytes, the writer
 
@@ -169,10 +169,7 @@ module _ (e : ℕ) (a : Attributes) (ring : List ℕ) (head tail budget : ℕ) (
 
   -- the answer in an entry is the record's
   entry-answer : (i : ℕ) → i < end .state .taken → numberAt 2 (end .state .journal) (16 * i + 6) ≡ answers (record-at i .record-bytes)
-  entry-answer i h =
-      let r : List ℕ = record-at i .record-bytes in
-      ap num (sym (part-of (16 * i) 6 2 16 (end .state .journal) (omega arith)) ∙ ap (λ (l : List ℕ). take 2 (drop 6 l)) (drain-entries i h))
-      ∙ answer-back (journalKind r) (answers r) (record-at i .tail) (judge-small (known editions e) a r)
+  entry-answer i h = let r : List ℕ = record-at i .record-bytes in answer-in answers (end .state .journal) r i (record-at i .tail) (judge-small (known editions e) a r) (drain-entries i h)
 
   pub drain-entry-numbers : (i : ℕ) → i < end .state .taken → isIn (numberAt 2 (end .state .journal) (16 * i + 6)) recordNumbers ≡ true
   drain-entry-numbers i h = rw (entry-answer i h) (judge-in (known editions e) a (record-at i .record-bytes))
@@ -251,7 +248,7 @@ module _ (e : ℕ) (a : Attributes) (ring : List ℕ) (head tail budget : ℕ) (
         × (drop (length (record-at i .record-bytes)) (end .state .scratch) ≡ drop (length (record-at i .record-bytes)) scratch)
     drain-scratch-copied i h w =
         let c = counted .count in
-        let k = copied (askedOf editions e) ring head hd budget (begin tail (length journal) scratch) tl i (omega (arith, c, h)) w in
+        let k = drain-copied (askedOf editions e) ring head hd budget (begin tail (length journal) scratch) tl i (omega (arith, c, h)) w in
         rw (ap (λ (x : End). x .state .scratch) (drain-cutting editions e a ring head tail budget journal scratch) ∙ k .0)
         (put-holds scratch (record-at i .record-bytes) (length (record-at i .record-bytes)) refl (k .1))
 
@@ -259,7 +256,7 @@ module _ (e : ℕ) (a : Attributes) (ring : List ℕ) (head tail budget : ℕ) (
     pub drain-scratch-kept : All (λ (c : Cut). liesWhole ring c ≡ true) records → end .state .scratch ≡ scratch
     drain-scratch-kept w =
         ap (λ (x : End). x .state .scratch) (drain-cutting editions e a ring head tail budget journal scratch)
-        ∙ all-whole (askedOf editions e) ring head budget (begin tail (length journal) scratch) w
+        ∙ drain-all-whole (askedOf editions e) ring head hd budget (begin tail (length journal) scratch) w
 
 -- ---- the writer
 

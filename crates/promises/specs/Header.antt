@@ -1,6 +1,6 @@
 -- M-104: "Refusal 10 never happens. Once 1 and 5 pass, the eight header bytes can't cross the end. Show that, drop the case and document 01's row, and
 -- never reuse the number." Assumes nothing.
-use mathlib.Core.Path.{_≡_, refl, sym, ap, _∙_, subst, fun-ext}
+use mathlib.Core.Path.{_≡_, refl, ap, fun-ext}
 use mathlib.Core.List.{List, [], _∷_, _++_}
 use mathlib.Core.Bool.{Bool, true, false, cond, not}
 use Prim.Native.Nat.{ℕ, _+_, _*_, _%_, _<_, _≤_}
@@ -19,17 +19,18 @@ use Rattle.meaning.specs.Drain.{start, run, drain}
 use Rattle.meaning.specs.Names.{nameAnswer}
 use Rattle.meaning.specs.declared.Event.{Event}
 use Rattle.meaning.specs.Events.{judgeEvents, drainEvents, readOneEvents}
+use Rattle.meaning.specs.Backward.{walkBack, walkEvents}
 use Rattle.readers.specs.declared.Readers.{Readers}
 use Rattle.readers.specs.Readers.{tailRows, tailAnswer, publishAnswer, published}
 use Rattle.record.specs.Into.{readIntoAnswer}
 use Rattle.one.specs.Told.{toldStop, toldTaken, oneTold}
 use Rattle.writer.specs.Writer.{writeWordsAnswer}
-use Rattle.laws.specs.Bytes.{apart}
 use Rattle.laws.specs.Rows.{or-false, in-cond, first-in, gives, Passed, passed-by, stopped-after}
 use Rattle.laws.specs.Rings.{header-whole}
 use Rattle.editions.specs.Numbers.{recordNumbers, checkNumbers, recordCheckNumbers, stopNumbers, tableStopNumbers, eventNumbers, writeNumbers, nameNumbers}
-use Rattle.editions.specs.InTable.{frame-in}
+use Rattle.editions.specs.InTable.{frame-in, not-in}
 use Rattle.promises.specs.Demand1.{check-numbers, read-numbers, write-numbers, one-stop-numbers, one-numbers, drain-stop-numbers, drain-entry-numbers}
+use Rattle.promises.specs.Backward.{walk-others, walk-entry-numbers, walk-events-others}
 use Rattle.promises.specs.Lent.{readNumbers, lent-numbers}
 use Rattle.promises.specs.Names.{name-numbers}
 use Rattle.promises.specs.Events.{event-numbers, drain-events-numbers, one-events-stop-numbers}
@@ -86,6 +87,9 @@ pub record Nobodys (k e : ℕ) (a : Attributes) : Type 0 where
   pub drain-stop : (ring : List ℕ) (head tail budget : ℕ) (journal scratch : List ℕ) → drain editions e a ring head tail budget journal scratch .stop ≡ k → ⊥
   pub drain-answer : (ring : List ℕ) (head tail budget : ℕ) (journal scratch : List ℕ) (i : ℕ) → i < drain editions e a ring head tail budget journal scratch .state .taken
       → numberAt 2 (drain editions e a ring head tail budget journal scratch .state .journal) (16 * i + 6) ≡ k → ⊥
+  pub walk-stop : (ring : List ℕ) (head budget : ℕ) (journal scratch : List ℕ) → walkBack editions e a ring head budget journal scratch .stop ≡ k → ⊥
+  pub walk-answer : (ring : List ℕ) (head budget : ℕ) (journal scratch : List ℕ) (i : ℕ) → i < walkBack editions e a ring head budget journal scratch .state .taken
+      → numberAt 2 (walkBack editions e a ring head budget journal scratch .state .journal) (16 * i + 6) ≡ k → ⊥
   pub one-stop : (ring : List ℕ) (head tail : ℕ) (scratch : List ℕ) → readOne editions e a ring head tail scratch .frame .stop ≡ k → ⊥
   pub one-answer : (ring : List ℕ) (head tail : ℕ) (scratch : List ℕ) → readOne editions e a ring head tail scratch .answer ≡ k → ⊥
   pub told-stop : (ring : List ℕ) (head tail : ℕ) (scratch words : List ℕ) → oneTold editions e a ring head tail scratch words .stop ≡ k → ⊥
@@ -96,10 +100,6 @@ pub record Nobodys (k e : ℕ) (a : Attributes) : Type 0 where
   pub write-answer : (src ws : List ℕ) (space : ℕ) → writeAnswer editions e a src ws space ≡ k → ⊥
   pub words-answer : (src ws : List ℕ) (space : ℕ) → writeWordsAnswer e a src ws space ≡ k → ⊥
   pub name-answer : (xs : List ℕ) (place count : ℕ) (buffer : List ℕ) → nameAnswer xs place count buffer ≡ k → ⊥
-
--- what is in a list is no number that is not
-not-in : (ns : List ℕ) (k x : ℕ) → isIn k ns ≡ false → isIn x ns ≡ true → x ≡ k → ⊥
-not-in ns k x out h q = apart (sym out ∙ subst (λ (m : ℕ). isIn m ns ≡ true) q h)
 
 module _ (e : ℕ) (a : Attributes) where
   -- what C is told of one record: as the rows stop, or as the reader that fills lent words answers
@@ -139,6 +139,8 @@ module _ (e : ℕ) (a : Attributes) where
       record {
         drain-stop = λ ring head tail budget journal scratch. not-in stopNumbers 10 _ refl (drain-stop-numbers e a ring head tail budget journal scratch);
         drain-answer = λ ring head tail budget journal scratch i h. not-in recordNumbers 10 _ refl (drain-entry-numbers e a ring head tail budget journal scratch i h);
+        walk-stop = λ ring head budget journal scratch. walk-others e a ring head budget journal scratch 10 refl;
+        walk-answer = λ ring head budget journal scratch i h. not-in recordNumbers 10 _ refl (walk-entry-numbers e a ring head budget journal scratch i h);
         one-stop = λ ring head tail scratch. not-in stopNumbers 10 _ refl (one-stop-numbers e a ring head tail scratch);
         one-answer = λ ring head tail scratch. not-in recordNumbers 10 _ refl (one-numbers e a ring head tail scratch);
         told-stop = λ ring head tail scratch words. not-in stopNumbers 10 _ refl (told-stops ring head tail scratch words);
@@ -151,11 +153,12 @@ module _ (e : ℕ) (a : Attributes) where
         name-answer = λ xs place count buffer. not-in nameNumbers 10 _ refl (name-numbers xs place count buffer);
       }
 
--- ---- nor is it given with a table of events (M-100), or beside the tail of two readers (M-105)
+-- ---- nor is it given with a table of events (M-100, and M-109's walk with one), or beside the tail of two readers (M-105)
 
 pub record NobodysBeside (k limit e : ℕ) (es : List Event) : Type 0 where
   pub drain-stop : (ring : List ℕ) (head tail budget : ℕ) (journal scratch : List ℕ) → drainEvents limit editions e es ring head tail budget journal scratch .stop ≡ k → ⊥
   pub drain-answer : (xs : List ℕ) → judgeEvents (known editions e) es xs ≡ k → ⊥
+  pub walk-stop : (ring : List ℕ) (head budget : ℕ) (journal scratch : List ℕ) → walkEvents limit editions e es ring head budget journal scratch .stop ≡ k → ⊥
   pub one-stop : (ring : List ℕ) (head tail : ℕ) (scratch : List ℕ) → readOneEvents limit editions e es ring head tail scratch .frame .stop ≡ k → ⊥
   pub publish-answer : (n head : ℕ) (r : Readers) → published n head r .answer ≡ k → ⊥
 
@@ -178,6 +181,7 @@ ten-is-nobodys-beside limit e es =
     record {
       drain-stop = λ ring head tail budget journal scratch. not-in tableStopNumbers 10 _ refl (drain-events-numbers limit e es ring head tail budget journal scratch);
       drain-answer = λ xs. not-in eventNumbers 10 _ refl (event-numbers e es xs);
+      walk-stop = λ ring head budget journal scratch. walk-events-others limit e es ring head budget journal scratch 10 refl;
       one-stop = λ ring head tail scratch. not-in tableStopNumbers 10 _ refl (one-events-stop-numbers limit e es ring head tail scratch);
       publish-answer = λ n head r. not-in tailNumbers 10 _ refl (published-in n head r);
     }

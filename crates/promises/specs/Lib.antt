@@ -4,6 +4,7 @@ pub mod Checked
 pub mod Demand1
 pub mod Names
 pub mod Lent
+pub mod Backward
 pub mod Header
 pub mod Demand2
 pub mod Exported

@@ -53,6 +53,7 @@ use Rattle.one.proofs as one
 use Rattle.reader.proofs as reader
 use Rattle.drain.proofs as drains
 use Rattle.event_drain.proofs as eventful
+use Rattle.walk_back.proofs as walks
 use Rattle.event_one.proofs as single
 use Rattle.fast_drain.proofs as fast
 use Rattle.replay.proofs as replay
@@ -380,6 +381,9 @@ names-copy-name-buffer κs a x y s t p q = same (p .1) (q .1)
 
 -- ---- ring: the ring: of a part that is shown, its bytes and where it begins
 
+pub ring-halt : Result ring.halt.Kinds.ps ring.halt.Kinds.r ring.halt.Reads.Learnt
+ring-halt κs a x y s t p q = same p q
+
 pub ring-length-allowed : Result ring.length_allowed.Kinds.ps ring.length_allowed.Kinds.r ring.length_allowed.Reads.Learnt
 ring-length-allowed κs a x y s t p q = same p q
 
@@ -610,6 +614,32 @@ settings-write-store κs a x y s t p q = same (p .0) (q .0)
 pub settings-write-store-buffer : Seen settings.write_store.Kinds.ps settings.write_store.Kinds.r settings.write_store.Reads.Learnt (λ κs x s. now (s .1 .1 .1 .1 .0))
 settings-write-store-buffer κs a x y s t p q = same (p .1) (q .1)
 
+-- ---- walk_back: the walk over a backward ring
+
+pub walk-back-placed-at : Result walks.placed_at.Kinds.ps walks.placed_at.Kinds.r walks.placed_at.Reads.Learnt
+walk-back-placed-at κs a x y s t p q = same p q
+
+pub walk-back-next-back : Result walks.next_back.Kinds.ps walks.next_back.Kinds.r walks.next_back.Reads.Learnt
+walk-back-next-back κs a x y s t p q = same p q
+
+pub walk-back-walk-back : Result walks.walk_back.Kinds.ps walks.walk_back.Kinds.r walks.walk_back.Reads.Learnt
+walk-back-walk-back κs a x y s t p q = same (p .0) (q .0)
+
+pub walk-back-walk-back-journal : Seen walks.walk_back.Kinds.ps walks.walk_back.Kinds.r walks.walk_back.Reads.Learnt (λ κs x s. now (s .1 .1 .1 .1 .1 .1 .0))
+walk-back-walk-back-journal κs a x y s t p q = same (p .1 .0) (q .1 .0)
+
+pub walk-back-walk-back-scratch : Seen walks.walk_back.Kinds.ps walks.walk_back.Kinds.r walks.walk_back.Reads.Learnt (λ κs x s. now (s .1 .1 .1 .1 .1 .0))
+walk-back-walk-back-scratch κs a x y s t p q = same (p .1 .1) (q .1 .1)
+
+pub walk-back-walk-events : Result walks.walk_events.Kinds.ps walks.walk_events.Kinds.r walks.walk_events.Reads.Learnt
+walk-back-walk-events κs a x y s t p q = same (p .0) (q .0)
+
+pub walk-back-walk-events-journal : Seen walks.walk_events.Kinds.ps walks.walk_events.Kinds.r walks.walk_events.Reads.Learnt (λ κs x s. now (s .1 .1 .1 .1 .1 .1 .1 .0))
+walk-back-walk-events-journal κs a x y s t p q = same (p .1 .0) (q .1 .0)
+
+pub walk-back-walk-events-scratch : Seen walks.walk_events.Kinds.ps walks.walk_events.Kinds.r walks.walk_events.Reads.Learnt (λ κs x s. now (s .1 .1 .1 .1 .1 .1 .0))
+walk-back-walk-events-scratch κs a x y s t p q = same (p .1 .1) (q .1 .1)
+
 -- ---- readers: two of one ring
 
 pub readers-new : Result readers.Readers.new.Kinds.ps readers.Readers.new.Kinds.r readers.Readers.new.Reads.Learnt
@@ -687,6 +717,24 @@ ollskuvan-replay-rooms κs a x y s t p q = same (p .1 .0) (q .1 .0)
 
 pub ollskuvan-replay-journal : Seen ollskuvan.ollskuvan_replay.Kinds.ps ollskuvan.ollskuvan_replay.Kinds.r ollskuvan.ollskuvan_replay.Reads.Learnt (λ κs x s. now (s .1 .1 .1 .1 .1 .0))
 ollskuvan-replay-journal κs a x y s t p q = same (p .1 .1) (q .1 .1)
+
+pub ollskuvan-walk-back : Result ollskuvan.ollskuvan_walk_back.Kinds.ps ollskuvan.ollskuvan_walk_back.Kinds.r ollskuvan.ollskuvan_walk_back.Reads.Learnt
+ollskuvan-walk-back κs a x y s t p q = same (p .0) (q .0)
+
+pub ollskuvan-walk-back-journal : Seen ollskuvan.ollskuvan_walk_back.Kinds.ps ollskuvan.ollskuvan_walk_back.Kinds.r ollskuvan.ollskuvan_walk_back.Reads.Learnt (λ κs x s. now (s .1 .1 .1 .1 .1 .1 .1 .1 .1 .1 .1 .0))
+ollskuvan-walk-back-journal κs a x y s t p q = same (p .1 .0) (q .1 .0)
+
+pub ollskuvan-walk-back-scratch : Seen ollskuvan.ollskuvan_walk_back.Kinds.ps ollskuvan.ollskuvan_walk_back.Kinds.r ollskuvan.ollskuvan_walk_back.Reads.Learnt (λ κs x s. now (s .1 .1 .1 .1 .1 .1 .1 .1 .1 .1 .0))
+ollskuvan-walk-back-scratch κs a x y s t p q = same (p .1 .1) (q .1 .1)
+
+pub ollskuvan-walk-back-events : Result ollskuvan.ollskuvan_walk_back_events.Kinds.ps ollskuvan.ollskuvan_walk_back_events.Kinds.r ollskuvan.ollskuvan_walk_back_events.Reads.Learnt
+ollskuvan-walk-back-events κs a x y s t p q = same (p .0) (q .0)
+
+pub ollskuvan-walk-back-events-journal : Seen ollskuvan.ollskuvan_walk_back_events.Kinds.ps ollskuvan.ollskuvan_walk_back_events.Kinds.r ollskuvan.ollskuvan_walk_back_events.Reads.Learnt (λ κs x s. now (s .1 .1 .1 .1 .1 .1 .0))
+ollskuvan-walk-back-events-journal κs a x y s t p q = same (p .1 .0) (q .1 .0)
+
+pub ollskuvan-walk-back-events-scratch : Seen ollskuvan.ollskuvan_walk_back_events.Kinds.ps ollskuvan.ollskuvan_walk_back_events.Kinds.r ollskuvan.ollskuvan_walk_back_events.Reads.Learnt (λ κs x s. now (s .1 .1 .1 .1 .1 .0))
+ollskuvan-walk-back-events-scratch κs a x y s t p q = same (p .1 .1) (q .1 .1)
 
 pub ollskuvan-misc-meaning : Result ollskuvan.ollskuvan_misc_meaning.Kinds.ps ollskuvan.ollskuvan_misc_meaning.Kinds.r ollskuvan.ollskuvan_misc_meaning.Reads.Learnt
 ollskuvan-misc-meaning κs a x y s t p q = same p q
