@@ -60,12 +60,12 @@ join-join start n m (h ∷ hs) p = by (eqb (h .start) (start + n + m)) refl
         ∙ sym (join-apart start (n + m) h hs f)
 
 -- the first hole does not start at a place
-abbrev Away : ℕ → List Run → Type 0
+abbrev pub Away : ℕ → List Run → Type 0
 Away at [] = Unit {0}
 Away at (h ∷ hs) = h .start ≡ at → ⊥
 
 -- what holds of a joined list where it holds in both cases
-joins : (start n : ℕ) (hs : List Run) (P : List Run → Type 0)
+pub joins : (start n : ℕ) (hs : List Run) (P : List Run → Type 0)
     → ((h : Run) (rest : List Run) → hs ≡ h ∷ rest → h .start ≡ start + n → P (run start (n + h .length) ∷ rest))
     → (Away (start + n) hs → P (run start n ∷ hs))
     → P (join start n hs)

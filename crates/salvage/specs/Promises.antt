@@ -11,12 +11,13 @@ use lib.ListN.{length, take, drop, length-append}
 use lib.Seq.{take-at, drop-at, take-append-seam, drop-append-seam}
 use Rattle.meaning.specs.Bytes.{numberAt, spell, put}
 use Rattle.meaning.specs.Refusals.{orElse}
+use Rattle.salvage.specs.declared.Salvaged.{Salvaged}
 use Rattle.laws.specs.Bytes.{apart, num-spell}
-use Rattle.laws.specs.Put.{put-start}
+use Rattle.laws.specs.Put.{put-nil, put-start}
 use Rattle.entries.specs.Entries.{entryBytes}
 use Rattle.runs.specs.Streams.{joined}
 use Rattle.runs.specs.Streams.{framed-says, framed-size}
-use Rattle.salvage.specs.Salvage.{keeps, step, Piece, piece, pieces, keptIn, keptRecords, output, Run, holesIn, holes, dropped, holeBytes, changes, salvageAnswer, accepted, outAfter, listAfter}
+use Rattle.salvage.specs.Salvage.{keeps, step, Piece, piece, pieces, keptIn, keptRecords, output, Run, holesIn, holes, dropped, holeBytes, changes, salvageAnswer, accepted, outAfter, listAfter, tells, salvaged}
 use Rattle.salvage.specs.Steps.{Accepted, AllAccepted, accepted-kept, step-kept, pieces-turn, pieces-end}
 use Rattle.salvage.specs.Holes.{Spaced, without, along-from}
 
@@ -210,3 +211,53 @@ module _ (before : ℕ) (judge : List ℕ → ℕ) (xs out list : List ℕ) wher
         sum = λ (w : length xs < 256 ^ 8).
             omega (arith, ap (toldDropped (length hs)) q ∙ told-holes hs (drop (length (changes hs)) list) 0 (length xs) w (holes-spaced judge xs), kept-and-dropped judge xs);
       }
+
+-- ---- what is told
+
+module _ (before : ℕ) (judge : List ℕ → ℕ) (xs : List ℕ) (room listRoom : ℕ) where
+  pub told-answer : salvaged before judge xs room listRoom .answer ≡ salvageAnswer before judge xs room listRoom
+  unfolding salvaged
+  told-answer = by (eqb (salvageAnswer before judge xs room listRoom) 0) refl
+    where
+      by : (t : Bool) → eqb (salvageAnswer before judge xs room listRoom) 0 ≡ t
+          → cond t (tells (length (output judge xs)) (dropped (holes judge xs)) (length (changes (holes judge xs))) 0) (tells 0 0 0 (salvageAnswer before judge xs room listRoom)) .answer
+          ≡ salvageAnswer before judge xs room listRoom
+      by true e = sym (eqb-true _ 0 e)
+      by false e = refl
+
+  pub told-refused : (salvageAnswer before judge xs room listRoom ≡ 0 → ⊥) → salvaged before judge xs room listRoom ≡ tells 0 0 0 (salvageAnswer before judge xs room listRoom)
+  unfolding salvaged
+  told-refused h = simp (ne-eqb _ 0 h)
+
+  pub told-accepted : salvageAnswer before judge xs room listRoom ≡ 0
+      → salvaged before judge xs room listRoom ≡ tells (length (output judge xs)) (dropped (holes judge xs)) (length (changes (holes judge xs))) 0
+  unfolding salvaged
+  told-accepted h = simp (eq-eqb _ 0 h)
+
+-- a stream that a salvage does not change: all of it told as kept, the same bytes, and no byte of the list's buffer written
+pub record Back (before : ℕ) (judge : List ℕ → ℕ) (xs out list : List ℕ) : Type 0 where
+  pub told : salvaged before judge xs (length out) (length list) ≡ tells (length xs) 0 0 0
+  pub bytes : take (length xs) (outAfter before judge xs out list) ≡ xs
+  pub list-same : listAfter before judge xs out list ≡ list
+
+pub comes-back : (before : ℕ) (judge : List ℕ → ℕ) (xs out list : List ℕ) → before ≡ 0 → Unchanged judge xs → length xs ≤ length out → Back before judge xs out list
+unfolding changes dropped outAfter listAfter
+comes-back before judge xs out list z u r =
+    let a : salvageAnswer before judge xs (length out) (length list) ≡ 0 =
+    ap (λ (k : ℕ). salvageAnswer k judge xs (length out) (length list)) z
+    ∙ room-suffices judge xs (length out) (length list) (omega (arith, ap length (u .bytes))) (omega (arith, ap (λ (hs : List Run). length (changes hs)) (u .list))) in
+    let e : accepted before judge xs out list ≡ true = eq-eqb _ 0 a in
+    record {
+      told =
+          told-accepted before judge xs (length out) (length list) a
+          ∙ (λ i. tells (length (u .bytes i)) (dropped (u .list i)) (length (changes (u .list i))) 0);
+      bytes =
+          ap (λ (b : Bool). take (length xs) (cond b (put out 0 (output judge xs)) out)) e
+          ∙ ap (λ (l : List ℕ). take (length xs) (put out 0 l)) (u .bytes)
+          ∙ ap (take (length xs)) (put-start out xs r)
+          ∙ take-append-seam xs (drop (length xs) out);
+      list-same =
+          ap (λ (b : Bool). cond b (put list 0 (changes (holes judge xs))) list) e
+          ∙ ap (λ (hs : List Run). put list 0 (changes hs)) (u .list)
+          ∙ put-nil list 0 (omega arith);
+    }
