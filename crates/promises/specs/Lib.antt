@@ -15,3 +15,4 @@ pub mod EventExamples
 pub mod Series
 pub mod Readers
 pub mod Salvage
+pub mod SalvageExamples

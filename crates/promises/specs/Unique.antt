@@ -52,6 +52,7 @@ use Rattle.reader.proofs as reader
 use Rattle.drain.proofs as drains
 use Rattle.event_drain.proofs as eventful
 use Rattle.event_one.proofs as single
+use Rattle.salvage.proofs as salvage
 use Rattle.fast_drain.proofs as fast
 use Rattle.ollskuvan.proofs as ollskuvan
 use Rattle.writer_words.proofs as words
@@ -593,6 +594,20 @@ readers-advance-second κs a x y s t p q = same p q
 pub readers-publish : Result readers.Readers.publish.Kinds.ps readers.Readers.publish.Kinds.r readers.Readers.publish.Reads.Learnt
 readers-publish κs a x y s t p q = same p q
 
+-- ---- salvage
+
+pub salvage-kept-size : Result salvage.kept_size.Kinds.ps salvage.kept_size.Kinds.r salvage.kept_size.Reads.Learnt
+salvage-kept-size κs a x y s t p q = same p q
+
+pub salvage-salvage : Result salvage.salvage.Kinds.ps salvage.salvage.Kinds.r salvage.salvage.Reads.Learnt
+salvage-salvage κs a x y s t p q = same (p .0) (q .0)
+
+pub salvage-salvage-out : Seen salvage.salvage.Kinds.ps salvage.salvage.Kinds.r salvage.salvage.Reads.Learnt (λ κs x s. now (s .1 .1 .1 .1 .0))
+salvage-salvage-out κs a x y s t p q = same (p .1 .0) (q .1 .0)
+
+pub salvage-salvage-list : Seen salvage.salvage.Kinds.ps salvage.salvage.Kinds.r salvage.salvage.Reads.Learnt (λ κs x s. now (s .1 .1 .1 .1 .1 .0))
+salvage-salvage-list κs a x y s t p q = same (p .1 .1) (q .1 .1)
+
 -- ---- ollskuvan: what C calls
 
 pub ollskuvan-drain : Result ollskuvan.ollskuvan_drain.Kinds.ps ollskuvan.ollskuvan_drain.Kinds.r ollskuvan.ollskuvan_drain.Reads.Learnt
@@ -636,6 +651,15 @@ ollskuvan-check κs a x y s t p q = same p q
 
 pub ollskuvan-publish : Result ollskuvan.ollskuvan_publish.Kinds.ps ollskuvan.ollskuvan_publish.Kinds.r ollskuvan.ollskuvan_publish.Reads.Learnt
 ollskuvan-publish κs a x y s t p q = same p q
+
+pub ollskuvan-salvage : Result ollskuvan.ollskuvan_salvage.Kinds.ps ollskuvan.ollskuvan_salvage.Kinds.r ollskuvan.ollskuvan_salvage.Reads.Learnt
+ollskuvan-salvage κs a x y s t p q = same (p .0) (q .0)
+
+pub ollskuvan-salvage-out : Seen ollskuvan.ollskuvan_salvage.Kinds.ps ollskuvan.ollskuvan_salvage.Kinds.r ollskuvan.ollskuvan_salvage.Reads.Learnt (λ κs x s. now (s .1 .1 .1 .0))
+ollskuvan-salvage-out κs a x y s t p q = same (p .1 .0) (q .1 .0)
+
+pub ollskuvan-salvage-changes : Seen ollskuvan.ollskuvan_salvage.Kinds.ps ollskuvan.ollskuvan_salvage.Kinds.r ollskuvan.ollskuvan_salvage.Reads.Learnt (λ κs x s. now (s .1 .1 .1 .1 .0))
+ollskuvan-salvage-changes κs a x y s t p q = same (p .1 .1) (q .1 .1)
 
 pub ollskuvan-misc-meaning : Result ollskuvan.ollskuvan_misc_meaning.Kinds.ps ollskuvan.ollskuvan_misc_meaning.Kinds.r ollskuvan.ollskuvan_misc_meaning.Reads.Learnt
 ollskuvan-misc-meaning κs a x y s t p q = same p q
