@@ -2,18 +2,17 @@
 -- and `salvageList`. Assumes nothing.
 use mathlib.Core.Path.{_≡_, sym, ap, _∙_, subst}
 use mathlib.Core.Bool.{true, false}
-use mathlib.Core.List.{List, []}
+use mathlib.Core.List.{List}
 use mathlib.Core.Logic.{_⊎_}
 use Prim.Native.Nat.{ℕ, _+_, _*_, _^_, _<_, _≤_}
 use native.Mathlib.Omega.{arith}
 use lib.ListN.{length, take, drop}
-use lib.Seq.{length-take-le}
 use Rattle.meaning.specs.declared.Event.{Event}
 use Rattle.meaning.specs.Editions.{editions, allowed}
 use Rattle.meaning.specs.Events.{sound}
 use Rattle.runs.specs.Streams.{joined}
 use Rattle.salvage.specs.declared.Salvaged.{Salvaged}
-use Rattle.salvage.specs.Salvage.{pieces, keptRecords, output, Run, holes, dropped, changes, salvageAnswer, tells, salvaged, outAfter, listAfter, tableUnready, tableJudge, salvageTold, salvageOut, salvageList}
+use Rattle.salvage.specs.Salvage.{pieces, keptRecords, output, holes, dropped, changes, salvageAnswer, tells, tableUnready, tableJudge, salvageTold, salvageOut, salvageList}
 use Rattle.salvage.specs.Steps.{AllAccepted}
 use Rattle.salvage.specs.Holes.{Spaced, without}
 use Rattle.salvage.specs.Cover as cover

@@ -1,16 +1,15 @@
 -- Streams with holes, under edition 2 and a table of one event: what is kept, the list, the answers. The checker computes them. Assumes nothing.
 use mathlib.Core.Path.{_≡_, refl}
 use Prim.Native.Nat.{ℕ, _+_, _^_}
-use mathlib.Core.Bool.{Bool, true, false, not}
 use mathlib.Core.List.{List, [], _∷_, _++_}
-use lib.ListN.{length, take, drop}
+use lib.ListN.{length}
 use Rattle.meaning.specs.declared.Event.{Event}
 use Rattle.meaning.specs.Bytes.{num, spell, bit, ones, zeros, zeroIn, put}
 use Rattle.meaning.specs.Refusals.{first}
 use Rattle.meaning.specs.Items as Items
 use Rattle.meaning.specs.Editions.{editions, known, outside, bits, depends, unreadable}
 use Rattle.meaning.specs.Records.{layout, kindOf, miscOf, sizeOf, roomShape, room, fieldsOf, closed, fieldsAnswer, judge}
-use Rattle.meaning.specs.Events.{attributesOf, distinct, allMarked, eventLimit, sound, identifierOf, indexOf, hasEvent, judgeEvents}
+use Rattle.meaning.specs.Events.{attributesOf, distinct, allMarked, eventLimit, sound, identifierOf, indexOf, judgeEvents}
 use Rattle.entries.specs.Entries.{entryBytes}
 use Rattle.runs.specs.Streams.{joined}
 use Rattle.salvage.specs.declared.Salvaged.{Salvaged}

@@ -10,7 +10,7 @@ use lib.ListN.{length, take, drop, length-append, length-drop, take-append-drop}
 use lib.Seq.{drop-drop, take-append-seam, drop-append-seam}
 use Rattle.salvage.specs.Salvage.{keeps, step, Piece, piece, pieces, keptIn, keptRecords, Run, run, join, holesIn, holes}
 use Rattle.salvage.specs.Steps.{step-low, steps}
-use Rattle.salvage.specs.Holes.{Away, Spaced, joins}
+use Rattle.salvage.specs.Holes.{Spaced, joins}
 
 -- ---- definitions
 
@@ -185,11 +185,13 @@ spaced-longest low end (h ∷ hs) s =
     further : (x : Run) → Stands (h .start + h .length + 1) hs x → Stands low (h ∷ hs) x
     further x a =
         let l = s .0 in
-        let g = a .0 in
-        (omega arith, record {
-          before = λ k e. omega (arith, within-high k h (omega arith), a .1 .before k e);
-          after = omega (arith, within-high (x .start + x .length) h (omega arith), a .1 .after);
-        })
+        let g = a .0 in (
+          omega arith,
+          record {
+            before = λ k e. omega (arith, within-high k h (omega arith), a .1 .before k e);
+            after = omega (arith, within-high (x .start + x .length) h (omega arith), a .1 .after);
+          },
+        )
 
 pub longest : (end : ℕ) (hs : List Run) → Spaced 0 hs end → AllRuns (Longest hs) hs
 longest end hs s = all-runs (Stands 0 hs) (Longest hs) hs (λ h a. a .1) (spaced-longest 0 end hs s)

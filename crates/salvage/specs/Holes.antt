@@ -1,18 +1,17 @@
 -- The list of holes: longest runs, ascending, apart, inside the input; the output is the input without them. Assumes nothing.
 use mathlib.Core.Path.{_≡_, refl, sym, ap, _∙_, subst}
 use mathlib.Core.Bool.{Bool, true, false, cond}
-use mathlib.Core.List.{List, [], _∷_, _++_, append-assoc, append-nil}
-use Prim.Native.Nat.{ℕ, zero, suc, _+_, _-_, _<_, _≤_}
-use native.Mathlib.Nat.{add-zero, sub-self}
+use mathlib.Core.List.{List, [], _∷_, _++_, append-assoc}
+use Prim.Native.Nat.{ℕ, _+_, _-_, _<_, _≤_}
 use native.Mathlib.Omega.{arith}
 use borrow.Author.Tests.{eq-eqb, ne-eqb, eqb-true, eqb-false}
 use lib.Dec.{eqb}
-use lib.ListN.{length, take, drop, length-append, length-drop, take-append-drop}
+use lib.ListN.{length, take, drop, length-append, take-append-drop}
 use lib.Seq.{drop-drop, take-add, take-append-seam, drop-append-seam}
 use Rattle.laws.specs.Bytes.{take-length-by}
 use Rattle.runs.specs.Streams.{joined}
 use Rattle.salvage.specs.Salvage.{keeps, step, Piece, piece, pieces, keptIn, Run, run, join, holesIn, dropped, output, holes}
-use Rattle.salvage.specs.Steps.{Accepted, AllAccepted, keeps-says, kept-accepted, step-kept, step-low, steps}
+use Rattle.salvage.specs.Steps.{Accepted, AllAccepted, kept-accepted, step-kept, step-low, steps}
 
 -- holes from a place on, before an end: none is empty, each starts after the last one's end and does not touch it
 abbrev pub Spaced : ℕ → List Run → ℕ → Type 0

@@ -10,8 +10,6 @@ use lib.Dec.{ltb, eqb}
 use lib.ListN.{length, take, drop, length-append}
 use lib.Seq.{take-at, drop-at, take-append-seam, drop-append-seam}
 use Rattle.meaning.specs.Bytes.{numberAt, spell, put}
-use Rattle.meaning.specs.Refusals.{orElse}
-use Rattle.salvage.specs.declared.Salvaged.{Salvaged}
 use Rattle.laws.specs.Bytes.{apart, num-spell}
 use Rattle.laws.specs.Put.{put-nil, put-start}
 use Rattle.entries.specs.Entries.{entryBytes}

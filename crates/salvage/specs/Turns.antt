@@ -20,7 +20,7 @@ use Rattle.salvage.specs.Salvage.{keeps, step, Piece, piece, pieces, kep
 use Rattle.salvage.specs.declared.Salvaged.{Salvaged}
 use Rattle.meaning.specs.Refusals.{first}
 use Rattle.salvage.specs.Walks.{walk, closed, advanced, outNext, listClosed, listNext, from, pending, Stands, Room, Wrote}
-use Rattle.salvage.specs.Steps.{Kept, says-keeps, keeps-says, step-kept, step-dropped, step-low, pieces-turn, pieces-end}
+use Rattle.salvage.specs.Steps.{Kept, says-keeps, keeps-says, step-kept, step-dropped, step-low, pieces-end}
 use Rattle.salvage.specs.Holes.{Spaced, join-join, join-before, along-from}
 use Rattle.salvage.specs.Promises.{changes-length, kept-and-dropped, holes-spaced, before-answer, room-suffices, no-room}
 

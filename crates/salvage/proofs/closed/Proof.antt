@@ -4,9 +4,6 @@ use borrow.Author.Needs.{needs}
 use Rattle.salvage.proofs.closed.Statement.{statement}
 use Rattle.salvage.proofs.closed.Tie as tie
 
-add-result : tie.Need-add-result
-add-result c = search needs
-
 returns : tie.Need-returns
 returns c = let w = c .before .before .before .args .w in simp (lt-ltb (w .start) (w .at) (c .before .if1 .taken))
 
@@ -14,4 +11,4 @@ returns-2 : tie.Need-returns-2
 returns-2 c = let w = c .before .before .args .w in simp (le-ltb (w .start) (w .at) (c .if1 .left))
 
 pub closed-spec : {M : Type 1} → statement M
-closed-spec = tie.close (tie.spec add-result returns returns-2)
+closed-spec = tie.close (tie.spec (λ c. search needs) returns returns-2)

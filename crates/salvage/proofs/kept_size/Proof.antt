@@ -1,9 +1,8 @@
 -- Each refusal denies one of the four things that a kept record has (`Kept`); past the last test all four hold.
-use mathlib.Core.Path.{_≡_, refl, sym, ap, _∙_}
-use mathlib.Core.List.{List}
+use mathlib.Core.Path.{_≡_, sym, ap, _∙_}
 use Prim.Native.Nat.{ℕ, _%_}
 use native.Mathlib.Omega.{arith}
-use lib.ListN.{length, take}
+use lib.ListN.{take}
 use lib.Seq.{length-take-le}
 use denote.Ref.{now}
 use Rattle.meaning.specs.Editions.{editions}
@@ -18,9 +17,6 @@ use Rattle.salvage.proofs.kept_size.Tie as tie
 
 returns : tie.Need-returns
 returns c = let a = c .before .before .args in size-none _ (now (a .left)) (λ (k : Kept (tableJudge editions (a .e) (eventsOf (now (a .rows)))) (now (a .left))). omega (arith, k .low, k .inside, c .if1 .taken))
-
-u16-at-requires : tie.Need-u16-at-requires
-u16-at-requires c κs = search needs
 
 returns-2 : tie.Need-returns-2
 unfolding sizeOf
@@ -75,7 +71,7 @@ kept-size-spec =
     tie.close
     (tie.spec
     returns
-    u16-at-requires
+    (λ c κs. search needs)
     returns-2
     returns-3
     returns-4

@@ -1,16 +1,16 @@
 -- Each turn is a step: what is still to come is the whole (`Stands`); at the end nothing is left, so what was counted is all.
 use borrow.Author.Needs.{needs}
-use mathlib.Core.Path.{_≡_, refl, sym, ap, _∙_, subst}
+use mathlib.Core.Path.{_≡_, sym, ap, _∙_, subst}
 use mathlib.Core.List.{List}
-use Prim.Native.Nat.{ℕ, _+_, _-_, _*_, _^_, _<_, _≤_}
+use Prim.Native.Nat.{ℕ, _-_, _<_}
 use native.Mathlib.Omega.{arith}
-use lib.ListN.{length, take, drop, length-drop}
+use lib.ListN.{length, drop, length-drop}
 use lib.Seq.{take-all}
 use denote.Ref.{now}
 use Rattle.meaning.specs.Editions.{editions}
 use Rattle.meaning.specs.Events.{eventsOf}
 use Rattle.salvage.specs.declared.Walk.{Walk}
-use Rattle.salvage.specs.Salvage.{output, holes, tableJudge}
+use Rattle.salvage.specs.Salvage.{tableJudge}
 use Rattle.salvage.specs.Walks.{Stands}
 use Rattle.salvage.specs.Turns.{sizeAt, Sized, sized, stands-start, stands-again, stands-end, most}
 use Rattle.salvage.proofs.measure.Statement.{statement}
@@ -47,21 +47,6 @@ returns c =
     let e = stands-end (J (c .before .before .before .before)) (now (c .before .before .before .before .args .xs)) (c .before .before .loop .w) (c .before .before .loop .inv) (c .before .if1 .taken) in
     (e .kept-all, c .closed .ensures ∙ e .closed-all)
 
-sub-kept-size : tie.Need-sub-kept-size Inv-loop μ-loop
-sub-kept-size c = search needs
-
-part-kept-size-start : tie.Need-part-kept-size-start Inv-loop μ-loop
-part-kept-size-start c = search needs
-
-part-kept-size-end : tie.Need-part-kept-size-end Inv-loop μ-loop
-part-kept-size-end c = search needs
-
-kept-size-requires : tie.Need-kept-size-requires Inv-loop μ-loop
-kept-size-requires c κs = search needs
-
-sub-advance : tie.Need-sub-advance Inv-loop μ-loop
-sub-advance c = search needs
-
 advance-requires : tie.Need-advance-requires Inv-loop μ-loop
 advance-requires c κs =
     let m = most (J (c .before .before .before .before .before)) (now (c .before .before .before .before .before .args .xs)) in
@@ -86,11 +71,11 @@ measure-spec =
     loop-holds
     closed-requires
     returns
-    sub-kept-size
-    part-kept-size-start
-    part-kept-size-end
-    kept-size-requires
-    sub-advance
+    (λ c. search needs)
+    (λ c. search needs)
+    (λ c. search needs)
+    (λ c κs. search needs)
+    (λ c. search needs)
     advance-requires
     loop-less
     loop-again)

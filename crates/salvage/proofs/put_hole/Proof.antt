@@ -1,5 +1,5 @@
 -- Head, start and length are put one behind the other: together they are the entry's bytes.
-use mathlib.Core.Path.{_≡_, sym, ap, _∙_}
+use mathlib.Core.Path.{ap, _∙_}
 use mathlib.Core.List.{List}
 use Prim.Native.Nat.{ℕ, _+_}
 use denote.Ref.{now}
@@ -8,24 +8,6 @@ use Rattle.salvage.specs.Turns.{hole-put}
 use borrow.Author.Needs.{needs}
 use Rattle.salvage.proofs.put_hole.Statement.{statement}
 use Rattle.salvage.proofs.put_hole.Tie as tie
-
-put-head-requires : tie.Need-put-head-requires
-put-head-requires c κs = search needs
-
-add-put64 : tie.Need-add-put64
-add-put64 c = search needs
-
-put64-requires : tie.Need-put64-requires
-put64-requires c κs = search needs
-
-add-put64-2 : tie.Need-add-put64-2
-add-put64-2 c = search needs
-
-put64-requires-2 : tie.Need-put64-requires-2
-put64-requires-2 c κs = search needs
-
-same-length : tie.Need-same-length
-same-length c = search needs
 
 returns : tie.Need-returns
 returns c =
@@ -38,10 +20,10 @@ pub put-hole-spec : {M : Type 1} → statement M
 put-hole-spec =
     tie.close
     (tie.spec
-    put-head-requires
-    add-put64
-    put64-requires
-    add-put64-2
-    put64-requires-2
-    same-length
+    (λ c κs. search needs)
+    (λ c. search needs)
+    (λ c κs. search needs)
+    (λ c. search needs)
+    (λ c κs. search needs)
+    (λ c. search needs)
     returns)

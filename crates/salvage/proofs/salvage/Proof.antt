@@ -12,7 +12,7 @@ use borrow.Author.Tests.{not-true, not-false}
 use Rattle.meaning.specs.declared.Event.{Event}
 use Rattle.meaning.specs.Editions.{editions, allowed}
 use Rattle.meaning.specs.Events.{eventsOf, sound}
-use Rattle.salvage.specs.Salvage.{holes, dropped, output, changes, tells, tableUnready, tableJudge}
+use Rattle.salvage.specs.Salvage.{holes, dropped, changes, tells, tableUnready, tableJudge}
 use Rattle.salvage.specs.Promises.{changes-length, kept-and-dropped}
 use Rattle.salvage.specs.Turns.{unready-2, unready-11, unready-0, answer-before, answer-54, answer-0, refused-result, accepted-result}
 use Rattle.salvage.proofs.salvage.Statement.{statement}

@@ -1,18 +1,18 @@
 -- Each turn writes what its step adds: both buffers hold the first part of what they will hold (`Wrote`); at the end it is all.
 use Rattle.laws.specs.Put.{length-put}
-use mathlib.Core.Path.{_≡_, refl, sym, ap, _∙_, subst}
+use mathlib.Core.Path.{_≡_, sym, ap, _∙_, subst}
 use mathlib.Core.List.{List}
-use Prim.Native.Nat.{ℕ, _+_, _-_, _*_, _^_, _<_, _≤_}
+use Prim.Native.Nat.{ℕ, _-_, _<_}
 use native.Mathlib.Omega.{arith}
-use lib.ListN.{length, take, drop, length-drop}
+use lib.ListN.{length, drop, length-drop}
 use lib.Seq.{take-all}
 use denote.Ref.{now}
 use borrow.Author.Needs.{needs}
 use Rattle.meaning.specs.Editions.{editions}
 use Rattle.meaning.specs.Events.{eventsOf}
 use Rattle.salvage.specs.declared.Walk.{Walk}
-use Rattle.salvage.specs.Salvage.{output, holes, tableJudge}
-use Rattle.salvage.specs.Walks.{Wrote, Room}
+use Rattle.salvage.specs.Salvage.{holes, tableJudge}
+use Rattle.salvage.specs.Walks.{Wrote}
 use Rattle.salvage.specs.Promises.{changes-length}
 use Rattle.salvage.specs.Turns.{sizeAt, Sized, sized, wrote-start, wrote-lengths, wrote-by, write-again, write-end, stands-end, hole-room, most}
 use Rattle.salvage.proofs.write_all.Statement.{statement}
@@ -64,27 +64,12 @@ returns c =
     let e = write-end (J (c .before .before .before .before .before .before .before .before .before)) (now (c .before .before .before .before .before .before .before .before .before .args .xs)) (now (c .before .before .before .before .before .before .before .before .before .args .out)) (now (c .before .before .before .before .before .before .before .before .before .args .list)) (c .before .before .before .before .before .before .before .before .before .pre) (l .w) (l .out) (l .list) (l .inv) (c .before .before .before .before .if1 .taken) in
     (e .0, c .before .before .write-closed .ensures ∙ e .1)
 
-sub-kept-size : tie.Need-sub-kept-size Inv-loop μ-loop
-sub-kept-size c = search needs
-
-part-kept-size-start : tie.Need-part-kept-size-start Inv-loop μ-loop
-part-kept-size-start c = search needs
-
-part-kept-size-end : tie.Need-part-kept-size-end Inv-loop μ-loop
-part-kept-size-end c = search needs
-
-kept-size-requires : tie.Need-kept-size-requires Inv-loop μ-loop
-kept-size-requires c κs = search needs
-
 write-step-requires : tie.Need-write-step-requires Inv-loop μ-loop
 write-step-requires c κs =
     let l = c .before .before .before .before .before .loop in
     let t = turned (c .before .before) in
     let n = wrote-lengths (J (c .before .before .before .before .before .before .before .before .before)) (now (c .before .before .before .before .before .before .before .before .before .args .xs)) (now (c .before .before .before .before .before .before .before .before .before .args .out)) (now (c .before .before .before .before .before .before .before .before .before .args .list)) (l .w) (l .out) (l .list) (l .inv) .1 in
     (t .inside, λ p h. omega (arith, t .next-hole p h, changes-length (holes (J (c .before .before .before .before .before .before .before .before .before)) (now (c .before .before .before .before .before .before .before .before .before .args .xs))), c .before .before .before .before .before .before .before .before .before .pre .list-fits, n))
-
-sub-advance : tie.Need-sub-advance Inv-loop μ-loop
-sub-advance c = search needs
 
 advance-requires : tie.Need-advance-requires Inv-loop μ-loop
 advance-requires c κs =
@@ -115,12 +100,12 @@ write-all-spec =
     same-length
     same-length-2
     returns
-    sub-kept-size
-    part-kept-size-start
-    part-kept-size-end
-    kept-size-requires
+    (λ c. search needs)
+    (λ c. search needs)
+    (λ c. search needs)
+    (λ c κs. search needs)
     write-step-requires
-    sub-advance
+    (λ c. search needs)
     advance-requires
     loop-less
     loop-again)

@@ -1,5 +1,5 @@
 -- Size 0 writes nothing; any other puts the record behind the bytes kept, and the hole that ends before it.
-use mathlib.Core.Path.{_≡_, sym, ap, _∙_}
+use mathlib.Core.Path.{_≡_, ap, _∙_}
 use Prim.Native.Nat.{ℕ, _+_, _-_}
 use native.Mathlib.Omega.{arith}
 use lib.ListN.{take, drop}
@@ -13,29 +13,8 @@ use Rattle.salvage.proofs.write_step.Tie as tie
 returns : tie.Need-returns
 returns c = let a = c .before .before .before .before .args in step-none (now (a .xs)) (a .w) (a .size) (now (a .out)) (now (a .list)) (c .if1 .taken)
 
-add-copy-at : tie.Need-add-copy-at
-add-copy-at c = search needs
-
-sub-copy-at : tie.Need-sub-copy-at
-sub-copy-at c = search needs
-
-part-copy-at-start : tie.Need-part-copy-at-start
-part-copy-at-start c = search needs
-
-part-copy-at-end : tie.Need-part-copy-at-end
-part-copy-at-end c = search needs
-
-copy-at-requires : tie.Need-copy-at-requires
-copy-at-requires c κs = search needs
-
 write-closed-requires : tie.Need-write-closed-requires
 write-closed-requires c κs = c .before .before .before .before .before .before .before .before .before .before .pre .1 (omega (arith, c .before .before .before .before .before .before .if1 .left))
-
-same-length : tie.Need-same-length
-same-length c = search needs
-
-same-length-2 : tie.Need-same-length-2
-same-length-2 c = search needs
 
 returns-2 : tie.Need-returns-2
 returns-2 c =
@@ -51,12 +30,12 @@ write-step-spec =
     tie.close
     (tie.spec
     returns
-    add-copy-at
-    sub-copy-at
-    part-copy-at-start
-    part-copy-at-end
-    copy-at-requires
+    (λ c. search needs)
+    (λ c. search needs)
+    (λ c. search needs)
+    (λ c. search needs)
+    (λ c κs. search needs)
     write-closed-requires
-    same-length
-    same-length-2
+    (λ c. search needs)
+    (λ c. search needs)
     returns-2)
