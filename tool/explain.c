@@ -72,6 +72,8 @@ static const struct {
     { OLLSKUVAN_DIRTY_NAME,
         "Of record check alone, in place of 0: the record is sound, and a byte after its name's zero, before the\n"
         "    trailer or the record's end, is not zero. A drain and the readers answer 0." },
+    { OLLSKUVAN_REFUSED_SALVAGE_ROOM,
+        "Of salvage alone, and before anything is written. A buffer as long as the stream holds what is kept." },
 };
 
 static void print_note(uint32_t number)

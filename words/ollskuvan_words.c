@@ -44,6 +44,7 @@ const struct ollskuvan_answer ollskuvan_answers[] = {
     { OLLSKUVAN_REFUSED_VALUE, NULL, "no record has this value" },
     { OLLSKUVAN_REFUSED_DIRTY_VALUE, NULL, "the value has a name's flag set" },
     { OLLSKUVAN_DIRTY_NAME, NULL, "accepted, with stale bytes after the name" },
+    { OLLSKUVAN_REFUSED_SALVAGE_ROOM, NULL, "no room for what is kept, or for the list of changes" },
 };
 const size_t ollskuvan_answers_count = LENGTH(ollskuvan_answers);
 

@@ -5,11 +5,12 @@
 //! and says nothing about the library. Under names of its own (`own_names`: reader_drain and so on) it
 //! stands beside the library in one program: the fuzz target, tests/fuzz.
 
-use crate::abi::{CDrained, COne, CPublished};
+use crate::abi::{CDrained, COne, CPublished, CSalvaged};
 use crate::events::{self, Event};
 use crate::record;
 use crate::ring::{self, One, Ring};
 use crate::rules::{self, Attributes};
+use crate::salvage;
 use crate::words::FIELDS;
 use crate::writer;
 
@@ -147,4 +148,15 @@ pub unsafe extern "C" fn ollskuvan_write(
 pub extern "C" fn ollskuvan_publish(ring_length: u64, head: u64, first: u64, second: u64) -> CPublished {
     let p = ring::publish(ring_length, head, first, second);
     CPublished { tail: p.tail, answer: p.answer }
+}
+
+#[cfg_attr(own_names, export_name = "reader_salvage")]
+#[cfg_attr(not(own_names), no_mangle)]
+pub unsafe extern "C" fn ollskuvan_salvage(
+    stream: *const u8, stream_len: usize, table: *const Event, event_count: usize, edition: u32, out: *mut u8,
+    out_len: usize, changes: *mut u8, changes_len: usize,
+) -> CSalvaged {
+    let (stream, table) = (lent(stream, stream_len), lent(table, event_count));
+    let s = salvage::salvage(stream, table, edition, lent_mut(out, out_len), lent_mut(changes, changes_len));
+    CSalvaged { kept: s.kept, dropped: s.dropped, changes: s.changes, answer: s.answer }
 }

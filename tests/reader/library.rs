@@ -10,6 +10,7 @@ mod made;
 mod record;
 mod ring;
 mod rules;
+mod salvage;
 mod words;
 mod writer;
 

@@ -20,6 +20,8 @@ mod readers;
 mod record;
 mod ring;
 mod rules;
+mod salvage;
+mod salvages;
 mod series;
 mod soak;
 mod tables;
@@ -46,6 +48,7 @@ reader table-rings FOLDER [OPTIONS]   the real rings of several events, each wit
 reader ones [OPTIONS]                 the reader of one record: the library against the independent reader
 reader series [OPTIONS]               drains cut anywhere against one drain, by the library; --rings FOLDER: real rings too
 reader readers [OPTIONS]              two readers of one ring: the tail for the kernel, and each beside itself alone
+reader salvages [OPTIONS]             damaged streams: what is kept, the list of holes, the rooms; the library against the independent reader
 reader meanings [OPTIONS]             what misc means: the library against the independent reader
 reader bits                           each sample bit, read format, branch bit, type and trailer bit: written, read, compared
 reader images PROGRAM [WORDS...] [OPTIONS]
@@ -131,6 +134,7 @@ fn run(command: &str, o: &Options) -> Result<(), String> {
         "meanings" => run_meanings(o),
         "series" => run_series(o),
         "readers" => run_readers(o),
+        "salvages" => run_salvages(o),
         "values" | "bits" | "ones" if cfg!(without_values) => Err("built without read and write".to_string()),
         "values" => run_values(o),
         "ones" => run_ones(o),
@@ -409,6 +413,31 @@ fn run_readers(o: &Options) -> Result<(), String> {
     tally.print_answers("publish");
     all_reached(tally.missing(readers::MUST, &[], false), count, 1_000)?;
     println!("readers: seed {}, {count} pairs of tails, {} rings read by two in turn, no difference", o.seed, count.div_euclid(16));
+    Ok(())
+}
+
+fn run_salvages(o: &Options) -> Result<(), String> {
+    let start = Instant::now();
+    let count = o.count.unwrap_or(20_000);
+    let mut tally = Tally::default();
+    let mut fixed = 0;
+    if o.from == 0 {
+        fixed += fixed_part("by hand", salvages::by_hand, &mut tally)?;
+        fixed += fixed_part("every change of one byte", salvages::every_byte, &mut tally)?;
+    }
+    run_cases("salvages", o, count, &mut tally, salvages::one_case)?;
+    tally.print_answers("salvage");
+    for (what, count) in &tally.notes {
+        println!("{count:>9} {what}");
+    }
+    let mut missing = tally.missing(salvages::MUST, &[], false);
+    missing.extend(salvages::missing_notes(&tally));
+    all_reached(missing, count, 2_000)?;
+    println!(
+        "salvages: seed {}, {count} streams and {fixed} by hand and by changes of one byte, no difference, {:.1} s",
+        o.seed,
+        start.elapsed().as_secs_f64()
+    );
     Ok(())
 }
 

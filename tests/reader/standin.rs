@@ -7,5 +7,6 @@ mod exports;
 mod record;
 mod ring;
 mod rules;
+mod salvage;
 mod words;
 mod writer;

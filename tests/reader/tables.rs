@@ -63,7 +63,7 @@ pub fn sound_table(r: &mut Random, edition_number: u32) -> Vec<Event> {
 }
 
 /// A table that is refused, at times for two reasons.
-fn spoil(r: &mut Random, table: &mut Vec<Event>) {
+pub fn spoil(r: &mut Random, table: &mut Vec<Event>) {
     let at = r.below(table.len() as u64) as usize;
     match r.below(7) {
         0 => table[at].sample_type &= !(1 << 16),
@@ -123,7 +123,7 @@ fn short_record(r: &mut Random, edition_number: u32, room: usize) -> Vec<u8> {
 }
 
 /// A record of one of the events, of at most so many bytes.
-fn event_record(r: &mut Random, edition_number: u32, table: &[Event], room: usize, damaged: bool) -> Vec<u8> {
+pub fn event_record(r: &mut Random, edition_number: u32, table: &[Event], room: usize, damaged: bool) -> Vec<u8> {
     let event = &table[r.below(table.len() as u64) as usize];
     let a = event.attributes();
     let mut record = if r.one_in(15) {
