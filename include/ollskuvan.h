@@ -794,7 +794,8 @@ struct ollskuvan_salvaged {
  * 8 moves all that follows it off the places that are looked at; it is dropped,
  * mostly up to the stream's end. And where a record is refused, the places inside
  * it are looked at in turn, so that bytes of its body which look like a record of
- * the table are kept as one.
+ * the table are kept as one. A record whose numbers are damaged, and whose layout
+ * is not, is accepted as any other: records have no sum to check.
  */
 struct ollskuvan_salvaged ollskuvan_salvage(const uint8_t *stream, size_t stream_len,
     const struct ollskuvan_event *events, size_t event_count, uint32_t edition, uint8_t *out, size_t out_len,

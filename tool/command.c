@@ -51,3 +51,22 @@ int take_words(int argc, char **argv, const struct takes *takes, int *status)
         return count;
     return wrong(count < takes->least ? "too few words" : "too many words", "", takes->usage, status);
 }
+
+bool take_option(int *argc, char **argv, const char *option, const char **value, const char *usage, int *status)
+{
+    int kept = 1, i = 1;
+    while (i < *argc && strcmp(argv[i], "--") != 0) {
+        if (strcmp(argv[i], option) != 0) {
+            argv[kept++] = argv[i++];
+            continue;
+        }
+        if (i + 1 == *argc)
+            return wrong("a value is wanted behind ", option, usage, status) == 0;
+        *value = argv[i + 1];
+        i += 2;
+    }
+    while (i < *argc)
+        argv[kept++] = argv[i++];
+    *argc = kept;
+    return true;
+}

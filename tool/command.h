@@ -14,6 +14,7 @@
 int dump_command(int argc, char **argv);
 int journal_command(int argc, char **argv);
 int explain_command(int argc, char **argv);
+int salvage_command(int argc, char **argv);
 
 /* A word of the command line that begins with "-". */
 struct flag {
@@ -32,6 +33,11 @@ struct takes {
  * them, and "--" ends the flags. Returns how many there are. Below 0 the command
  * is done, and *status is its exit status: help was printed, or what is wrong. */
 int take_words(int argc, char **argv, const struct takes *takes, int *status);
+
+/* Before take_words: takes "OPTION VALUE" out of the words, wherever it stands
+ * before "--". Without it *value stays as it is; given twice the last one counts.
+ * False: its value is missing, which is said, and *status is the exit status. */
+bool take_option(int *argc, char **argv, const char *option, const char **value, const char *usage, int *status);
 
 /* Called last: the status, or STATUS_FAILED if the output could not be written,
  * which is said. */

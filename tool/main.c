@@ -22,6 +22,7 @@ static const struct command commands[] = {
     { NAMED("journal"), journal_command, "a line of hex digits for each record of an image, as ringdump prints it" },
     { NAMED("report"), report_command, "why a thread ran late, from images or live" },
     { NAMED("record"), record_command, "live rings of this kernel, read or saved as images" },
+    { NAMED("salvage"), salvage_command, "what is sound of a stream of records that has holes" },
     { NAMED("explain"), explain_command, "what the number of a stop or a refusal means" },
 };
 enum { COMMANDS = sizeof commands / sizeof commands[0] };
