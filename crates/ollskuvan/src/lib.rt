@@ -13,6 +13,7 @@ ghost use Rattle.record.specs.Into.{readIntoAnswer, readIntoWords};
 ghost use Rattle.one.specs.Told.{oneTold, oneWords};
 ghost use Rattle.event_one.specs.Told.{oneEventsTold, oneEventsWords};
 ghost use Rattle.readers.specs.Readers.{published, readersAt};
+ghost use Rattle.salvage.specs.Salvage.{salvageTold, salvageOut, salvageList};
 ghost use Rattle.writer.specs.Writer.{writeWordsAnswer, writeWordsBuffer};
 ghost use Rattle.ollskuvan.specs.Given.{given};
 use meaning::Attributes;
@@ -20,6 +21,7 @@ use meaning::Drained;
 use one::OneTold;
 use readers::Published;
 use readers::Readers;
+use salvage::Salvaged;
 
 fn attributes(
     sample: u64,
@@ -232,4 +234,22 @@ pub extern "C" fn ollskuvan_publish(len: u64, head: u64, first: u64, second: u64
     ensures { λ r. ⌜ r ≡ published len head (readersAt first second) ⌝ }
 {
     Readers::new(first, second).publish(len, head)
+}
+
+// The salvage of a damaged stream under a table of events: what is kept is written to `out`, one entry of 22 bytes for each run
+// that is dropped to `changes`.
+#[no_mangle]
+pub extern "C" fn ollskuvan_salvage(
+    stream: &[u8],
+    events: &[[u64; 7]],
+    edition: u32,
+    out: &mut [u8],
+    changes: &mut [u8],
+) -> Salvaged
+    ensures { λ r. ⌜ r ≡ salvageTold eventLimit editions edition (eventsOf (now (events .entry))) (now (stream .entry)) (now (out .entry)) (now (changes .entry)) ⌝ }
+    ensures { λ _. ⌜ now (out .exit) ≡ salvageOut eventLimit editions edition (eventsOf (now (events .entry))) (now (stream .entry)) (now (out .entry)) (now (changes .entry)) ⌝ }
+    ensures { λ _. ⌜ now (changes .exit) ≡ salvageList eventLimit editions edition (eventsOf (now (events .entry))) (now (stream .entry)) (now (out .entry)) (now (changes .entry)) ⌝ }
+{
+    let e = edition as u64;
+    salvage::salvage(stream, e, events, EVENTS, out, changes)
 }

@@ -6,3 +6,4 @@ pub mod Forward
 pub mod Turns
 pub mod Enough
 pub mod Scratches
+pub mod Streams

@@ -1,0 +1,6 @@
+pub mod Salvage
+pub mod Walks
+pub mod Steps
+pub mod Holes
+pub mod Promises
+pub mod Turns
