@@ -9,6 +9,9 @@
  *   bench mixes [ROUNDS]           rings of 1, 11 and 32 events with their table
  *   bench kinds [DRAIN]            every kind of ring: that the drains agree; with a name, two drains of each for callgrind
  *   bench table-kinds [DRAIN]      the same with a table of events
+ *   bench compare-salvage [STREAMS [SEED]]   careful C and ollskuvan_salvage on the same damaged streams
+ *   bench salvage [ROUNDS]         the cost of salvage: sound, torn, and the worst case, headers that claim 65,528 bytes
+ *   bench salvage-once WHOSE STREAM   one salvage, for callgrind; prints the stream's words of 8 bytes
  *   bench check WHOSE NUMBER       record check of each record of a workload, for callgrind: careful or ours
  *   bench once DRAIN WORKLOAD [BUDGET]   one drain, for callgrind; prints the number of records
  *   bench list                     the names that `once` takes
@@ -83,7 +86,7 @@ static int list_names(void)
     printf("workload empty\n");
     for (unsigned which = 0; which < MADE_MIXES; which++)
         printf("mix %s\n", made_mixes[which].name);
-    return 0;
+    return list_streams();
 }
 
 static int run_once(const char *drain, const char *workload, uint64_t budget)
@@ -146,7 +149,8 @@ static uint64_t number(const char *text, uint64_t least, uint64_t most)
 static int usage(void)
 {
     fprintf(stderr, "usage: bench compare [RINGS [SEED]] | tables [RINGS [SEED]] | time [ROUNDS] | mixes [ROUNDS] | sizes [ROUNDS] | values [ROUNDS]\n"
-                    "       bench once DRAIN WORKLOAD [BUDGET] | kinds [DRAIN] | table-kinds [DRAIN] | list\n");
+                    "       bench once DRAIN WORKLOAD [BUDGET] | kinds [DRAIN] | table-kinds [DRAIN] | list\n"
+                    "       bench compare-salvage [STREAMS [SEED]] | salvage [ROUNDS] | salvage-once WHOSE STREAM [CALLS]\n");
     return 2;
 }
 
@@ -157,6 +161,10 @@ int main(int argc, char **argv)
         return compare(argc > 2 ? number(argv[2], 1, UINT64_MAX) : 20000, argc > 3 ? number(argv[3], 0, UINT64_MAX) : 1);
     if (strcmp(mode, "tables") == 0 && argc <= 4)
         return compare_tables(argc > 2 ? number(argv[2], 1, UINT64_MAX) : 10000, argc > 3 ? number(argv[3], 0, UINT64_MAX) : 1);
+    if (strcmp(mode, "compare-salvage") == 0 && argc <= 4)
+        return compare_salvage(argc > 2 ? number(argv[2], 1, UINT64_MAX) : 5000, argc > 3 ? number(argv[3], 0, UINT64_MAX) : 1);
+    if (strcmp(mode, "salvage-once") == 0 && (argc == 4 || argc == 5))
+        return run_salvages(argv[2], argv[3], argc > 4 ? number(argv[4], 1, 1000) : 1);
     if (strcmp(mode, "once") == 0 && (argc == 4 || argc == 5))
         return run_once(argv[2], argv[3], argc > 4 ? number(argv[4], 1, UINT64_MAX) : 0);
     if (strcmp(mode, "check") == 0 && argc == 4)
@@ -176,6 +184,8 @@ int main(int argc, char **argv)
         return time_sizes(rounds != 0 ? rounds : 200);
     if (strcmp(mode, "mixes") == 0)
         return time_tables(rounds != 0 ? rounds : 300);
+    if (strcmp(mode, "salvage") == 0)
+        return time_salvage(rounds != 0 ? rounds : 20);
     if (strcmp(mode, "values") == 0)
         return time_values(rounds != 0 ? rounds : 100);
     return usage();

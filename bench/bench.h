@@ -33,10 +33,18 @@ void *grab(size_t bytes);
 int compare(uint64_t rings, uint64_t seed);
 int compare_tables(uint64_t rings, uint64_t seed);
 
-/* timing.c */
+/* timing.c: processor time of this thread; the middle one of the values, which are sorted then. */
+uint64_t thread_ns(void);
+double median(double *values, size_t count);
 int time_workloads(size_t rounds);
 int time_sizes(size_t rounds);
 int time_values(size_t rounds);
 int time_tables(size_t rounds);
+
+/* salvage.c */
+int compare_salvage(uint64_t streams, uint64_t seed);
+int list_streams(void);
+int run_salvages(const char *whose, const char *stream, uint64_t calls);
+int time_salvage(size_t rounds);
 
 #endif

@@ -2,8 +2,9 @@
 # Builds the bench and runs it. Everything goes to target/bench.
 #
 #   bench/run.sh                 all of it: the comparison, times, ring sizes, values, instructions
-#   bench/run.sh --short         the comparison alone, without a table and with one: fails only if careful C and ours differ (the gate)
-#   bench/run.sh --time | --sizes | --values | --instructions | --kinds | --tables    one part, after a short comparison
+#   bench/run.sh --short         the comparison alone, without a table and with one, and of salvage: fails only if careful C and ours
+#                                differ (the gate)
+#   bench/run.sh --time | --sizes | --values | --instructions | --kinds | --tables | --salvage    one part, after a short comparison
 #   bench/run.sh --sanitize      the comparison with address and undefined-behaviour sanitizers on the C side
 #
 # Options before the part: --library FILE (an archive other than target/staticlib/libollskuvan.a),
@@ -25,8 +26,8 @@ while [ $# -gt 0 ]; do
     --rings) [ $# -gt 1 ] || die "--rings needs a number"; rings=$2; shift ;;
     --seed) [ $# -gt 1 ] || die "--seed needs a number"; seed=$2; shift ;;
     --rounds) [ $# -gt 1 ] || die "--rounds needs a number"; rounds=$2; shift ;;
-    --short | --time | --sizes | --values | --instructions | --kinds | --tables | --sanitize) part=${1#--} ;;
-    -h | --help) sed -n '2,13p' "$0" | sed 's/^# \{0,1\}//'; exit 0 ;;
+    --short | --time | --sizes | --values | --instructions | --kinds | --tables | --salvage | --sanitize) part=${1#--} ;;
+    -h | --help) sed -n '2,14p' "$0" | sed 's/^# \{0,1\}//'; exit 0 ;;
     *) die "unknown argument: $1 (see --help)" ;;
   esac
   shift
@@ -91,7 +92,7 @@ if [ "$part" = sanitize ]; then
   program=$out/bench-sanitized
 fi
 # shellcheck disable=SC2086 # the flags are words
-gcc $flags -o "$program" bench/bench.c bench/compare.c bench/timing.c bench/made.c bench/kinds.c bench/careful.c bench/careful_check.c bench/floor.c "$library" $link ||
+gcc $flags -o "$program" bench/bench.c bench/compare.c bench/timing.c bench/made.c bench/kinds.c bench/salvage.c bench/careful.c bench/careful_check.c bench/careful_salvage.c bench/floor.c "$library" $link ||
   die "the bench does not build"
 
 # instructions of one drain under callgrind, which repeat exactly
@@ -143,6 +144,30 @@ tables() { # [BUDGET]
   paste "$out/tables.ours" "$out/tables.careful" | awk '{ printf "%18.3f", $1 / $2 } END { print "" }'
 }
 
+# instructions for 8 bytes of a stream that is salvaged
+salvages() {
+  local whose name stream log=$out/callgrind.log
+  command -v valgrind >/dev/null || { echo "bench: instructions of salvage skipped: valgrind is missing"; return 0; }
+  rm -f "$out"/salvage.*
+  printf '\ninstructions of salvage for 8 bytes of a stream of 1 MiB, by callgrind\n%-14s' ''
+  "$program" list | sed -n 's/^stream //p' | while read -r stream; do printf '%20s' "$stream"; done
+  printf '\n'
+  for whose in careful ours; do
+    name=careful_salvage
+    [ "$whose" = ours ] && name=ollskuvan_salvage
+    printf '%-14s' "$whose"
+    while read -r stream; do
+      valgrind --tool=callgrind --toggle-collect="$name" --callgrind-out-file=/dev/null "$program" salvage-once "$whose" "$stream" \
+        >"$log" 2>&1 </dev/null || { cat "$log"; die "callgrind failed"; }
+      awk '/^words/ { n = $2 } /Collected/ { c = $NF } END { printf "%.1f\n", c / n }' "$log" | tee -a "$out/salvage.$whose" |
+        awk '{ printf "%20.1f", $1 }'
+    done < <("$program" list | sed -n 's/^stream //p')
+    printf '\n'
+  done
+  printf '%-14s' ratio
+  paste "$out/salvage.ours" "$out/salvage.careful" | awk '{ printf "%20.3f", $1 / $2 } END { print "" }'
+}
+
 # instructions of one record check
 checks() {
   local whose name which log=$out/callgrind.log
@@ -177,15 +202,19 @@ kinds() { # kinds|table-kinds
 }
 
 case "$part" in
-  short) "$program" kinds || exit 1; "$program" table-kinds || exit 1; "$program" compare "$rings" "$seed" || exit 1; "$program" tables $((rings / 2)) "$seed" || exit 1 ;;
-  sanitize) "$program" compare "$rings" "$seed" || exit 1; "$program" tables $((rings / 2)) "$seed" || exit 1 ;;
+  short) "$program" kinds || exit 1; "$program" table-kinds || exit 1; "$program" compare "$rings" "$seed" || exit 1; "$program" tables $((rings / 2)) "$seed" || exit 1
+    "$program" compare-salvage $((rings / 10)) "$seed" || exit 1 ;;
+  sanitize) "$program" compare "$rings" "$seed" || exit 1; "$program" tables $((rings / 2)) "$seed" || exit 1
+    "$program" compare-salvage $((rings / 10)) "$seed" || exit 1 ;;
   *)
     "$program" kinds || die "no times: the drains differ, or a kind is missing"
     "$program" table-kinds || die "no times: the drains with a table differ"
     "$program" compare "$rings" "$seed" || die "no times: the drains differ"
     "$program" tables $((rings / 2)) "$seed" || die "no times: the drains with a table differ"
+    "$program" compare-salvage $((rings / 10)) "$seed" || die "no times: the salvages differ"
     case "$part" in all | time) "$program" time $rounds || exit 1 ;; esac
     case "$part" in all | time | tables) "$program" mixes $rounds || exit 1 ;; esac
+    case "$part" in all | salvage) "$program" salvage $rounds || exit 1; salvages || exit 1 ;; esac
     case "$part" in all | sizes) "$program" sizes $rounds || exit 1 ;; esac
     case "$part" in all | values) "$program" values $rounds || exit 1 ;; esac
     case "$part" in all | instructions) instructions && instructions 1 && checks || exit 1 ;; esac

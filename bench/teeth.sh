@@ -1,5 +1,5 @@
 #!/usr/bin/env bash
-# Does the comparison bite? Plants one mistake at a time in a copy of careful.c and runs the comparison: each must be
+# Does the comparison bite? Plants one mistake at a time in a copy of careful.c or careful_salvage.c and runs the comparison: each must be
 # found. Not part of the gate; run it after a change of made.c or compare.c.
 #
 #   bench/teeth.sh [ARCHIVE]       target/staticlib/libollskuvan.a; RINGS=20000 SEED=1
@@ -11,14 +11,16 @@ out=target/bench/teeth
 mkdir -p "$out" || exit 2
 found=0 missed=0
 
-plant() { # WORDS SED-EXPRESSION (over the whole file at once) [tables: in the comparison with a table]
-  sed -z "$2" bench/careful.c >"$out/careful.c" || exit 2
-  if cmp -s bench/careful.c "$out/careful.c"; then
-    echo "bench/teeth.sh: '$1' changes nothing: careful.c has moved on" >&2
+plant() { # WORDS SED-EXPRESSION (over the whole file at once) [tables: in the comparison with a table [FILE: careful.c]]
+  local file=${4:-careful.c}
+  cp bench/careful.c bench/careful_salvage.c "$out" || exit 2
+  sed -z "$2" "bench/$file" >"$out/$file" || exit 2
+  if cmp -s "bench/$file" "$out/$file"; then
+    echo "bench/teeth.sh: '$1' changes nothing: $file has moved on" >&2
     exit 2
   fi
-  gcc -std=c11 -O2 -w -DWITHOUT_VALUES -Iinclude -Ibench -o "$out/bench" bench/bench.c bench/compare.c bench/timing.c bench/made.c bench/kinds.c bench/careful_check.c \
-    bench/floor.c "$out/careful.c" "$library" || exit 2
+  gcc -std=c11 -O2 -w -DWITHOUT_VALUES -Iinclude -Ibench -o "$out/bench" bench/bench.c bench/compare.c bench/timing.c bench/made.c bench/kinds.c bench/salvage.c bench/careful_check.c \
+    bench/floor.c "$out/careful.c" "$out/careful_salvage.c" "$library" || exit 2
   # in a shell of its own: some mistakes end in a crash, which is found too
   if bash -c '"$@"; exit $?' teeth "$out/bench" "${3:-compare}" "${RINGS:-20000}" "${SEED:-1}" >"$out/log" 2>&1; then
     echo "MISSED: $1"
@@ -85,6 +87,11 @@ plant "an event without bit 16" 's/!bit(events\[i\].sample_type, 16) || //' tabl
 plant "sample_id_all narrowed" 's/events\[i\].sample_id_all == 0/(uint32_t)events[i].sample_id_all == 0/' tables
 plant "identifiers by their low halves" 's/t->events\[i\].identifier != identifier)\n        i++/(uint32_t)t->events[i].identifier != (uint32_t)identifier)\n        i++/' tables
 plant "the event's branch bits are not looked at" 's/v->branch_sample_type);/0);/' tables
+plant "4 bytes dropped in place of 8" 's/at += length - at < 8 ? length - at : 8;/at += length - at < 4 ? length - at : 4;/' compare-salvage careful_salvage.c
+plant "a hole's start counted in the output" 's/store64(list + OLLSKUVAN_CHANGE_START, hole)/store64(list + OLLSKUVAN_CHANGE_START, p.kept)/' compare-salvage careful_salvage.c
+plant "salvage: row 7 a word late" 's/size % 8 != 0 || size > left))/size % 8 != 0 || size > left + 8))/' compare-salvage careful_salvage.c
+plant "54 a byte late" 's/out_len < p.kept/out_len + 1 < p.kept/' compare-salvage careful_salvage.c
+plant "11 before 2" 's/if (edition - 1 > 3) {\n        told.answer = 2;/if (edition - 1 > 3 \&\& sound(events, event_count)) {\n        told.answer = 2;/' compare-salvage careful_salvage.c
 rm -rf "$out"
 echo "planted mistakes: $found found, $missed missed"
 [ "$missed" -eq 0 ]

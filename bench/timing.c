@@ -14,7 +14,7 @@
 enum { WARM_UP = 3 };
 
 /* Processor time of this thread in nanoseconds: other programs do not count. */
-static uint64_t now(void)
+uint64_t thread_ns(void)
 {
     struct timespec t;
     clock_gettime(CLOCK_THREAD_CPUTIME_ID, &t);
@@ -27,8 +27,7 @@ static int by_size(const void *left, const void *right)
     return l < r ? -1 : l > r;
 }
 
-/* Sorts the values. */
-static double median(double *values, size_t count)
+double median(double *values, size_t count)
 {
     qsort(values, count, sizeof *values, by_size);
     return count % 2 != 0 ? values[count / 2] : (values[count / 2 - 1] + values[count / 2]) / 2;
@@ -93,10 +92,10 @@ static void race(const struct made_ring *ring, size_t calls, size_t rounds, doub
         for (size_t turn = 0; turn < contender_count; turn++) {
             size_t k = order[turn];
             run_drain(contenders[k].drain, ring, b.scratch, b.journal);
-            uint64_t begin = now();
+            uint64_t begin = thread_ns();
             for (size_t call = 0; call < calls; call++)
                 run_drain(contenders[k].drain, ring, b.scratch, b.journal);
-            uint64_t end = now();
+            uint64_t end = thread_ns();
             if (round >= WARM_UP)
                 times[k * rounds + round - WARM_UP] = (double)(end - begin) / (double)calls;
         }
@@ -141,9 +140,9 @@ int time_workloads(size_t rounds)
 static double time_events(events_function *drain, const struct made_ring *ring, struct buffers *b)
 {
     run_events(drain, ring, b->scratch, b->journal); /* caches and branches are then its own */
-    uint64_t begin = now();
+    uint64_t begin = thread_ns();
     run_events(drain, ring, b->scratch, b->journal);
-    return (double)(now() - begin);
+    return (double)(thread_ns() - begin);
 }
 
 static void time_mix(const struct made_mix *mix, size_t rounds)
@@ -338,7 +337,7 @@ static void time_value(enum made_workload which, size_t rounds)
     for (size_t round = 0; round < rounds; round++)
         for (unsigned way = 0; way < WAYS; way++) {
             uint64_t one[OLLSKUVAN_FIELDS];
-            uint64_t begin = now();
+            uint64_t begin = thread_ns();
             switch (way) {
             case CHECK:
                 refused += check_all(&whole);
@@ -356,7 +355,7 @@ static void time_value(enum made_workload which, size_t rounds)
 #endif
                 break;
             }
-            times[way * rounds + round] = (double)(now() - begin);
+            times[way * rounds + round] = (double)(thread_ns() - begin);
         }
     printf("\n%s: %zu records, %zu rounds\n", made_workload_names[which], records, rounds);
     for (unsigned way = 0; way < (with_other ? WAYS : OTHER); way++)

@@ -129,6 +129,8 @@ part "drains cut anywhere: $((drains / 10)) series, seed $seed" \
     "$out/reader" series --count $((drains / 10)) --seed "$seed" --rings rings
 part "two readers of one ring: $values pairs of tails, seed $seed" \
     "$out/reader" readers --count "$values" --seed "$seed"
+part "salvage of damaged streams: $((values / 5)) streams, seed $seed" \
+    "$out/reader" salvages --count $((values / 5)) --seed "$seed"
 part "what misc means" "$out/reader" meanings --count "$values" --seed "$seed"
 part "real rings" "$out/reader" rings rings
 part "real rings of several events" "$out/reader" table-rings rings/events --seed "$seed"

@@ -2,7 +2,7 @@
  * How much stack the calls use, on a stack of their own that was painted before:
  * every record of the given images is drained, checked, read (by its bytes and by
  * its tail), written back and its name copied; drained, read and looked up with the
- * image's table of events, or with a full one where it has none. Prints the greatest use of each call; more than ollskuvan.h
+ * image's table of events, or with a full one where it has none; the ring's bytes as they lie are salvaged with it. Prints the greatest use of each call; more than ollskuvan.h
  * says is a failure.
  */
 #define _XOPEN_SOURCE 700
@@ -16,10 +16,10 @@
 #include "image.h"
 
 enum { STACK = 1 << 16, PAINT = 0xa5, MOST = 2560 };
-enum { NOTHING, DRAIN, CHECK, COPY_NAME, READ, READ_ONE, WRITE, DRAIN_EVENTS, FIND_EVENT, READ_ONE_EVENTS, CALLS };
+enum { NOTHING, DRAIN, CHECK, COPY_NAME, READ, READ_ONE, WRITE, DRAIN_EVENTS, FIND_EVENT, READ_ONE_EVENTS, SALVAGE, CALLS };
 
 static const char *const names[CALLS] = { "nothing", "drain", "check", "copy_name", "read", "read_one", "write",
-    "drain_events", "find_event", "read_one_events" };
+    "drain_events", "find_event", "read_one_events", "salvage" };
 static uint8_t stack[STACK] __attribute__((aligned(64)));
 static size_t used[CALLS];
 static ucontext_t here, there;
@@ -28,7 +28,7 @@ static ucontext_t here, there;
 static const struct image *image;
 static int call;
 static uint8_t record[OLLSKUVAN_RECORD_MAX], written[OLLSKUVAN_RECORD_MAX], scratch[OLLSKUVAN_RECORD_MAX];
-static uint8_t journal[OLLSKUVAN_RING_MAX];
+static uint8_t journal[OLLSKUVAN_RING_MAX], kept[OLLSKUVAN_RING_MAX];
 static size_t size;
 static uint64_t tail;
 static uint64_t fields[OLLSKUVAN_FIELDS];
@@ -81,6 +81,10 @@ static void make_the_call(void)
         answer = ollskuvan_read_one_events(image->ring, image->length, image->head, tail, events, event_count,
             image->edition, scratch, sizeof scratch, fields, OLLSKUVAN_FIELDS).answer;
         break;
+    case SALVAGE:
+        answer = ollskuvan_salvage(image->ring, image->length, events, event_count, image->edition, kept, sizeof kept,
+            journal, sizeof journal).answer;
+        break;
     default:
         nothing();
     }
@@ -126,6 +130,8 @@ static void measure_image(const struct image *of)
     measure(NOTHING);
     measure(DRAIN_EVENTS);
     measure(FIND_EVENT);
+    measure(SALVAGE);
+    memset(journal, 0, sizeof journal);
     measure(DRAIN);
     uint64_t taken = 0;
     while (little(journal + taken * 16, 4) == 16 && taken < sizeof journal / 16) {
