@@ -27,7 +27,7 @@ while [ $# -gt 0 ]; do
     --seed) [ $# -gt 1 ] || die "--seed needs a number"; seed=$2; shift ;;
     --rounds) [ $# -gt 1 ] || die "--rounds needs a number"; rounds=$2; shift ;;
     --short | --time | --sizes | --values | --instructions | --kinds | --tables | --salvage | --sanitize) part=${1#--} ;;
-    -h | --help) sed -n '2,14p' "$0" | sed 's/^# \{0,1\}//'; exit 0 ;;
+    -h | --help) sed -n '2,12p' "$0" | sed 's/^# \{0,1\}//'; exit 0 ;;
     *) die "unknown argument: $1 (see --help)" ;;
   esac
   shift
