@@ -51,6 +51,7 @@ const struct ollskuvan_answer ollskuvan_answers[] = {
     { OLLSKUVAN_REFUSED_ENTRY, NULL, "an entry is cut short, too short, or fits no known kind" },
     { OLLSKUVAN_REFUSED_DEPARTURE, NULL, "an entry that does not stand there" },
     { OLLSKUVAN_REFUSED_OFFER, NULL, "what is offered is no record" },
+    { OLLSKUVAN_REFUSED_SALVAGE_ROOM, NULL, "no room for what is kept, or for the list of changes" },
 };
 const size_t ollskuvan_answers_count = LENGTH(ollskuvan_answers);
 
