@@ -16,6 +16,9 @@
  *   bench compare-replay [TRACES [SEED]]   careful C and ollskuvan_replay on the same traces
  *   bench replay [ROUNDS]          the cost of playing a trace
  *   bench replay-once WHOSE        one play, for callgrind; prints the number of records
+ *   bench compare-salvage [STREAMS [SEED]]   careful C and ollskuvan_salvage on the same damaged streams
+ *   bench salvage [ROUNDS]         the cost of salvage: sound, torn, and the worst case, headers that claim 65,528 bytes
+ *   bench salvage-once WHOSE STREAM   one salvage, for callgrind; prints the stream's words of 8 bytes
  *   bench check WHOSE NUMBER       record check of each record of a workload, for callgrind: careful or ours
  *   bench once DRAIN WORKLOAD [BUDGET]   one drain, for callgrind; prints the number of records
  *   bench list                     the names that `once` takes
@@ -94,7 +97,7 @@ static int list_names(void)
     printf("workload empty\n");
     for (unsigned which = 0; which < MADE_MIXES; which++)
         printf("mix %s\n", made_mixes[which].name);
-    return 0;
+    return list_streams();
 }
 
 static int run_once(const char *drain, const char *workload, uint64_t budget)
@@ -162,7 +165,8 @@ static int usage(void)
     fprintf(stderr, "usage: bench compare [RINGS [SEED]] | tables [RINGS [SEED]] | walks [RINGS [SEED]] | time [ROUNDS] | mixes [ROUNDS] | sizes [ROUNDS] | values [ROUNDS]\n"
                     "       bench once DRAIN WORKLOAD [BUDGET] | kinds [DRAIN] | table-kinds [DRAIN] | list\n"
                     "       bench stores [STORES [SEED]] | store-times [ROUNDS] | store WHOSE CALL EVENTS\n"
-                    "       bench compare-replay [TRACES [SEED]] | replay [ROUNDS] | replay-once WHOSE [CALLS]\n");
+                    "       bench compare-replay [TRACES [SEED]] | replay [ROUNDS] | replay-once WHOSE [CALLS]\n"
+                    "       bench compare-salvage [STREAMS [SEED]] | salvage [ROUNDS] | salvage-once WHOSE STREAM [CALLS]\n");
     return 2;
 }
 
@@ -183,6 +187,10 @@ int main(int argc, char **argv)
         return run_replays(argv[2], argc > 3 ? number(argv[3], 1, 1000) : 1);
     if (strcmp(mode, "walks") == 0 && argc <= 4)
         return compare_walks(argc > 2 ? number(argv[2], 1, UINT64_MAX) : 10000, argc > 3 ? number(argv[3], 0, UINT64_MAX) : 1);
+    if (strcmp(mode, "compare-salvage") == 0 && argc <= 4)
+        return compare_salvage(argc > 2 ? number(argv[2], 1, UINT64_MAX) : 5000, argc > 3 ? number(argv[3], 0, UINT64_MAX) : 1);
+    if (strcmp(mode, "salvage-once") == 0 && (argc == 4 || argc == 5))
+        return run_salvages(argv[2], argv[3], argc > 4 ? number(argv[4], 1, 1000) : 1);
     if (strcmp(mode, "once") == 0 && (argc == 4 || argc == 5))
         return run_once(argv[2], argv[3], argc > 4 ? number(argv[4], 1, UINT64_MAX) : 0);
     if (strcmp(mode, "check") == 0 && argc == 4)
@@ -206,6 +214,8 @@ int main(int argc, char **argv)
         return time_stores(rounds != 0 ? rounds : 100);
     if (strcmp(mode, "replay") == 0)
         return time_replay(rounds != 0 ? rounds : 100);
+    if (strcmp(mode, "salvage") == 0)
+        return time_salvage(rounds != 0 ? rounds : 20);
     if (strcmp(mode, "values") == 0)
         return time_values(rounds != 0 ? rounds : 100);
     return usage();

@@ -47,4 +47,10 @@ int compare_replay(uint64_t traces, uint64_t seed);
 int run_replays(const char *whose, uint64_t calls);
 int time_replay(size_t rounds);
 
+/* salvage.c */
+int compare_salvage(uint64_t streams, uint64_t seed);
+int list_streams(void);
+int run_salvages(const char *whose, const char *stream, uint64_t calls);
+int time_salvage(size_t rounds);
+
 #endif

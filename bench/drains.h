@@ -33,6 +33,12 @@ typedef struct ollskuvan_replayed replay_function(const uint8_t *trace, size_t t
     uint8_t *journal, size_t journal_len);
 replay_function careful_replay;
 
+/* careful_salvage.c: all that ollskuvan_salvage does, and its signature. */
+typedef struct ollskuvan_salvaged salvage_function(const uint8_t *stream, size_t stream_len,
+    const struct ollskuvan_event *events, size_t event_count, uint32_t edition, uint8_t *out, size_t out_len,
+    uint8_t *changes, size_t changes_len);
+salvage_function careful_salvage;
+
 /* floor.c: trusts every size and looks at no body. */
 drain_function floor_drain;
 

@@ -1,5 +1,5 @@
 #!/usr/bin/env bash
-# Does the comparison bite? Plants one mistake at a time in a copy of careful.c, or of careful_walk.c, or careful_replay.c, or of careful_store.c, and runs the
+# Does the comparison bite? Plants one mistake at a time in a copy of careful.c or careful_salvage.c, or of careful_walk.c, or careful_replay.c, or of careful_store.c, and runs the
 # comparison: each must be found. Not part of the gate; run it after a change of made.c or compare.c.
 #
 #   bench/teeth.sh [ARCHIVE]       target/staticlib/libollskuvan.a; RINGS=20000 SEED=1
@@ -11,20 +11,22 @@ out=target/bench/teeth
 mkdir -p "$out" || exit 2
 found=0 missed=0
 
-plant() { # WORDS SED-EXPRESSION (over the whole file at once) [tables, stores: in the comparison with a table, of stores [FILE: careful.c; walks: careful_walk.c]]
+plant() { # WORDS SED-EXPRESSION (over the whole file at once) [tables, stores: in the comparison with a table, of stores [FILE: careful.c; walks: careful_walk.c [FILE: careful.c]]
   local file=${4:-careful.c}
   [ "${3:-}" = stores ] && file=careful_store.c
   cp bench/careful.c bench/careful_store.c bench/careful_replay.c "$out" || exit 2
   local file=careful.c drains=$out/careful.c walks=bench/careful_walk.c
   [ "${3:-}" != walks ] || file=careful_walk.c drains=bench/careful.c walks=$out/careful_walk.c
-  rm -f "$out"/*.c
+  rm -f "$out"/*.c]
+  local file=${4:-careful.c}
+  cp bench/careful.c bench/careful_salvage.c "$out" || exit 2
   sed -z "$2" "bench/$file" >"$out/$file" || exit 2
   if cmp -s "bench/$file" "$out/$file"; then
     echo "bench/teeth.sh: '$1' changes nothing: $file has moved on" >&2
     exit 2
   fi
-  gcc -std=c11 -O2 -w -DWITHOUT_VALUES -Iinclude -Ibench -o "$out/bench" bench/bench.c bench/compare.c bench/timing.c bench/made.c bench/kinds.c bench/replay.c bench/careful_check.c bench/stores.c \
-    "$walks" bench/walks.c bench/floor.c "$drains" "$out/careful_store.c" "$out/careful_replay.c" "$library" || exit 2
+  gcc -std=c11 -O2 -w -DWITHOUT_VALUES -Iinclude -Ibench -o "$out/bench" bench/bench.c bench/compare.c bench/timing.c bench/made.c bench/kinds.c bench/replay.c bench/salvage.c bench/careful_check.c bench/stores.c \
+    "$walks" bench/walks.c bench/floor.c "$drains" "$out/careful_store.c" "$out/careful_replay.c" "$out/careful_salvage.c" "$library" || exit 2
   # in a shell of its own: some mistakes end in a crash, which is found too
   if bash -c '"$@"; exit $?' teeth "$out/bench" "${3:-compare}" "${RINGS:-20000}" "${SEED:-1}" >"$out/log" 2>&1; then
     echo "MISSED: $1"
@@ -116,6 +118,11 @@ plant "8 before 13" 's/if (unlikely(size > rest)) {/if (unlikely(left == 0)) {\n
 plant "starts without the head" 's/store64(journal + 8, head + way)/store64(journal + 8, way)/' walks
 plant "head of any kind" 's/(head \& 7) != 0 ? 5 : 0/0/' walks
 plant "11 before 5" 's/uint32_t stop = refused(ring_len, edition, head);\n    if (stop == 0 \&\& !sound/uint32_t stop = refused(ring_len, edition, head);\n    if ((stop == 0 || stop == 5) \&\& !sound/' walks
+plant "4 bytes dropped in place of 8" 's/at += length - at < 8 ? length - at : 8;/at += length - at < 4 ? length - at : 4;/' compare-salvage careful_salvage.c
+plant "a hole's start counted in the output" 's/store64(list + OLLSKUVAN_CHANGE_START, hole)/store64(list + OLLSKUVAN_CHANGE_START, p.kept)/' compare-salvage careful_salvage.c
+plant "salvage: row 7 a word late" 's/size % 8 != 0 || size > left))/size % 8 != 0 || size > left + 8))/' compare-salvage careful_salvage.c
+plant "54 a byte late" 's/out_len < p.kept/out_len + 1 < p.kept/' compare-salvage careful_salvage.c
+plant "11 before 2" 's/if (edition - 1 > 3) {\n        told.answer = 2;/if (edition - 1 > 3 \&\& sound(events, event_count)) {\n        told.answer = 2;/' compare-salvage careful_salvage.c
 rm -rf "$out"
 echo "planted mistakes: $found found, $missed missed"
 [ "$missed" -eq 0 ]

@@ -29,7 +29,7 @@
  *    is not const, and the u64 slices must be aligned to 8 bytes. A slice of
  *    length 0 may have any pointer, also a null pointer.
  *  - A slice that is written (scratch, journal, buffer, fields, the table of
- *    read_store, rooms) must not overlap any other slice of the same call. Slices that
+ *    read_store, rooms, out, changes) must not overlap any other slice of the same call. Slices that
  *    are only read may overlap each other.
  *  - Nobody else may write to a lent slice during the call. For a live ring
  *    this means: read data_head, then issue your own read barrier, then call;
@@ -117,6 +117,17 @@ extern "C" {
 #define OLLSKUVAN_KIND_OFFER 16u /* the body is a record, which is offered to the ring */
 #define OLLSKUVAN_KIND_DRAIN 17u /* the body is a budget (4 bytes), with which the ring is drained */
 
+/* The bytes of one entry of the list of changes that ollskuvan_salvage writes:
+ * a hole, the longest run of bytes that was dropped at one place. */
+#define OLLSKUVAN_CHANGE_ENTRY 22u
+/* Where the parts of such an entry lie in it. */
+#define OLLSKUVAN_CHANGE_LENGTH 0u /* 4 bytes: always 22 */
+#define OLLSKUVAN_CHANGE_KIND 4u   /* 2 bytes: always OLLSKUVAN_KIND_DROPPED */
+#define OLLSKUVAN_CHANGE_START 6u  /* 8 bytes: where the hole begins, a place in the stream that was read */
+#define OLLSKUVAN_CHANGE_BYTES 14u /* 8 bytes: how long it is */
+/* The kind of such an entry. */
+#define OLLSKUVAN_KIND_DROPPED 32u
+
 /* ------------------------------------------------------------------------
  * Answers. The numbers are fixed and never used for anything else.
  *
@@ -183,6 +194,9 @@ extern "C" {
 #define OLLSKUVAN_REFUSED_ENTRY 51u   /* an entry is cut short, shorter than 6, or fits no known kind; or the store ends before kind 3 */
 #define OLLSKUVAN_REFUSED_DEPARTURE 52u /* any other: a kind or an index out of turn; a ring length or an edition that is not allowed */
 #define OLLSKUVAN_REFUSED_OFFER 53u     /* replay: what is offered has fewer than 8 bytes, or a size that is not allowed or not its length */
+
+/* Salvage alone, after 2 and 11: nothing was written. */
+#define OLLSKUVAN_REFUSED_SALVAGE_ROOM 54u /* salvage: what is kept doesn't fit its buffer, or the list of changes its own */
 
 /* ------------------------------------------------------------------------
  * Record types: what stands in word OLLSKUVAN_TYPE of a value.
@@ -956,6 +970,53 @@ struct ollskuvan_walked ollskuvan_walk_back(const uint8_t *ring, size_t ring_len
 struct ollskuvan_walked ollskuvan_walk_back_events(const uint8_t *ring, size_t ring_len, uint64_t head,
     const struct ollskuvan_event *events, size_t event_count, uint32_t edition, uint64_t budget,
     uint8_t *scratch, size_t scratch_len, uint8_t *journal, size_t journal_len);
+
+/* ------------------------------------------------------------------------
+ * Streams of records that come back with holes.
+ */
+
+struct ollskuvan_salvaged {
+    uint64_t kept;    /* bytes kept, which are those written to out; 0 if answer is not 0 */
+    uint64_t dropped; /* bytes dropped: kept plus dropped is stream_len; 0 if answer is not 0 */
+    uint64_t changes; /* bytes of the list of changes, OLLSKUVAN_CHANGE_ENTRY for each hole; 0 if answer is not 0 */
+    uint32_t answer;  /* 0; or 2, 11 or 54 */
+};
+
+/*
+ * ollskuvan_salvage keeps what is sound of a stream: records end to end, as they
+ * were taken from rings, with a table of the events that wrote them.
+ *
+ * From the stream's start on, at each place: a record is kept if its size is 8 or
+ * more, a multiple of 8 and not above the bytes that are left, and its body is
+ * accepted as ollskuvan_drain_events accepts it (answer 0; so a dirty name is kept
+ * as it is). Then the place after it is looked at. Otherwise 8 bytes are dropped,
+ * or all that is left if there are fewer, and the place after these is looked at.
+ *
+ * out gets the records that are kept, one after the other. changes gets an entry
+ * of OLLSKUVAN_CHANGE_ENTRY bytes for each longest run of dropped bytes, in the
+ * order of the stream: where it begins in the stream, and its length. Between two
+ * of them a record was kept. The stream without these runs is what out holds.
+ *
+ * The answer, in this order: 2; 11 if the table is not allowed; 54 if out_len is
+ * below the bytes kept or changes_len below those of the list; otherwise 0.
+ * Refused: both buffers are unchanged. Accepted: their bytes behind what is written
+ * are unchanged. out of stream_len bytes is always enough, and so is a list of
+ * OLLSKUVAN_CHANGE_ENTRY * (stream_len / 24 + 1): two holes of 8 bytes are 16
+ * bytes of a record apart, or more.
+ *
+ * A stream of accepted records from end to end comes back byte for byte with an
+ * empty list; so does what is kept, when it is salvaged again.
+ *
+ * What no reader of such a stream can know: a hole whose length is no multiple of
+ * 8 moves all that follows it off the places that are looked at; it is dropped,
+ * mostly up to the stream's end. And where a record is refused, the places inside
+ * it are looked at in turn, so that bytes of its body which look like a record of
+ * the table are kept as one. A record whose numbers are damaged, and whose layout
+ * is not, is accepted as any other: records have no sum to check.
+ */
+struct ollskuvan_salvaged ollskuvan_salvage(const uint8_t *stream, size_t stream_len,
+    const struct ollskuvan_event *events, size_t event_count, uint32_t edition, uint8_t *out, size_t out_len,
+    uint8_t *changes, size_t changes_len);
 
 /* ------------------------------------------------------------------------
  * The numbers in words, for messages. These four are plain C and stand in

@@ -2,7 +2,7 @@
  * Calls every export of libollskuvan.a from C, at the edges: empty slices, null
  * with length 0, edition 257, budget 0, journals of 15 and 16 bytes, scratch one
  * byte short, buffers one byte short, values one word short, tables of 0, 32 and 33
- * events, traces that end in the middle, backward rings that have gone round and that have not.
+ * events, traces that end in the middle, backward rings that have gone round and that have not, streams with holes.
  *
  * With WITHOUT_VALUES defined, ollskuvan_read, ollskuvan_read_one and ollskuvan_write are left out.
  *
@@ -1536,6 +1536,157 @@ static void test_walk_calls(void)
     free(more);
 }
 
+/* A switch and a LOST of the event 7, whose trailer is the identifier alone; "kiln" with stale bytes behind its zero. */
+static const uint8_t OF_7[16] = {14, 0, 0, 0, 0, 0, 16, 0, 7};
+static const uint8_t LOST_OF_7[32] = {2, 0, 0, 0, 0, 0, 32, 0, 5, 0, 0, 0, 0, 0, 0, 0, 6, 0, 0, 0, 0, 0, 0, 0, 7};
+static const uint8_t DIRTY_OF_7[32] = {3, 0, 0, 0, 0, 0, 32, 0, 1, 0, 0, 0, 2, 0, 0, 0, 'k', 'i', 'l', 'n', 0, 1, 2, 3, 7};
+
+/* The last salvage: its buffers, of exactly the lengths that were lent. */
+static uint8_t *kept, *changes;
+static size_t kept_len, changes_len;
+
+static struct ollskuvan_salvaged salvage(const uint8_t *bytes, size_t length, size_t events, uint32_t edition, size_t out,
+    size_t list)
+{
+    const struct ollskuvan_event one = {7, OLLSKUVAN_BIT_IDENTIFIER, 0, 0, 0, 0, 1};
+    uint8_t *stream = copied(bytes, length);
+    struct ollskuvan_event *table = malloc(sizeof one * (events ? events : 1));
+    struct ollskuvan_salvaged told;
+    size_t i;
+    if (!table)
+        abort();
+    for (i = 0; i < events; i++) {
+        table[i] = one;
+        table[i].identifier += i;
+    }
+    free(kept);
+    free(changes);
+    kept = block(out);
+    changes = block(list);
+    kept_len = out;
+    changes_len = list;
+    told = ollskuvan_salvage(stream, length, table, events, edition, kept, out, changes, list);
+    OK(length == 0 || memcmp(stream, bytes, length) == 0);
+    for (i = 0; i < events; i++)
+        OK(table[i].identifier == 7 + i && table[i].sample_type == one.sample_type && table[i].sample_id_all == 1);
+    free(stream);
+    free(table);
+    return told;
+}
+
+static void is_salvaged(int line, struct ollskuvan_salvaged told, uint64_t bytes, uint64_t dropped, uint64_t holes)
+{
+    is(line, "answer", told.answer, OLLSKUVAN_OK);
+    is(line, "kept", told.kept, bytes);
+    is(line, "dropped", told.dropped, dropped);
+    is(line, "changes", told.changes, OLLSKUVAN_CHANGE_ENTRY * holes);
+    is(line, "the rest of out", (uint64_t)untouched(kept + told.kept, kept_len - (size_t)told.kept), 1);
+    is(line, "the rest of the list", (uint64_t)untouched(changes + told.changes, changes_len - (size_t)told.changes), 1);
+}
+
+/* Nothing is told but the number, and nothing was touched. */
+static void is_not_salvaged(int line, struct ollskuvan_salvaged told, uint32_t answer)
+{
+    is(line, "answer", told.answer, answer);
+    is(line, "kept, dropped and changes", told.kept | told.dropped | told.changes, 0);
+    is(line, "out", (uint64_t)untouched(kept, kept_len), 1);
+    is(line, "the list", (uint64_t)untouched(changes, changes_len), 1);
+}
+
+static void is_hole(int line, size_t number, uint64_t start, uint64_t bytes)
+{
+    const uint8_t *entry = changes + OLLSKUVAN_CHANGE_ENTRY * number;
+    is(line, "the entry's length", get(entry + OLLSKUVAN_CHANGE_LENGTH, 4), OLLSKUVAN_CHANGE_ENTRY);
+    is(line, "its kind", get(entry + OLLSKUVAN_CHANGE_KIND, 2), OLLSKUVAN_KIND_DROPPED);
+    is(line, "the hole's start", get(entry + OLLSKUVAN_CHANGE_START, 8), start);
+    is(line, "its bytes", get(entry + OLLSKUVAN_CHANGE_BYTES, 8), bytes);
+}
+
+#define KEEPS(told, bytes, dropped, holes) is_salvaged(__LINE__, told, bytes, dropped, holes)
+#define REFUSES(told, answer) is_not_salvaged(__LINE__, told, answer)
+#define HOLE(number, start, bytes) is_hole(__LINE__, number, start, bytes)
+
+static void test_salvage(void)
+{
+    enum { MOST_EVENTS = OLLSKUVAN_EVENTS_MAX };
+    uint8_t stream[256] = {0};
+    size_t room, list;
+    IS(sizeof(struct ollskuvan_salvaged), 32);
+    /* nothing at all, also by null pointers */
+    KEEPS(salvage(stream, 0, 1, 4, 0, 0), 0, 0, 0);
+    {
+        const struct ollskuvan_event one = {7, OLLSKUVAN_BIT_IDENTIFIER, 0, 0, 0, 0, 1};
+        struct ollskuvan_salvaged told = ollskuvan_salvage(NULL, 0, &one, 1, 4, NULL, 0, NULL, 0);
+        IS(told.answer | told.kept | told.dropped | told.changes, 0);
+    }
+    /* sound records come back byte for byte, the dirty name as it is, into exactly their room, and again */
+    memcpy(stream, OF_7, 16);
+    memcpy(stream + 16, LOST_OF_7, 32);
+    memcpy(stream + 48, DIRTY_OF_7, 32);
+    KEEPS(salvage(stream, 80, 1, 4, 80, 0), 80, 0, 0);
+    OK(memcmp(kept, stream, 80) == 0);
+    KEEPS(salvage(stream, 80, 1, 2, 99, 99), 80, 0, 0);
+    OK(memcmp(kept, stream, 80) == 0);
+    /* a switch, 16 zeros, a LOST, 3 bytes: two holes, their starts counted in the stream */
+    memset(stream, 0, sizeof stream);
+    memcpy(stream, OF_7, 16);
+    memcpy(stream + 32, LOST_OF_7, 32);
+    KEEPS(salvage(stream, 67, 1, 4, 48, 44), 48, 19, 2);
+    OK(memcmp(kept, OF_7, 16) == 0 && memcmp(kept + 16, LOST_OF_7, 32) == 0);
+    HOLE(0, 16, 16);
+    HOLE(1, 64, 3);
+    /* 54: either room too short by one byte, or none at all; then neither is touched */
+    for (room = 0; room <= 48; room += 4)
+        for (list = 0; list <= 44; list += 11) {
+            struct ollskuvan_salvaged told = salvage(stream, 67, 1, 4, room, list);
+            if (room == 48 && list == 44)
+                KEEPS(told, 48, 19, 2);
+            else
+                REFUSES(told, OLLSKUVAN_REFUSED_SALVAGE_ROOM);
+        }
+    REFUSES(salvage(stream, 67, 1, 4, 47, 44), OLLSKUVAN_REFUSED_SALVAGE_ROOM);
+    REFUSES(salvage(stream, 67, 1, 4, 48, 43), OLLSKUVAN_REFUSED_SALVAGE_ROOM);
+    /* 2, then 11, then 54; the edition is not narrowed */
+    REFUSES(salvage(stream, 67, 0, 5, 0, 0), OLLSKUVAN_REFUSED_EDITION);
+    REFUSES(salvage(stream, 67, 1, 0, 48, 44), OLLSKUVAN_REFUSED_EDITION);
+    REFUSES(salvage(stream, 67, 1, 257, 48, 44), OLLSKUVAN_REFUSED_EDITION);
+    REFUSES(salvage(stream, 67, 0, 4, 0, 0), OLLSKUVAN_STOP_TABLE);
+    REFUSES(salvage(stream, 67, MOST_EVENTS + 1, 4, 48, 44), OLLSKUVAN_STOP_TABLE);
+    KEEPS(salvage(stream, 67, MOST_EVENTS, 4, 48, 44), 48, 19, 2);
+    /* a table that is refused is 11 for an empty stream too */
+    REFUSES(salvage(stream, 0, 0, 4, 0, 0), OLLSKUVAN_STOP_TABLE);
+    /* edition 1 knows no identifiers: one hole */
+    KEEPS(salvage(stream, 67, 1, 1, 0, 22), 0, 67, 1);
+    HOLE(0, 0, 67);
+    /* fewer than 8 bytes are dropped at once; 12 zeros lose the LOST behind them */
+    KEEPS(salvage(stream + 64, 7, 1, 4, 0, 22), 0, 7, 1);
+    HOLE(0, 0, 7);
+    memset(stream, 0, 12);
+    memcpy(stream + 12, LOST_OF_7, 32);
+    KEEPS(salvage(stream, 44, 1, 4, 0, 22), 0, 44, 1);
+    HOLE(0, 0, 44);
+    /* a record inside another that no edition knows: it is found, and the search goes on behind it */
+    memset(stream, 0, sizeof stream);
+    stream[0] = 22;
+    put16(stream + 6, 40);
+    memcpy(stream + 8, OF_7, 16);
+    KEEPS(salvage(stream, 40, 1, 4, 16, 44), 16, 24, 2);
+    OK(memcmp(kept, OF_7, 16) == 0);
+    HOLE(0, 0, 8);
+    HOLE(1, 24, 16);
+    /* 7 against the bytes left: a size above them is no record, the greatest one too */
+    put16(stream + 6, 48);
+    KEEPS(salvage(stream, 40, 1, 4, 16, 44), 16, 24, 2);
+    put16(stream + 6, 65528);
+    KEEPS(salvage(stream, 40, 1, 4, 16, 44), 16, 24, 2);
+    memcpy(stream, LOST_OF_7, 32);
+    KEEPS(salvage(stream, 31, 1, 4, 0, 22), 0, 31, 1);
+    KEEPS(salvage(stream, 32, 1, 4, 32, 0), 32, 0, 0);
+    free(kept);
+    free(changes);
+    kept = changes = NULL;
+}
+
 int main(void)
 {
     IS(OLLSKUVAN_TRAILER_BITS, 66246);
@@ -1557,6 +1708,7 @@ int main(void)
     test_walk_short();
     test_walk_round();
     test_walk_calls();
+    test_salvage();
 #ifndef WITHOUT_VALUES
     test_dirty_values();
     test_read_write();

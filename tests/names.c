@@ -57,9 +57,9 @@ enum kind {
     LEAST_WORDS_READ, OLDEST_EDITION, RING_SHORTEST, RING_LONGEST, RECORD_LONGEST,
     ENTRY_BYTES, ENTRY_OFFSET, ENTRY_KIND_GIVEN,
     MEANING_GIVEN, STOP_GIVEN, CHECK_GIVEN, COPY_GIVEN, WRITE_GIVEN, DIRTY_CHECK_GIVEN, DIRTY_WRITE_GIVEN,
-    EVENTS_MOST, TABLE_STOP_GIVEN, EVENT_ANSWER_GIVEN, WALK_STOP_GIVEN,
-    STORE_BYTE_WRITTEN, STORE_READ_GIVEN, STORE_WRITE_GIVEN,
-    KIND_OFFERS, KIND_DRAINS, REPLAY_GIVEN
+    EVENTS_MOST, TABLE_STOP_GIVEN, EVENT_ANSWER_GIVEN, WALK_STOP_GIVEN, STORE_BYTE_WRITTEN, STORE_READ_GIVEN,
+    STORE_WRITE_GIVEN, KIND_OFFERS, KIND_DRAINS, REPLAY_GIVEN, CHANGE_BYTES, CHANGE_OFFSET, CHANGE_KIND_GIVEN,
+    SALVAGE_GIVEN
 };
 
 struct row {
@@ -116,10 +116,17 @@ struct row {
 #define OFFERS(w) ROW(KIND_OFFERS, #w, w, NULL, 0)
 #define DRAINS(w) ROW(KIND_DRAINS, #w, w, NULL, 0)
 #define REPLAYED(w, ...) ROW(REPLAY_GIVEN, #w, w, NULL, __VA_ARGS__)
+#define CHANGE_LENGTH_IS(w) ROW(CHANGE_BYTES, #w, w, NULL, 0)
+#define CHANGE_PLACE(w, number, bytes) ROW(CHANGE_OFFSET, #w, w, NULL, number, bytes)
+#define CHANGE_KIND_IS(w) ROW(CHANGE_KIND_GIVEN, #w, w, NULL, 0)
+#define SALVAGED(w, ...) ROW(SALVAGE_GIVEN, #w, w, NULL, __VA_ARGS__)
 
 /* The entry that ENTRY_PLACE looks at: a type that no edition knows, at this tail. */
 #define ENTRY_KIND 0x7766
 #define ENTRY_TAIL UINT64_C(0x8a8988878685a4a8)
+
+/* The one hole that CHANGE_PLACE looks at. */
+enum { HOLE_AT = 16, HOLE_BYTES = 40 };
 
 #define ROW(kind, name, number, with, ...) {kind, name, with, {__VA_ARGS__}},
 static const struct row rows[] = {
@@ -315,6 +322,28 @@ static uint64_t first_kind(uint64_t length, uint64_t offered)
     return kind;
 }
 
+/* A switch of the one event 1, and zeros behind it: its 16 bytes are kept, the others are a hole. What is told of it, and
+ * the list. */
+static struct ollskuvan_salvaged salvaged(uint64_t out_room, uint64_t list_room, uint8_t list[64])
+{
+    const struct ollskuvan_event event = {1, 1 << 16, 0, 0, 0, 0, 1};
+    uint8_t stream[HOLE_AT + HOLE_BYTES] = {14, 0, 0, 0, 0, 0, 16, 0, 1}, out[64];
+    memset(list, 0xc3, 64);
+    return ollskuvan_salvage(stream, sizeof stream, &event, 1, 3, out, (size_t)out_room, list, (size_t)list_room);
+}
+
+/* Where in the list's one entry this number of so many bytes stands. */
+static uint64_t change_offset(uint64_t number, int bytes)
+{
+    uint8_t list[64], due[8];
+    size_t at, length = (size_t)salvaged(64, 64, list).changes;
+    spell(due, number, bytes);
+    for (at = 0; at + (size_t)bytes <= length; at++)
+        if (memcmp(list + at, due, (size_t)bytes) == 0)
+            return at;
+    return 999;
+}
+
 /* A LOST with this size word, into a buffer of this length: words 0, 1 and 2 are type, misc and size. */
 static uint64_t written(uint64_t size, uint64_t length)
 {
@@ -372,6 +401,10 @@ static uint64_t shown(const struct row *row)
     case KIND_OFFERS: return first_kind(14, 8);
     case KIND_DRAINS: return first_kind(10, 0);
     case REPLAY_GIVEN: return replayed(n[0], n[1]).answer;
+    case CHANGE_BYTES: return salvaged(64, 64, buffer).changes;
+    case CHANGE_OFFSET: return change_offset(n[0], (int)n[1]);
+    case CHANGE_KIND_GIVEN: salvaged(64, 64, buffer); return (uint64_t)buffer[4] | (uint64_t)buffer[5] << 8;
+    case SALVAGE_GIVEN: return salvaged(n[0], n[1], buffer).answer;
     default: return n[0]; /* SAME_NUMBER */
     }
 }

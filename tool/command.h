@@ -16,6 +16,7 @@ int journal_command(int argc, char **argv);
 int replay_command(int argc, char **argv);
 int explain_command(int argc, char **argv);
 int settings_command(int argc, char **argv);
+int salvage_command(int argc, char **argv);
 
 /* A word of the command line that begins with "-". */
 struct flag {

@@ -90,6 +90,8 @@ static const struct {
     { OLLSKUVAN_REFUSED_OFFER,
         "It has fewer than 8 bytes, or its size is below 8, no multiple of 8, or not its length. The replay ends\n"
         "    before it." },
+    { OLLSKUVAN_REFUSED_SALVAGE_ROOM,
+        "Of salvage alone, and before anything is written. A buffer as long as the stream holds what is kept." },
 };
 
 static void print_note(uint32_t number)

@@ -24,6 +24,7 @@ static const struct command commands[] = {
     { NAMED("report"), report_command, "why a thread ran late, from images or live" },
     { NAMED("record"), record_command, "live rings of this kernel, read or saved as images" },
     { NAMED("settings"), settings_command, "what a store of settings holds, and a new one of it" },
+    { NAMED("salvage"), salvage_command, "what is sound of a stream of records that has holes" },
     { NAMED("explain"), explain_command, "what the number of a stop or a refusal means" },
 };
 enum { COMMANDS = sizeof commands / sizeof commands[0] };

@@ -37,7 +37,7 @@ steps='-Wl,--wrap=write,--wrap=fsync,--wrap=rename,--wrap=fchmod,--wrap=close'
   [ -z "${OLLSKUVAN_EMULATED:-}" ] || sanitizers=
   build damage -O1 $sanitizers tool/tests/damage.c tool/dump.c \
     tool/journal.c tool/show.c words/ollskuvan_words.c $shared
-  build stores-checked -O1 -fsanitize=address,undefined -fno-sanitize-recover=all $steps tool/tests/stores.c \
+  build stores-checked -O1 $sanitizers $steps tool/tests/stores.c \
     examples/settings.c
 }
 
@@ -478,6 +478,84 @@ refuses 2 '--start: a number up to 18446744073709551615 is wanted' replay $out/r
 refuses 2 'unknown option --budget' replay $out/replay/worked --budget 3
 refuses 2 '--trace goes with neither --save nor --report' record --trace a --save b
 
+# ---- salvage: the records of the real rings of several events, end to end, whole and with holes
+straight() { # IMAGE: the bytes from its tail to its head
+  local tail head length at
+  tail=$(od -An -tu8 -j8 -N8 "$1" | tr -d ' ') head=$(od -An -tu8 -N8 "$1" | tr -d ' ')
+  length=$(($(wc -c <"$1") - 50)) at=$((tail % length))
+  { tail -c +$((51 + at)) "$1"; tail -c +51 "$1" | head -c $at; } | head -c $((head - tail))
+}
+mkdir -p $out/salvage
+fresh() { # NAME TABLE: a stream from standard input with its table, and nothing else of that name
+  rm -f $out/salvage/"$1"* && cat >$out/salvage/"$1" && cp "$2" $out/salvage/"$1".table
+}
+salvages() { # NAME KEPT-BYTES-AND-RECORDS DROPPED-AND-HOLES [HOLE..]: what is printed, and that what is kept stays so
+  local name=$out/salvage/$1 holes=$(($# - 3)) printed
+  printed=$($tool salvage "$name" "$name.out" --changes "$name.changes") || wrong "salvage of $1 failed"
+  [ "$(echo "$printed" | head -n 1)" = "kept $2; dropped $3" ] || wrong "salvage of $1: $(echo "$printed" | head -n 1)"
+  [ "$(echo "$printed" | wc -l)" -eq $((holes + 1)) ] || wrong "salvage of $1 prints another number of holes"
+  [ "$(wc -c <"$name.changes")" -eq $((22 * holes)) ] || wrong "salvage of $1: a list of another length"
+  shift 3
+  for hole; do echo "$printed" | grep -qxF "hole at $hole" || wrong "salvage of $name has no hole at $hole"; done
+  cp "$name.table" "$name.out.table"
+  $tool salvage --changes "$name.again.changes" "$name.out" "$name.again" >/dev/null || wrong "salvage of $name.out failed"
+  cmp -s "$name.out" "$name.again" && [ ! -s "$name.again.changes" ] || wrong "salvage of $name.out changes it"
+  tried=$((tried + 1))
+}
+for name in children counters; do
+  straight rings/events/$name.img | fresh $name rings/events/$name.table
+  records=$($tool dump rings/events/$name.img | sed -nE 's/^([0-9]+) records, .*/\1/p')
+  salvages $name "$(wc -c <$out/salvage/$name) bytes, $records records" '0 bytes, 0 holes'
+  cmp -s $out/salvage/$name $out/salvage/$name.out || wrong "salvage of a sound stream does not give it back"
+done
+# in the stream of one event, whose records are 16 bytes: a switch, zeros, a switch, and what is left of one
+printf '7 0x10000 0 0 0 0 1\n' >$out/salvage/seven
+switch='\016\0\0\0\0\0\020\0\007\0\0\0\0\0\0\0'
+{ printf "$switch"; head -c 24 /dev/zero; printf "$switch"; head -c 3 /dev/zero; } | fresh holes $out/salvage/seven
+salvages holes '32 bytes, 2 records' '27 bytes, 2 holes' '16: 24 bytes' '56: 3 bytes, up to the end'
+# a hole that is no multiple of 8 loses what follows it; a record of type 22 hides none that lies in its body
+{ printf "$switch"; head -c 4 /dev/zero; printf "$switch$switch"; } | fresh shifted $out/salvage/seven
+salvages shifted '16 bytes, 1 record' '36 bytes, 1 hole' '16: 36 bytes, up to the end'
+{ printf '\026\0\0\0\0\0\050\0'; printf "$switch$switch"; } | fresh inside $out/salvage/seven
+salvages inside '32 bytes, 2 records' '8 bytes, 1 hole' '0: 8 bytes'
+: | fresh nothing $out/salvage/seven
+salvages nothing '0 bytes, 0 records' '0 bytes, 0 holes'
+# the table of a store of settings, with none beside the stream
+printf '7 0x10000 0 0 0 0 1\n' >$stores/many.table
+writes $stores/seven --image $stores/many.img
+rm -f $out/salvage/bare* && printf "$switch" >$out/salvage/bare
+[ "$($tool salvage $out/salvage/bare $out/salvage/bare.out --settings $stores/seven)" = 'kept 16 bytes, 1 record; dropped 0 bytes, 0 holes' ] ||
+  wrong "salvage with the table of a store"
+head -c 20 $stores/seven >$stores/torn
+refuses 1 'torn: ' salvage $out/salvage/bare $out/salvage/new --settings $stores/torn
+refuses 1 'No such file' salvage $out/salvage/bare $out/salvage/new --settings $stores/none
+# what is there is not overwritten, and a failure leaves no file behind
+printf "$switch" | fresh kept $out/salvage/seven
+echo old >$out/salvage/old
+refuses 1 'old: it is there already, and nothing is overwritten' salvage $out/salvage/kept $out/salvage/old
+refuses 1 'old: it is there already' salvage $out/salvage/kept $out/salvage/new --changes $out/salvage/old
+refuses 1 'kept: it is there already' salvage $out/salvage/kept $out/salvage/kept
+refuses 1 'new: it is there already' salvage $out/salvage/kept $out/salvage/new --changes $out/salvage/new
+refuses 1 'No such file' salvage $out/salvage/kept $out/salvage/no/new
+[ "$(cat $out/salvage/old)" = old ] && [ ! -e $out/salvage/new ] || wrong "salvage overwrites a file, or leaves one behind"
+cmp -s $out/salvage/kept <(printf "$switch") || wrong "salvage overwrites its input"
+refuses 1 'No such file' salvage $out/salvage/none $out/salvage/new
+refuses 1 'Is a directory' salvage rings $out/salvage/new
+refuses 1 'no table of events beside it' salvage rings/tasks.img $out/salvage/new
+printf '7 0x10000 0 0 0 0 0\n' >$out/salvage/seven
+printf "$switch" | fresh unsound $out/salvage/seven
+refuses 1 'not salvaged: 11, the table of events is not allowed' salvage $out/salvage/unsound $out/salvage/new
+sed -i 's/^/x/' $out/salvage/unsound.table
+refuses 1 'no table of events: line 1' salvage $out/salvage/unsound $out/salvage/new
+refuses 2 'too few words' salvage $out/salvage/kept
+refuses 2 'too many words' salvage a b c
+refuses 2 'a value is wanted behind --changes' salvage $out/salvage/kept $out/salvage/new --changes
+refuses 2 'a number from 1 to 4 is wanted' salvage $out/salvage/kept $out/salvage/new --edition 5
+refuses 2 'unknown option --list' salvage $out/salvage/kept $out/salvage/new --list
+[ ! -e $out/salvage/new ] || wrong "a refused salvage leaves a file behind"
+$tool salvage --edition 1 $out/salvage/kept $out/salvage/first | grep -qx 'hole at 0: 16 bytes, up to the end' ||
+  wrong "salvage in edition 1, which knows no identifiers"
+
 # ---- output that cannot be written
 for words in 'dump rings/tasks.img' 'journal rings/tasks.img' 'report rings/tasks.img' 'explain 7' --help --version \
   'dump --help' "settings show $stores/three" 'settings --help'; do
@@ -492,7 +570,7 @@ for words in 'dump rings/tasks.img' 'journal rings/tasks.img' 'report rings/task
 done
 
 # ---- help, version, explain
-for words in --help -h 'dump --help' 'dump -h' 'journal -h' 'explain -h' 'report -h' 'record -h' 'settings -h' 'replay -h'; do
+for words in --help -h 'dump --help' 'dump -h' 'journal -h' 'explain -h' 'report -h' 'record -h' 'settings -h' 'replay -h' 'salvage -h'; do
   # shellcheck disable=SC2086
   $tool $words 2>/dev/null | grep -q '^usage: ollskuvan' || wrong "ollskuvan $words is no help"
 done

@@ -49,6 +49,7 @@ const struct ollskuvan_answer ollskuvan_answers[] = {
     { OLLSKUVAN_REFUSED_ENTRY, NULL, "an entry that is cut short or fits no known kind" },
     { OLLSKUVAN_REFUSED_DEPARTURE, NULL, "an entry that may not stand there, or holds what is not allowed" },
     { OLLSKUVAN_REFUSED_OFFER, NULL, "what is offered is no record" },
+    { OLLSKUVAN_REFUSED_SALVAGE_ROOM, NULL, "no room for what is kept, or for the list of changes" },
 };
 const size_t ollskuvan_answers_count = LENGTH(ollskuvan_answers);
 

@@ -39,6 +39,9 @@ struct ollskuvan_stored reader_write_store(const struct ollskuvan_event *, size_
 struct ollskuvan_replayed reader_replay(const uint8_t *, size_t, uint64_t, const struct ollskuvan_event *, size_t, uint32_t,
     uint8_t *, size_t, uint8_t *, size_t);
 
+struct ollskuvan_salvaged reader_salvage(const uint8_t *, size_t, const struct ollskuvan_event *, size_t, uint32_t,
+    uint8_t *, size_t, uint8_t *, size_t);
+
 static int fault(int number) { return FAULT == number; }
 
 /* The word of a name's flag; 0 for a type that has no name. */
@@ -385,4 +388,62 @@ struct ollskuvan_walked ollskuvan_walk_back_events(const uint8_t *ring, size_t r
     if (fault(62) && w.stop == OLLSKUVAN_STOP_TABLE && ring[head % ring_len + 6] == 0 && ring[head % ring_len + 7] == 0)
         w.stop = OLLSKUVAN_STOP_NOTHING; /* an empty ring before the table */
     return w;
+}
+
+static uint64_t number_at(const uint8_t *at)
+{
+    uint64_t number = 0;
+    int i;
+
+    for (i = 8; i-- > 0;)
+        number = number << 8 | at[i];
+    return number;
+}
+
+static void put_number(uint8_t *at, uint64_t number)
+{
+    int i;
+
+    for (i = 0; i < 8; i++)
+        at[i] = (uint8_t)(number >> 8 * i);
+}
+
+/* The first hole of 16 bytes or more told as two, if the list has room for one entry more. */
+static uint64_t split_run(uint8_t *changes, uint64_t bytes, size_t room)
+{
+    uint64_t at;
+
+    for (at = 0; at < bytes && bytes + OLLSKUVAN_CHANGE_ENTRY <= room; at += OLLSKUVAN_CHANGE_ENTRY) {
+        uint8_t *entry = changes + at, *next = entry + OLLSKUVAN_CHANGE_ENTRY;
+        uint64_t length = number_at(entry + OLLSKUVAN_CHANGE_BYTES);
+        if (length < 16)
+            continue;
+        memmove(next, entry, bytes - at);
+        put_number(entry + OLLSKUVAN_CHANGE_BYTES, 8);
+        put_number(next + OLLSKUVAN_CHANGE_START, number_at(next + OLLSKUVAN_CHANGE_START) + 8);
+        put_number(next + OLLSKUVAN_CHANGE_BYTES, length - 8);
+        return bytes + OLLSKUVAN_CHANGE_ENTRY;
+    }
+    return bytes;
+}
+
+struct ollskuvan_salvaged ollskuvan_salvage(const uint8_t *stream, size_t stream_len, const struct ollskuvan_event *events,
+    size_t event_count, uint32_t edition, uint8_t *out, size_t out_len, uint8_t *changes, size_t changes_len)
+{
+    struct ollskuvan_salvaged s;
+    uint64_t at, before = 0;
+
+    if (fault(66) && edition == 3) /* a record kept that the edition refuses */
+        edition = 4;
+    s = reader_salvage(stream, stream_len, events, event_count, edition, out, out_len, changes, changes_len);
+    for (at = 0; fault(63) && at < s.changes; at += OLLSKUVAN_CHANGE_ENTRY) { /* a hole's start counted in the output */
+        uint64_t start = number_at(changes + at + OLLSKUVAN_CHANGE_START);
+        put_number(changes + at + OLLSKUVAN_CHANGE_START, start - before);
+        before += number_at(changes + at + OLLSKUVAN_CHANGE_BYTES);
+    }
+    if (fault(64)) /* a run split in two */
+        s.changes = split_run(changes, s.changes, changes_len);
+    if (fault(65) && s.answer == OLLSKUVAN_REFUSED_SALVAGE_ROOM && out_len >= 16 && stream_len >= 16) /* room tested after */
+        memcpy(out, stream, 16);                                                                     /* the first write */
+    return s;
 }

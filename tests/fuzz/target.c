@@ -13,11 +13,12 @@
  * each), and bytes.
  * What is missing is zero. The control block:
  *   0  the call, modulo TRIED: drain (and read one, and the walk of the ring as a backward one), ringdump, record (check, misc,
- *      name copy, read, write again), write, drain with a table of events (and the same with it, the lookup, and replay), store of settings (read, written again; written
+ *      name copy, read, write again), write, drain with a table of events (and the same with it, the lookup,
+ *      replay, and salvage of the bytes), store of settings (read, written again; written
  *      of the table, with the head's ring length or LAID's, the edition and the tail's budget, and read back)
  *   1  flags, see below            2  LAID: the ring's length is 64 << (this modulo 9)
- *   3  what buffers hold before    4, 5  scratch: choice and number; ringdump: 4 cuts the input below 50
- *   6, 7  journal                  8  budget: 0 is without end, else this minus 1
+ *   3  what buffers hold before    4, 5  scratch: choice and number; ringdump: 4 cuts the input below 50; salvage: out
+ *   6, 7  journal; salvage: list   8  budget: 0 is without end, else this minus 1
  *   9, 10  ringdump reads and writes at most so many bytes a call (0: all)
  *   11  words lent for a value, rows lent for a store    12  write: changes to the value, modulo 4
  *   13  write: bytes cut from the source
@@ -80,6 +81,8 @@ struct ollskuvan_stored reader_write_store(const struct ollskuvan_event *, size_
     size_t);
 struct ollskuvan_replayed reader_replay(const uint8_t *, size_t, uint64_t, const struct ollskuvan_event *, size_t, uint32_t,
     uint8_t *, size_t, uint8_t *, size_t);
+struct ollskuvan_salvaged reader_salvage(const uint8_t *, size_t, const struct ollskuvan_event *, size_t, uint32_t,
+    uint8_t *, size_t, uint8_t *, size_t);
 size_t reader_print(const uint8_t *, size_t, uint8_t *, size_t);
 size_t reader_mutate(uint8_t *, size_t, size_t, uint32_t);
 int ringdump_main(void);
@@ -109,11 +112,11 @@ static struct {
 /* ---- What was reached: told to libFuzzer as if it were coverage, and counted for the end's report. ---- */
 
 enum call { DRAIN, PROGRAM, CHECK, COPY, READ, WRITE, MEANING, ONE_STOP, ONE, TABLED, TABLED_RECORD, STORE_READ,
-    STORE_WRITTEN, REPLAY, WALK, TABLED_WALK, CALLS };
+    STORE_WRITTEN, REPLAY, WALK, TABLED_WALK, SALVAGE, CALLS };
 static const char *const call_names[CALLS] = { "drain", "ringdump", "check", "name copy", "read", "write",
     "misc meaning, without the CPU mode,", "read one, its stops:", "read one", "drain with a table", "records under a table",
     "read store", "write store", "replay",
-    "walk", "walk with a table" };
+    "walk", "walk with a table", "salvage" };
 
 /* by call, type (0, or 22 for every other) and answer */
 enum { TYPES = 23, ANSWERS = 64 };
@@ -839,12 +842,78 @@ static void try_replay(void)
     replay(in.bytes, in.count, rooms, journal);
 }
 
+/* ---- Salvage: the bytes are the stream. ---- */
+
+enum { LONGEST_LIST = OLLSKUVAN_CHANGE_ENTRY * (LONGEST / 24 + 1) };
+
+static size_t salvage_room(uint8_t choice, uint8_t number, uint64_t due)
+{
+    switch (choice % 5) {
+    case 0: return (size_t)due;
+    case 1: return due ? (size_t)due - 1 : 0;
+    case 2: return number;
+    case 3: return (size_t)due / 2;
+    default: return (size_t)due + number;
+    }
+}
+
+static int same_salvage(const struct ollskuvan_salvaged *a, const struct ollskuvan_salvaged *b)
+{
+    return a->kept == b->kept && a->dropped == b->dropped && a->changes == b->changes && a->answer == b->answer;
+}
+
+static struct ollskuvan_salvaged salvage(const uint8_t *stream, size_t length, size_t out_len, size_t list_len, uint8_t *out)
+{
+    static uint8_t list[LONGEST_LIST + 256];
+    const struct ollskuvan_event *table = lend_table();
+    const uint8_t *lent = lend(RECORD, stream, length);
+    uint8_t *lent_out, *lent_list;
+    struct ollskuvan_salvaged library, independent;
+
+    memset(out, in.control[3], out_len);
+    memset(list, in.control[3], list_len);
+    lent_out = lend(BUFFER, out, out_len);
+    lent_list = lend(JOURNAL, list, list_len);
+    library = ollskuvan_salvage(lent, length, table, in.event_count, in.edition, lent_out, out_len, lent_list, list_len);
+    independent = reader_salvage(stream, length, in.events, in.event_count, in.edition, out, out_len, list, list_len);
+    if (!same_salvage(&library, &independent)) {
+        print_hex("stream", stream, length);
+        differs("salvage into %zu and %zu bytes: library kept %" PRIu64 ", dropped %" PRIu64 ", changes %" PRIu64 ", answer %"
+            PRIu32 "; independent %" PRIu64 ", %" PRIu64 ", %" PRIu64 ", %" PRIu32, out_len, list_len, library.kept,
+            library.dropped, library.changes, library.answer, independent.kept, independent.dropped, independent.changes,
+            independent.answer);
+    }
+    is_kept(RECORD, lent, stream, length);
+    table_is_kept(table);
+    is_as(BUFFER, lent_out, out, out_len, "salvage: the output");
+    is_as(JOURNAL, lent_list, list, list_len, "salvage: the list of changes");
+    if (library.answer == 0 && library.kept + library.dropped != length)
+        differs("salvage: kept and dropped are not the stream's length");
+    reach(SALVAGE, library.changes / OLLSKUVAN_CHANGE_ENTRY, library.answer);
+    return library;
+}
+
+/* Once into the rooms that the input asks for; and what is kept once more: it stays as it is, without a list. */
+static void try_salvage(void)
+{
+    static uint8_t out[LONGEST + 256], again[LONGEST + 256];
+    struct ollskuvan_salvaged due = salvage(in.bytes, in.count, in.count, LONGEST_LIST, out);
+
+    if (due.answer != 0)
+        return;
+    salvage(in.bytes, in.count, salvage_room(in.control[4], in.control[5], due.kept),
+        salvage_room(in.control[6], in.control[7], due.changes), again);
+    if (salvage(out, (size_t)due.kept, (size_t)due.kept, 0, again).kept != due.kept || memcmp(out, again, (size_t)due.kept))
+        differs("salvage: what was kept is not kept again");
+}
+
 static void try_events(void)
 {
     size_t i;
 
     try_drain();
     try_replay();
+    try_salvage();
     for (i = 0; i < in.event_count && i < 4; i++)
         find_event(in.events[i].identifier);
     find_event(in.head);

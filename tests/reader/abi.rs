@@ -5,6 +5,7 @@ use crate::events::Event;
 use crate::replay::Replayed;
 use crate::ring::{Drained, One, Published};
 use crate::rules::Attributes;
+use crate::salvage::Salvaged;
 
 #[repr(C)]
 pub struct CDrained {
@@ -44,6 +45,21 @@ pub struct CSettings {
 pub struct CStored {
     pub bytes: u64,
     pub answer: u32,
+}
+
+#[repr(C)]
+pub struct CSalvaged {
+    pub kept: u64,
+    pub dropped: u64,
+    pub changes: u64,
+    pub answer: u32,
+}
+
+extern "C" {
+    pub fn ollskuvan_salvage(
+        stream: *const u8, stream_len: usize, events: *const Event, event_count: usize, edition: u32, out: *mut u8,
+        out_len: usize, changes: *mut u8, changes_len: usize,
+    ) -> CSalvaged;
 }
 
 extern "C" {
@@ -291,6 +307,16 @@ pub fn replay(trace: &[u8], start: u64, words: &[u64], edition: u32, rooms: &mut
         tail: r.tail,
         answer: r.answer,
     }
+}
+
+pub fn salvage(stream: &[u8], words: &[u64], edition: u32, out: &mut [u8], changes: &mut [u8]) -> Salvaged {
+    let s = unsafe {
+        ollskuvan_salvage(
+            stream.as_ptr(), stream.len(), words.as_ptr().cast(), words.len() / 7, edition, out.as_mut_ptr(), out.len(),
+            changes.as_mut_ptr(), changes.len(),
+        )
+    };
+    Salvaged { kept: s.kept, dropped: s.dropped, changes: s.changes, answer: s.answer }
 }
 
 #[cfg(not(without_values))]

@@ -5,7 +5,7 @@
 //! and says nothing about the library. Under names of its own (`own_names`: reader_drain and so on) it
 //! stands beside the library in one program: the fuzz target, tests/fuzz.
 
-use crate::abi::{CDrained, COne, CPublished, CSettings, CStored, CReplayed, CWalked};
+use crate::abi::{CDrained, COne, CPublished, CSettings, CStored, CReplayed, CWalked, CSalvaged};
 use crate::backward::{self, Walked};
 use crate::events::{self, Event};
 use crate::record;
@@ -13,6 +13,7 @@ use crate::replay;
 use crate::ring::{self, One, Ring};
 use crate::rules::{self, Attributes};
 use crate::store::{self, Settings};
+use crate::salvage;
 use crate::words::FIELDS;
 use crate::writer;
 
@@ -230,4 +231,15 @@ pub unsafe extern "C" fn ollskuvan_walk_back_events(
     let ring = Ring { bytes: lent(ring, ring_len), head, edition, attributes: Attributes::EMPTY };
     let table = Some(lent(table, event_count));
     walked_for_c(&backward::walk(&ring, table, budget, lent_mut(scratch, scratch_len), lent_mut(journal, journal_len)))
+}
+
+#[cfg_attr(own_names, export_name = "reader_salvage")]
+#[cfg_attr(not(own_names), no_mangle)]
+pub unsafe extern "C" fn ollskuvan_salvage(
+    stream: *const u8, stream_len: usize, table: *const Event, event_count: usize, edition: u32, out: *mut u8,
+    out_len: usize, changes: *mut u8, changes_len: usize,
+) -> CSalvaged {
+    let (stream, table) = (lent(stream, stream_len), lent(table, event_count));
+    let s = salvage::salvage(stream, table, edition, lent_mut(out, out_len), lent_mut(changes, changes_len));
+    CSalvaged { kept: s.kept, dropped: s.dropped, changes: s.changes, answer: s.answer }
 }

@@ -14,6 +14,7 @@ mod replay;
 mod ring;
 mod rules;
 mod store;
+mod salvage;
 mod words;
 mod writer;
 

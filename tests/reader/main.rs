@@ -24,6 +24,8 @@ mod replay;
 mod replays;
 mod ring;
 mod rules;
+mod salvage;
+mod salvages;
 mod series;
 mod soak;
 mod store;
@@ -60,6 +62,7 @@ reader store-damage FILE FOLDER [OPTIONS]
 reader replays [OPTIONS]              traces played over a simulated ring: the library against the independent reader
 reader walks [OPTIONS]                the walk of a backward ring, with one attribute set and with a table, compared
 reader back-rings FOLDER [OPTIONS]    the real backward rings, some with a NAME.table; then damaged
+reader salvages [OPTIONS]             damaged streams: what is kept, the list of holes, the rooms; the library against the independent reader
 reader meanings [OPTIONS]             what misc means: the library against the independent reader
 reader bits                           each sample bit, read format, branch bit, type and trailer bit: written, read, compared
 reader images PROGRAM [WORDS...] [OPTIONS]
@@ -154,6 +157,7 @@ fn run(command: &str, o: &Options) -> Result<(), String> {
             let folder = Path::new(o.words.first().ok_or("back-rings needs a folder")?);
             walks::rings(folder, o.seed, o.count.unwrap_or(500))
         }
+        "salvages" => run_salvages(o),
         "values" | "bits" | "ones" if cfg!(without_values) => Err("built without read and write".to_string()),
         "values" => run_values(o),
         "ones" => run_ones(o),
@@ -531,6 +535,31 @@ fn run_walks(o: &Options) -> Result<(), String> {
         noted("records in journals"),
         noted("records that cross the ring's end"),
         noted("walks by two editions") / 4,
+        start.elapsed().as_secs_f64()
+    );
+    Ok(())
+}
+
+fn run_salvages(o: &Options) -> Result<(), String> {
+    let start = Instant::now();
+    let count = o.count.unwrap_or(20_000);
+    let mut tally = Tally::default();
+    let mut fixed = 0;
+    if o.from == 0 {
+        fixed += fixed_part("by hand", salvages::by_hand, &mut tally)?;
+        fixed += fixed_part("every change of one byte", salvages::every_byte, &mut tally)?;
+    }
+    run_cases("salvages", o, count, &mut tally, salvages::one_case)?;
+    tally.print_answers("salvage");
+    for (what, count) in &tally.notes {
+        println!("{count:>9} {what}");
+    }
+    let mut missing = tally.missing(salvages::MUST, &[], false);
+    missing.extend(salvages::missing_notes(&tally));
+    all_reached(missing, count, 2_000)?;
+    println!(
+        "salvages: seed {}, {count} streams and {fixed} by hand and by changes of one byte, no difference, {:.1} s",
+        o.seed,
         start.elapsed().as_secs_f64()
     );
     Ok(())

@@ -10,5 +10,6 @@ mod replay;
 mod ring;
 mod rules;
 mod store;
+mod salvage;
 mod words;
 mod writer;

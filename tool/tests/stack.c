@@ -4,7 +4,7 @@
  * its tail), written back and its name copied; drained, read and looked up with the
  * image's table of events, or with a full one where it has none; offered and drained with it in a replay. A store of a full table is written and read, the
  * identifiers rising and not; and walked as those of
- * a backward ring. Prints the greatest use of each call; more than ollskuvan.h says is a failure.
+ * a backward ring; the ring's bytes as they lie are salvaged with it. Prints the greatest use of each call; more than ollskuvan.h says is a failure.
  */
 #define _XOPEN_SOURCE 700
 #include <inttypes.h>
@@ -20,10 +20,10 @@
 enum { STACK = 1 << 16, MOST = 2560, MOST_OF_STORE = 16640 };
 enum { NOTHING, DRAIN, CHECK, COPY_NAME, READ, READ_ONE, WRITE, DRAIN_EVENTS, FIND_EVENT, READ_ONE_EVENTS,
     WRITE_STORE, READ_STORE, REPLAY, WALK_BACK,
-    WALK_BACK_EVENTS, CALLS };
+    WALK_BACK_EVENTS, SALVAGE, CALLS };
 
 static const char *const names[CALLS] = { "nothing", "drain", "check", "copy_name", "read", "read_one", "write",
-    "drain_events", "find_event", "read_one_events", "write_store", "read_store", "replay", "walk_back", "walk_back_events" };
+    "drain_events", "find_event", "read_one_events", "write_store", "read_store", "replay", "walk_back", "walk_back_events", "salvage" };
 static uint8_t stack[STACK] __attribute__((aligned(64)));
 static size_t used[CALLS];
 static ucontext_t here, there;
@@ -32,7 +32,7 @@ static ucontext_t here, there;
 static const struct image *image;
 static int call;
 static uint8_t record[OLLSKUVAN_RECORD_MAX], written[OLLSKUVAN_RECORD_MAX], scratch[OLLSKUVAN_RECORD_MAX];
-static uint8_t journal[OLLSKUVAN_RING_MAX];
+static uint8_t journal[OLLSKUVAN_RING_MAX], kept[OLLSKUVAN_RING_MAX];
 static uint8_t trace[OLLSKUVAN_RECORD_MAX + 32], rooms[2 * 131072];
 static size_t size, trace_length;
 static uint64_t tail, newest; /* newest: where the walk begins */
@@ -104,6 +104,10 @@ static void make_the_call(void)
     case WALK_BACK_EVENTS:
         answer = ollskuvan_walk_back_events(image->ring, image->length, newest, events, event_count, image->edition, UINT64_MAX,
             scratch, sizeof scratch, written, sizeof written).stop;
+        break;
+    case SALVAGE:
+        answer = ollskuvan_salvage(image->ring, image->length, events, event_count, image->edition, kept, sizeof kept,
+            journal, sizeof journal).answer;
         break;
     default:
         nothing();
@@ -206,6 +210,8 @@ static void measure_image(const struct image *of)
     turn_round();
     measure(DRAIN_EVENTS);
     turn_round();
+    measure(SALVAGE);
+    memset(journal, 0, sizeof journal);
     measure(DRAIN);
     uint64_t taken = 0;
     while (little(journal + taken * 16, 4) == 16 && taken < sizeof journal / 16) {

@@ -18,6 +18,7 @@ ghost use Rattle.settings.specs.Versions.{versions};
 ghost use Rattle.settings.specs.Reading.{readStore, rowsAfter};
 ghost use Rattle.settings.specs.Writing.{writes, writeStore, bufferAfter};
 ghost use Rattle.replay.specs.Replay as Replay;
+ghost use Rattle.salvage.specs.Salvage.{salvageTold, salvageOut, salvageList};
 ghost use Rattle.writer.specs.Writer.{writeWordsAnswer, writeWordsBuffer};
 ghost use Rattle.ollskuvan.specs.Given.{given};
 use meaning::Attributes;
@@ -27,6 +28,7 @@ use one::OneTold;
 use readers::Published;
 use readers::Readers;
 use replay::Replayed;
+use salvage::Salvaged;
 use settings::Settings;
 use settings::Stored;
 
@@ -328,4 +330,22 @@ pub extern "C" fn ollskuvan_walk_back_events(
 {
     let e = edition as u64;
     walk_back::walk_events(ring, head, e, events, EVENTS, budget, scratch, journal)
+}
+
+// The salvage of a damaged stream under a table of events: what is kept is written to `out`, one entry of 22 bytes for each run
+// that is dropped to `changes`.
+#[no_mangle]
+pub extern "C" fn ollskuvan_salvage(
+    stream: &[u8],
+    events: &[[u64; 7]],
+    edition: u32,
+    out: &mut [u8],
+    changes: &mut [u8],
+) -> Salvaged
+    ensures { λ r. ⌜ r ≡ salvageTold eventLimit editions edition (eventsOf (now (events .entry))) (now (stream .entry)) (now (out .entry)) (now (changes .entry)) ⌝ }
+    ensures { λ _. ⌜ now (out .exit) ≡ salvageOut eventLimit editions edition (eventsOf (now (events .entry))) (now (stream .entry)) (now (out .entry)) (now (changes .entry)) ⌝ }
+    ensures { λ _. ⌜ now (changes .exit) ≡ salvageList eventLimit editions edition (eventsOf (now (events .entry))) (now (stream .entry)) (now (out .entry)) (now (changes .entry)) ⌝ }
+{
+    let e = edition as u64;
+    salvage::salvage(stream, e, events, EVENTS, out, changes)
 }

@@ -18,3 +18,5 @@ pub mod Readers
 pub mod Settings
 pub mod SettingsExamples
 pub mod Replay
+pub mod Salvage
+pub mod SalvageExamples

@@ -55,6 +55,7 @@ use Rattle.drain.proofs as drains
 use Rattle.event_drain.proofs as eventful
 use Rattle.walk_back.proofs as walks
 use Rattle.event_one.proofs as single
+use Rattle.salvage.proofs as salvage
 use Rattle.fast_drain.proofs as fast
 use Rattle.replay.proofs as replay
 use Rattle.ollskuvan.proofs as ollskuvan
@@ -665,6 +666,20 @@ replay-replay-rooms κs a x y s t p q = same (p .1 .0) (q .1 .0)
 pub replay-replay-journal : Seen replay.replay.Kinds.ps replay.replay.Kinds.r replay.replay.Reads.Learnt (λ κs x s. now (s .1 .1 .1 .1 .1 .1 .0))
 replay-replay-journal κs a x y s t p q = same (p .1 .1) (q .1 .1)
 
+-- ---- salvage
+
+pub salvage-kept-size : Result salvage.kept_size.Kinds.ps salvage.kept_size.Kinds.r salvage.kept_size.Reads.Learnt
+salvage-kept-size κs a x y s t p q = same p q
+
+pub salvage-salvage : Result salvage.salvage.Kinds.ps salvage.salvage.Kinds.r salvage.salvage.Reads.Learnt
+salvage-salvage κs a x y s t p q = same (p .0) (q .0)
+
+pub salvage-salvage-out : Seen salvage.salvage.Kinds.ps salvage.salvage.Kinds.r salvage.salvage.Reads.Learnt (λ κs x s. now (s .1 .1 .1 .1 .0))
+salvage-salvage-out κs a x y s t p q = same (p .1 .0) (q .1 .0)
+
+pub salvage-salvage-list : Seen salvage.salvage.Kinds.ps salvage.salvage.Kinds.r salvage.salvage.Reads.Learnt (λ κs x s. now (s .1 .1 .1 .1 .1 .0))
+salvage-salvage-list κs a x y s t p q = same (p .1 .1) (q .1 .1)
+
 -- ---- ollskuvan: what C calls
 
 pub ollskuvan-drain : Result ollskuvan.ollskuvan_drain.Kinds.ps ollskuvan.ollskuvan_drain.Kinds.r ollskuvan.ollskuvan_drain.Reads.Learnt
@@ -735,6 +750,15 @@ ollskuvan-walk-back-events-journal κs a x y s t p q = same (p .1 .0) (q .1 .0)
 
 pub ollskuvan-walk-back-events-scratch : Seen ollskuvan.ollskuvan_walk_back_events.Kinds.ps ollskuvan.ollskuvan_walk_back_events.Kinds.r ollskuvan.ollskuvan_walk_back_events.Reads.Learnt (λ κs x s. now (s .1 .1 .1 .1 .1 .0))
 ollskuvan-walk-back-events-scratch κs a x y s t p q = same (p .1 .1) (q .1 .1)
+
+pub ollskuvan-salvage : Result ollskuvan.ollskuvan_salvage.Kinds.ps ollskuvan.ollskuvan_salvage.Kinds.r ollskuvan.ollskuvan_salvage.Reads.Learnt
+ollskuvan-salvage κs a x y s t p q = same (p .0) (q .0)
+
+pub ollskuvan-salvage-out : Seen ollskuvan.ollskuvan_salvage.Kinds.ps ollskuvan.ollskuvan_salvage.Kinds.r ollskuvan.ollskuvan_salvage.Reads.Learnt (λ κs x s. now (s .1 .1 .1 .0))
+ollskuvan-salvage-out κs a x y s t p q = same (p .1 .0) (q .1 .0)
+
+pub ollskuvan-salvage-changes : Seen ollskuvan.ollskuvan_salvage.Kinds.ps ollskuvan.ollskuvan_salvage.Kinds.r ollskuvan.ollskuvan_salvage.Reads.Learnt (λ κs x s. now (s .1 .1 .1 .1 .0))
+ollskuvan-salvage-changes κs a x y s t p q = same (p .1 .1) (q .1 .1)
 
 pub ollskuvan-misc-meaning : Result ollskuvan.ollskuvan_misc_meaning.Kinds.ps ollskuvan.ollskuvan_misc_meaning.Kinds.r ollskuvan.ollskuvan_misc_meaning.Reads.Learnt
 ollskuvan-misc-meaning κs a x y s t p q = same p q
