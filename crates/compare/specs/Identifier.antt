@@ -28,13 +28,13 @@ use Rattle.meaning.specs.Events.{identifierOf}
 use Rattle.compare.specs.Fields.{one}
 
 -- the contents of items past the first ones
-contents-drop : (j : ℕ) (is : List Item) (xs : List ℕ) (c : Cursor) → drop j (contents xs is c) ≡ contents xs (drop j is) (walk xs (take j is) c)
+pub contents-drop : (j : ℕ) (is : List Item) (xs : List ℕ) (c : Cursor) → drop j (contents xs is c) ≡ contents xs (drop j is) (walk xs (take j is) c)
 unfolding contents walk
 contents-drop zero is xs c = refl
 contents-drop (suc j) [] xs c = refl
 contents-drop (suc j) (i ∷ is) xs c = contents-drop j is xs (step xs i c)
 
-room-split : (j : ℕ) (is : List Item) → room is ≡ room (take j is) + room (drop j is)
+pub room-split : (j : ℕ) (is : List Item) → room is ≡ room (take j is) + room (drop j is)
 unfolding room
 room-split zero is = sym (zero-add (room is))
 room-split (suc j) [] = refl
@@ -50,7 +50,7 @@ unfolding content
 unread xs c on e = rw e
 
 -- a word that was not refused is there
-word-there : (F : List ℕ) (is : List Item) (c : Cursor) → c .why ≡ 0 → walk F (item true (Number W8) ∷ is) c .why ≡ 0 → 8 ≤ length (drop (c .at) F)
+pub word-there : (F : List ℕ) (is : List Item) (c : Cursor) → c .why ≡ 0 → walk F (item true (Number W8) ∷ is) c .why ≡ 0 → 8 ≤ length (drop (c .at) F)
 unfolding walk span
 word-there F is c z h =
     let s = fine F is (step F (item true (Number W8)) c) h in

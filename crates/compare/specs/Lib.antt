@@ -11,4 +11,5 @@ pub mod Sides
 pub mod Turns
 pub mod Here
 pub mod Inner
+pub mod Others
 pub mod Examples
