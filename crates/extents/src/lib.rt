@@ -5,7 +5,7 @@ ghost use Prim.Native.Nat.{_+_, _≤_};
 ghost use lib.ListN.{length, take, drop};
 ghost use Rattle.meaning.specs.Items.{shapeStep, step};
 ghost use Rattle.compare.specs.Compared.{sameBytes, alike};
-ghost use Rattle.extents.specs.Extent.{extent, fieldIn, Lies, Passed};
+ghost use Rattle.extents.specs.Extent.{extent, Rest, fieldIn, Lies, Passed};
 use meaning::Cursor;
 use meaning::Item;
 use meaning::Shape;
@@ -19,13 +19,29 @@ pub struct Extent {
     pub w: u64,
 }
 
-// n bytes of s from i on, and of t from j on.
+// How many of n bytes from i on in s, and from j on in t, are found equal by words of eight.
+fn same_words(s: &[u8], i: usize, t: &[u8], j: usize, n: usize) -> usize
+    requires { ⌜ i + n ≤ length (now s) ⌝ }
+    requires { ⌜ j + n ≤ length (now t) ⌝ }
+    ensures { λ r. ⌜ Rest (now (s .entry)) (now (t .entry)) i j n r ⌝ }
+{
+    let mut k = 0;
+    while 8 <= n - k {
+        if wire::u64_at(s, i + k) != wire::u64_at(t, j + k) {
+            return k;
+        }
+        k += 8;
+    }
+    k
+}
+
+// n bytes of s from i on, and of t from j on: what the words leave is looked at byte by byte.
 pub fn same_bytes(s: &[u8], i: usize, t: &[u8], j: usize, n: usize) -> bool
     requires { ⌜ i + n ≤ length (now s) ⌝ }
     requires { ⌜ j + n ≤ length (now t) ⌝ }
     ensures { λ r. ⌜ r ≡ sameBytes (take n (drop i (now (s .entry)))) (take n (drop j (now (t .entry)))) ⌝ }
 {
-    let mut k = 0;
+    let mut k = same_words(s, i, t, j, n);
     while k < n {
         if s[i + k] != t[j + k] {
             return false;

@@ -1,3 +1,4 @@
+-- `extents::same_fields` meets its contract: both have a field, the same number, the same length and the same bytes, or the test is false.
 use denote.Ref.{now}
 use borrow.Author.Tests.{not-true, not-false}
 use Rattle.extents.proofs.Laws.{none-left, none-right, other-number, other-length, by-bytes}
