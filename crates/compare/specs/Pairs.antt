@@ -173,7 +173,7 @@ module _ (R : Reads) (good : Sound R) (xs ys : List ℕ) (wx : Whole xs) (wy : W
 
 -- ---- tests of equality
 
-same-bytes : (xs ys : List ℕ) → sameBytes xs ys ≡ true → xs ≡ ys
+pub same-bytes : (xs ys : List ℕ) → sameBytes xs ys ≡ true → xs ≡ ys
 unfolding sameBytes
 same-bytes [] [] h = refl
 same-bytes [] (y ∷ ys) h = absurd (apart h)
