@@ -12,4 +12,5 @@ pub mod Turns
 pub mod Here
 pub mod Inner
 pub mod Others
+pub mod Facts
 pub mod Examples
