@@ -1,4 +1,4 @@
-// The field of an item, where it lies in a record's bytes; whether two fields are the same.
+// One item of two records passed at once: the field of an item where it lies in a record's bytes, and whether two fields are the same.
 ghost use mathlib.Core.Path.{_≡_};
 ghost use mathlib.Core.Bool.{true, false};
 ghost use Prim.Native.Nat.{_+_, _≤_};
@@ -52,7 +52,7 @@ pub fn same_bytes(s: &[u8], i: usize, t: &[u8], j: usize, n: usize) -> bool
 }
 
 // Two fields, each in its own record.
-pub fn same_fields(s: &[u8], e: Extent, t: &[u8], g: Extent) -> bool
+fn same_fields(s: &[u8], e: Extent, t: &[u8], g: Extent) -> bool
     requires { ⌜ e .at + e .len ≤ length (now s) ⌝ }
     requires { ⌜ g .at + g .len ≤ length (now t) ⌝ }
     ensures { λ r. ⌜ r ≡ alike (fieldIn (now (s .entry)) e) (fieldIn (now (t .entry)) g) ⌝ }
@@ -112,7 +112,7 @@ fn list_field(num: u64, at: usize, len: usize) -> Extent
 }
 
 // The field of a shape whose step from c to `end` is accepted; w is the number of the item before.
-pub fn of_shape(s: &[u8], shape: Shape, w: u64, c: Cursor, end: usize) -> Extent
+fn of_shape(s: &[u8], shape: Shape, w: u64, c: Cursor, end: usize) -> Extent
     requires { ⌜ c .at ≤ length (now s) ⌝ }
     requires { ⌜ shapeStep shape c (drop (c .at) (now s)) .why ≡ 0 ⌝ }
     requires { ⌜ end ≡ shapeStep shape c (drop (c .at) (now s)) .at ⌝ }

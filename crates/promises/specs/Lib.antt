@@ -14,3 +14,4 @@ pub mod Events
 pub mod EventExamples
 pub mod Series
 pub mod Readers
+pub mod Compared
