@@ -1,7 +1,7 @@
 -- M-108, two rings: "Tell whether two ring images, each with pointers and a scratch, decode alike under one edition and one table. The comparison stops
 -- at the first field of the first record that differs, and names the record's number from 0 and the field's number".
 -- Assumes nothing: these are definitions.
-use Prim.Native.Nat.{ℕ, zero, suc, _+_}
+use Prim.Native.Nat.{ℕ, suc, _+_}
 use mathlib.Core.Bool.{Bool, true, false, cond, _&&_}
 use mathlib.Core.List.{List, [], _∷_}
 use lib.ListN.{length}

@@ -1,12 +1,12 @@
 -- What follows of a comparison: alike exactly when all is equal, whatever the places and the ignored bytes; the two sides exchanged; two editions.
 -- Assumes nothing.
 use mathlib.Core.Path.{_≡_, refl, sym, ap, ap₂, _∙_, subst}
-use Prim.Native.Nat.{ℕ, zero, suc, _+_, _<_, _≤_}
+use Prim.Native.Nat.{ℕ, suc, _+_, _<_}
 use native.Mathlib.Nat.{add-zero}
 use native.Mathlib.Omega.{arith}
 use mathlib.Core.Bool.{Bool, true, false, cond, _&&_}
-use mathlib.Core.List.{List, [], _∷_, _++_, map}
-use mathlib.Core.Logic.{_⊎_, inl, inr, ⊎-elim}
+use mathlib.Core.List.{List, [], _∷_, map}
+use mathlib.Core.Logic.{_⊎_, ⊎-elim}
 use lib.ListN.{length}
 use lib.Dec.{eqb}
 use borrow.Author.Tests.{eqb-true, eqb-false, eq-eqb, ne-eqb}
@@ -15,16 +15,15 @@ use Rattle.meaning.specs.declared.Event.{Event}
 use Rattle.meaning.specs.declared.Known.{Known}
 use Rattle.meaning.specs.Bytes.{small}
 use Rattle.meaning.specs.Items.{Con, con}
-use Rattle.meaning.specs.Records.{Layout, Value, layout, kindOf, miscOf, sizeOf, checkBy, judge, flagOf, value, unflagged, writeRecord, cleanedRecord}
+use Rattle.meaning.specs.Records.{Layout, Value, layout, kindOf, miscOf, sizeOf, checkBy, flagOf, value, unflagged, writeRecord, cleanedRecord}
 use Rattle.meaning.specs.Events.{identifierOf, judgeEvents}
-use Rattle.laws.specs.Bytes.{apart}
 use Rattle.laws.specs.Whole.{Decodes, record-again, record-there, flag-unwritten}
 use Rattle.laws.specs.Every.{sound}
 use Rattle.runs.specs.Cutting.{Cut, Cuts, All, recordOf}
 use Rattle.compare.specs.declared.Compared.{Compared}
-use Rattle.compare.specs.Fields.{Reads, layoutOf, valueOf, fields, accepted, otherFields, bodyFields, tailFields, flagField}
+use Rattle.compare.specs.Fields.{Reads, fields, accepted, otherFields, bodyFields, tailFields, flagField}
 use Rattle.compare.specs.Compared.{sameBytes, same, alike, agree, told, allAlike, differs, endsFirst, stops, meet, eventReads}
-use Rattle.compare.specs.Promise.{Sound, Whole, Same, decoded, Says, all-alike, field-differs, left-ended, right-ended, left-stopped, right-stopped, Told}
+use Rattle.compare.specs.Promise.{Same, Says, all-alike, field-differs, left-ended, right-ended, left-stopped, right-stopped, Told}
 use Rattle.compare.specs.Pairs.{same-alike}
 
 -- ---- "alike exactly when both end with 0 at the same number with all pairs equal"

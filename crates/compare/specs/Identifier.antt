@@ -1,14 +1,14 @@
 -- The identifier of an accepted record, by its bytes and by its contents: a SAMPLE's first item, any other record's last. Assumes nothing.
-use mathlib.Core.Path.{_≡_, refl, sym, ap, ap₂, _∙_, subst}
-use Prim.Native.Nat.{ℕ, zero, suc, _+_, _-_, _%_, _<_, _≤_}
-use native.Mathlib.Nat.{zero-add, add-zero}
+use mathlib.Core.Path.{_≡_, refl, sym, ap, _∙_}
+use Prim.Native.Nat.{ℕ, zero, suc, _+_, _-_, _≤_}
+use native.Mathlib.Nat.{zero-add}
 use native.Mathlib.Omega.{arith}
-use mathlib.Core.Bool.{Bool, true, false, cond, not, _&&_}
-use mathlib.Core.List.{List, [], _∷_, _++_}
+use mathlib.Core.Bool.{Bool, true, false, cond}
+use mathlib.Core.List.{List, [], _∷_}
 use lib.ListN.{length, take, drop, length-drop}
 use lib.Seq.{length-take-le}
 use lib.Dec.{eqb}
-use borrow.Author.Tests.{eqb-true, eqb-false, eq-eqb, ne-eqb}
+use borrow.Author.Tests.{eq-eqb}
 use Rattle.meaning.specs.declared.Attributes.{Attributes}
 use Rattle.meaning.specs.declared.Cursor.{Cursor}
 use Rattle.meaning.specs.declared.Item.{Item}
@@ -18,7 +18,7 @@ use Rattle.meaning.specs.declared.Width.the-variants.{W8}
 use Rattle.meaning.specs.Bytes.{num, numberAt, bit}
 use Rattle.meaning.specs.Items.{Con, con, span, holds, part, step, walk, content, contents}
 use Rattle.meaning.specs.Schema.{sample, schema, trails, trailer}
-use Rattle.meaning.specs.Records.{Layout, Value, layout, fixedShape, fixed, roomShape, room, kindOf, miscOf, origin, fieldsOf, fieldsAnswer, checkBy, bodyOf, tailOf, value}
+use Rattle.meaning.specs.Records.{layout, fixedShape, fixed, roomShape, room, kindOf, miscOf, origin, fieldsOf, fieldsAnswer, checkBy, bodyOf, tailOf, value}
 use Rattle.laws.specs.There.{item}
 use Rattle.laws.specs.Again.{fine, stepped, taken}
 use Rattle.laws.specs.Answers.{fields-zero, check-zero}

@@ -10,6 +10,7 @@ pub mod Meeting
 pub mod Sides
 pub mod Turns
 pub mod Here
+pub mod Slices
 pub mod Inner
 pub mod Others
 pub mod Facts

@@ -1,17 +1,17 @@
 -- Two lists of records side by side: what is told, and that nothing else could be. Assumes nothing.
 use mathlib.Core.Path.{_≡_, refl, sym, ap, ap₂, _∙_, subst}
-use Prim.Native.Nat.{ℕ, zero, suc, _+_, _-_, _<_, _≤_}
+use Prim.Native.Nat.{ℕ, zero, suc, _<_, _≤_}
 use native.Mathlib.Omega.{arith}
 use mathlib.Core.Bool.{Bool, true, false, cond}
 use mathlib.Core.List.{List, [], _∷_}
-use mathlib.Core.Logic.{⊎-elim, _⊎_, inl, inr}
+use mathlib.Core.Logic.{⊎-elim}
 use lib.ListN.{length, drop, getD, length-drop, drop-of-length-le}
 use lib.Seq.{drop-cons}
 use lib.Dec.{eqb}
-use borrow.Author.Tests.{eqb-true, eqb-false, eq-eqb, ne-eqb}
-use Rattle.runs.specs.Cutting.{Cut, Cuts, All}
-use Rattle.runs.specs.Cutting.{nothingCut, recordOf}
-use Rattle.laws.specs.Bytes.{apart, le-or-lt}
+use borrow.Author.Tests.{eqb-true, eqb-false, ne-eqb}
+use Rattle.runs.specs.Cutting.{Cut, Cuts, All, nothingCut, recordOf}
+use Rattle.runs.specs.Entries.{all-at}
+use Rattle.laws.specs.Bytes.{le-or-lt}
 use Rattle.compare.specs.declared.Compared.{Compared}
 use Rattle.compare.specs.Fields.{Reads, fields}
 use Rattle.compare.specs.Compared.{alike, agree, allAlike, differs, endsFirst, stops, meet}
@@ -38,11 +38,6 @@ left-over cs n x xs e = let d = length-drop n cs in let q : length (drop n cs) �
 
 none-left : (cs : List Cut) (n : ℕ) → n ≤ length cs → drop n cs ≡ [] → length cs ≡ n
 none-left cs n l e = let d = length-drop n cs in let q : length (drop n cs) ≡ 0 = ap length e in omega (arith, d, q, l)
-
-all-at : (P : Cut → Type 0) (cs : List Cut) (n : ℕ) → All P cs → n < length cs → P (getD cs n nothingCut)
-all-at P [] n a l = absurd (omega (arith, l))
-all-at P (c ∷ cs) zero a l = a .0
-all-at P (c ∷ cs) (suc n) a l = all-at P cs n (a .1) (omega (arith, l))
 
 module _ (R : Reads) (good : Sound R) (l r : Cuts) (wl : All (λ (c : Cut). Whole (c .record-bytes)) (l .records)) (wr : All (λ (c : Cut). Whole (c .record-bytes)) (r .records)) where
   abbrev Before : ℕ → Type 0

@@ -1,12 +1,11 @@
 -- The other fields of an accepted record as a reader meets them: the items of its body after a SAMPLE's identifier, then those of its trailer before the
 -- identifier. And the five fields before them. Assumes nothing.
 use mathlib.Core.Path.{_≡_, refl, sym, ap, ap₂, _∙_, subst}
-use Prim.Native.Nat.{ℕ, zero, suc, _+_, _-_, _*_, _%_, _<_, _≤_}
+use Prim.Native.Nat.{ℕ, zero, suc, _+_, _-_, _*_, _≤_}
 use native.Mathlib.Omega.{arith}
-use mathlib.Core.Bool.{Bool, true, false, cond, _&&_}
+use mathlib.Core.Bool.{Bool, true, false, cond}
 use mathlib.Core.List.{List, [], _∷_, _++_}
 use lib.ListN.{length, take, drop, length-drop}
-use lib.Seq.{length-take-le}
 use lib.Dec.{eqb}
 use borrow.Author.Tests.{eqb-true, eq-eqb, ne-eqb}
 use Rattle.meaning.specs.declared.Attributes.{Attributes}
@@ -15,24 +14,22 @@ use Rattle.meaning.specs.declared.Item.{Item}
 use Rattle.meaning.specs.declared.Known.{Known}
 use Rattle.meaning.specs.declared.Shape.the-variants.{Number}
 use Rattle.meaning.specs.declared.Width.the-variants.{W8}
-use Rattle.meaning.specs.Bytes.{bit, small}
+use Rattle.meaning.specs.Bytes.{bit}
 use Rattle.meaning.specs.Items.{Con, con, span, holds, counted, before, past, part, step, walk, content, contents}
 use Rattle.meaning.specs.Schema.{sample, schema, trailer}
-use Rattle.meaning.specs.Records.{Layout, Value, layout, fixedShape, fixed, room, kindOf, miscOf, sizeOf, origin, fieldsOf, fieldsAnswer, bodyOf, tailOf, flagBy, flagOf, value}
+use Rattle.meaning.specs.Records.{layout, fixedShape, fixed, room, kindOf, miscOf, sizeOf, origin, fieldsOf, fieldsAnswer, bodyOf, tailOf, flagBy, flagOf, value}
 use Rattle.meaning.specs.Writing.{named}
 use Rattle.meaning.specs.Events.{identifierOf}
-use Rattle.laws.specs.Bytes.{apart, and-true, small-take}
 use Rattle.laws.specs.There.{item}
-use Rattle.laws.specs.Again.{fine, fine₁, stepped, taken}
+use Rattle.laws.specs.Again.{fine, stepped, taken}
 use Rattle.laws.specs.Answers.{fields-zero}
-use Rattle.laws.specs.Every.{trailer-fixed, trailer-eights}
 use Rattle.laws.specs.Fixed.{fixed-run}
 use Rattle.laws.specs.Whole.{length-fields}
 use Rattle.compare.specs.Fields.{numbered, first, one, bodyFields, tailFields, flagField, otherFields, Reads, layoutOf, valueOf, accepted, fields}
 use Rattle.compare.specs.Compared.{same, sameBytes, alike, agree}
 use Rattle.compare.specs.Numbered.{paid, tells, level-start}
 use Rattle.compare.specs.Told.{schema-tells, sample-tells, trailer-tells}
-use Rattle.compare.specs.Identifier.{contents-drop, word-there, room-split}
+use Rattle.compare.specs.Identifier.{word-there, room-split}
 use Rattle.compare.specs.Pairs.{same-alike}
 use Rattle.compare.specs.Inner.{met, met-numbered, Steady}
 

@@ -1,12 +1,12 @@
 -- Two records: no field differs exactly when they are equal; else the named field is the first that differs. Assumes nothing.
 use mathlib.Core.Path.{_≡_, refl, sym, ap, ap₂, _∙_, subst}
-use Prim.Native.Nat.{ℕ, zero, suc, _+_, _-_, _*_, _%_, _<_, _≤_}
+use Prim.Native.Nat.{ℕ, zero, suc, _%_, _<_}
 use native.Mathlib.Omega.{arith}
 use mathlib.Core.Bool.{Bool, true, false, cond, _&&_}
-use mathlib.Core.List.{List, [], _∷_, _++_, append-assoc}
-use lib.ListN.{length, take, drop, getD}
+use mathlib.Core.List.{List, [], _∷_, _++_}
+use lib.ListN.{length, take, drop}
 use lib.Dec.{eqb, leb}
-use borrow.Author.Tests.{eqb-true, eqb-false, eq-eqb, ne-eqb, leb-true}
+use borrow.Author.Tests.{eqb-true, eqb-false, eq-eqb}
 use Rattle.meaning.specs.declared.Attributes.{Attributes}
 use Rattle.meaning.specs.declared.Known.{Known}
 use Rattle.meaning.specs.Bytes.{bit, small}
@@ -17,7 +17,7 @@ use Rattle.laws.specs.Whole.{record-again, nameless-clean}
 use Rattle.laws.specs.Every.{sound}
 use Rattle.runs.specs.Cutting.{framed}
 use Rattle.meaning.specs.Events.{identifierOf}
-use Rattle.compare.specs.Fields.{first, otherFields, Reads, layoutOf, valueOf, one, accepted, fields}
+use Rattle.compare.specs.Fields.{otherFields, Reads, layoutOf, valueOf, one, accepted, fields}
 use Rattle.compare.specs.Compared.{sameBytes, same, alike, agree}
 use Rattle.compare.specs.Promise.{Sound, Whole, Same, decoded, refused, First}
 use Rattle.compare.specs.Numbered.{same-top, same-rest}

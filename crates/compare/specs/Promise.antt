@@ -1,18 +1,15 @@
 -- What M-108 promises: "Each pair before the reported place is equal under demand 2, and the named field differs."
 -- Assumes nothing: these are definitions.
 use mathlib.Core.Path.{_≡_}
-use Prim.Native.Nat.{ℕ, _+_, _<_, _≤_}
+use Prim.Native.Nat.{ℕ, _<_, _≤_}
 use mathlib.Core.Bool.{true}
 use mathlib.Core.List.{List, []}
-use mathlib.Core.Logic.{_⊎_}
 use lib.ListN.{length, take, getD}
 use Rattle.meaning.specs.Bytes.{bit, small}
 use Rattle.meaning.specs.Items.{Con, con}
 use Rattle.meaning.specs.Records.{judge}
 use Rattle.meaning.specs.Events.{identifierOf}
-use Rattle.runs.specs.Cutting.{Cut, Cuts}
-use Rattle.runs.specs.Cutting.{framed}
-use Rattle.runs.specs.Cutting.{recordOf}
+use Rattle.runs.specs.Cutting.{Cuts, framed, recordOf}
 use Rattle.compare.specs.declared.Compared.{Compared}
 use Rattle.compare.specs.Fields.{Reads, fields, layoutOf, valueOf}
 use Rattle.compare.specs.Compared.{allAlike, differs, endsFirst, stops}

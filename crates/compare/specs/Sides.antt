@@ -1,6 +1,6 @@
 -- A side of a comparison: its records are whole, it is cut to its true end, and what its scratch then holds. Assumes nothing.
-use mathlib.Core.Path.{_≡_, refl, sym, ap, ap₂, _∙_, subst}
-use Prim.Native.Nat.{ℕ, zero, suc, _+_, _-_, _%_, _^_, _<_, _≤_}
+use mathlib.Core.Path.{_≡_, refl, ap, _∙_}
+use Prim.Native.Nat.{ℕ, zero, suc, _+_, _^_, _<_, _≤_}
 use native.Mathlib.Nat.{mod-lt}
 use native.Mathlib.Omega.{arith}
 use mathlib.Core.Bool.{Bool, true, false}
@@ -9,9 +9,9 @@ use lib.ListN.{length, take, drop}
 use Rattle.meaning.specs.declared.Frame.{Frame}
 use Rattle.meaning.specs.Bytes.{small}
 use Rattle.meaning.specs.Ring.{Asked, distance, recordAt, stopAt, frame}
-use Rattle.laws.specs.Bytes.{apart, small-append, small-take, small-drop}
+use Rattle.laws.specs.Bytes.{small-append, small-take, small-drop}
 use Rattle.laws.specs.Rings.{frame-stop, distance-step, scratch-length}
-use Rattle.runs.specs.Cutting.{Cut, Spot, Cuts, begin, add, spotFrame, cutAt, spotAfter, halt, cutBy, All}
+use Rattle.runs.specs.Cutting.{Cut, Spot, Cuts, begin, add, cutAt, spotAfter, halt, cutBy, All}
 use Rattle.runs.specs.Forward.{frame-going, going-framed}
 use Rattle.runs.specs.Runs.{cut-go, cut-stop}
 use Rattle.compare.specs.declared.Compared.{Compared}

@@ -6,7 +6,7 @@ use mathlib.Core.List.{List, [], _∷_, _++_}
 use lib.ListN.{getD, take, drop}
 use Rattle.meaning.specs.declared.Attributes.{Attributes}
 use Rattle.meaning.specs.declared.Item.{Item}
-use Rattle.meaning.specs.declared.Shape.the-variants.{Number, Ignored, Count, Size, Times, Earlier, Registers, Filled, Abi, Limit, Listed, Bytes, Pad, Name}
+use Rattle.meaning.specs.declared.Shape.the-variants.{Number, Ignored, Count, Size, Times, Registers, Filled, Abi}
 use Rattle.meaning.specs.declared.Width.{Width}
 use Rattle.meaning.specs.Bytes.{bit}
 use Rattle.meaning.specs.Schema.{sample, sampleLists, sampleLast, readValues, mmap2, schema, schemas, trailer}
@@ -104,10 +104,40 @@ untell is h = h
 -- by type, from 0 on
 each : (misc : ℕ) (a : Attributes) → Each (schemas misc a)
 unfolding tells may owes
-each misc a =
-    (none, (tell _ refl, (tell _ refl, (tell _ refl, (tell _ refl, (tell _ refl, (tell _ refl, (tell _ refl,
-    (number _ _ _ _ (number _ _ _ _ (read-tells a true [] none)), (number _ _ _ _ (sample-others a), (mmap2-tells (bit misc 14),
-    (tell _ refl, (tell _ refl, (tell _ refl, (none, (tell _ refl, (tell _ refl, (tell _ refl, (tell _ refl, (tell _ refl, (tell _ refl, (tell _ refl, tt))))))))))))))))))))))
+each misc a = (
+  none,
+  (
+    tell _ refl,
+    (
+      tell _ refl,
+      (
+        tell _ refl,
+        (
+          tell _ refl,
+          (
+            tell _ refl,
+            (
+              tell _ refl,
+              (
+                tell _ refl,
+                (
+                  number _ _ _ _ (number _ _ _ _ (read-tells a true [] none)),
+                  (
+                    number _ _ _ _ (sample-others a),
+                    (
+                      mmap2-tells (bit misc 14),
+                      (tell _ refl, (tell _ refl, (tell _ refl, (none, (tell _ refl, (tell _ refl, (tell _ refl, (tell _ refl, (tell _ refl, (tell _ refl, (tell _ refl, tt))))))))))),
+                    ),
+                  ),
+                ),
+              ),
+            ),
+          ),
+        ),
+      ),
+    ),
+  ),
+)
 
 pub schema-tells : (kind misc : ℕ) (a : Attributes) → tells paid (schema kind misc a) ≡ true
 schema-tells kind misc a = untell _ (one-of (schemas misc a) kind (each misc a))

@@ -1,6 +1,6 @@
 -- The loop over records, as laws about plain values: where it stands, one turn of it, and each of its ends. Assumes nothing.
-use mathlib.Core.Path.{_≡_, refl, sym, ap, ap₂, _∙_, subst}
-use Prim.Native.Nat.{ℕ, zero, suc, _+_, _-_, _%_, _^_, _<_, _≤_}
+use mathlib.Core.Path.{_≡_, refl, sym, ap, ap₂, _∙_}
+use Prim.Native.Nat.{ℕ, zero, suc, _+_, _^_, _<_, _≤_}
 use native.Mathlib.Nat.{mod-lt, add-zero}
 use native.Mathlib.Numerals.{add-one}
 use native.Mathlib.Omega.{arith}
@@ -10,14 +10,14 @@ use lib.ListN.{length}
 use lib.Dec.{eqb}
 use borrow.Author.Tests.{ne-eqb, eq-eqb, eqb-true, eqb-false}
 use Rattle.meaning.specs.declared.Frame.{Frame}
-use Rattle.meaning.specs.Ring.{distance, recordAt, scratchAfter, stopAt}
+use Rattle.meaning.specs.Ring.{distance, recordAt}
 use Rattle.laws.specs.Bytes.{apart}
 use Rattle.laws.specs.Rings.{distance-step}
-use Rattle.runs.specs.Cutting.{Cut, Spot, Cuts, begin, add, spotFrame, cutAt, spotAfter, halt, cutBy}
+use Rattle.runs.specs.Cutting.{Cut, Spot, Cuts, begin, cutAt, spotAfter, halt, cutBy}
 use Rattle.runs.specs.Runs.{cut-go, cut-stop}
 use Rattle.compare.specs.declared.Compared.{Compared}
 use Rattle.compare.specs.Fields.{Reads, fields}
-use Rattle.compare.specs.Compared.{alike, agree, allAlike, differs, endsFirst, stops, meet, Side, cutting, cuttingAll, compared, pairs, scratchThen}
+use Rattle.compare.specs.Compared.{alike, agree, allAlike, differs, endsFirst, stops, meet, Side, cutting, compared, pairs, scratchThen}
 use Rattle.compare.specs.Sides.{Framed}
 
 -- the next frame of a side, and the place after its record

@@ -1,12 +1,11 @@
 -- The fields of an accepted record give back its value, with anything after them. Assumes nothing.
-use mathlib.Core.Path.{_≡_, refl, sym, ap, ap₂, _∙_, subst}
-use Prim.Native.Nat.{ℕ, zero, suc, _+_, _-_, _*_, _^_, _<_, _≤_}
-use native.Mathlib.Omega.{arith}
+use mathlib.Core.Path.{_≡_, refl, sym, ap, ap₂, _∙_}
+use Prim.Native.Nat.{ℕ, zero, suc, _+_, _*_, _^_}
 use mathlib.Core.Bool.{Bool, true, false, cond, _&&_}
 use mathlib.Core.List.{List, [], _∷_, _++_, append-assoc}
 use lib.ListN.{length, take, drop, take-append-drop}
 use lib.Dec.{eqb, ltb}
-use borrow.Author.Tests.{eqb-true, eq-eqb}
+use borrow.Author.Tests.{eqb-true}
 use Rattle.meaning.specs.declared.Attributes.{Attributes}
 use Rattle.meaning.specs.declared.Cursor.{Cursor}
 use Rattle.meaning.specs.declared.Item.{Item}
@@ -14,7 +13,7 @@ use Rattle.meaning.specs.declared.Known.{Known}
 use Rattle.meaning.specs.declared.Shape.{Shape}
 use Rattle.meaning.specs.declared.Shape.the-variants.{Number, Ignored, Count, Size, Times, Earlier, Registers, Filled, Abi, Limit, Listed, Bytes, Pad, Name}
 use Rattle.meaning.specs.declared.Width.the-variants.{W8}
-use Rattle.meaning.specs.Bytes.{bit, spell, small}
+use Rattle.meaning.specs.Bytes.{bit, spell}
 use Rattle.meaning.specs.Items.{Con, con, counted, before, past}
 use Rattle.meaning.specs.Writing.{emit, blank, fitShape, next, fit, named}
 use Rattle.meaning.specs.Schema.{sample, schema, trailer}
@@ -22,7 +21,7 @@ use Rattle.meaning.specs.Records.{Layout, Value, layout, fixedShape, fixed, ori
 use Rattle.laws.specs.Bytes.{apart, and-true, true-and}
 use Rattle.laws.specs.There.{item}
 use Rattle.compare.specs.Fields.{numbered, first, one, bodyFields, tailFields, flagField, otherFields}
-use Rattle.compare.specs.Numbered.{paid, tells, Back, numbered-back, level-start, same-top, same-rest}
+use Rattle.compare.specs.Numbered.{paid, numbered-back, level-start, same-top, same-rest}
 use Rattle.compare.specs.Told.{schema-tells, sample-tells, trailer-tells}
 
 -- ---- what fits

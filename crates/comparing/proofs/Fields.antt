@@ -1,9 +1,8 @@
 -- The loop over the fields of a pair, as laws about plain values: its start, one row, the step to the trailer, the flag. Assumes nothing.
 use mathlib.Core.Path.{_≡_, refl, sym, ap, ap₂, _∙_, subst}
 use mathlib.Core.Bool.{Bool, true, false, cond, _&&_}
-use mathlib.Core.List.{List, [], _∷_, _++_, map, append-assoc}
+use mathlib.Core.List.{List, [], _∷_, _++_, map}
 use Prim.Native.Nat.{ℕ, _+_, _-_, _*_, _%_, _<_, _≤_}
-use native.Mathlib.Nat.{zero-add}
 use native.Mathlib.Omega.{arith}
 use lib.ListN.{length, take, drop, getD}
 use lib.Seq.{slice, length-take-le, take-all}
@@ -12,12 +11,11 @@ use Rattle.meaning.specs.declared.Attributes.{Attributes}
 use Rattle.meaning.specs.declared.Cursor.{Cursor}
 use Rattle.meaning.specs.declared.Item.{Item}
 use Rattle.meaning.specs.declared.Known.{Known}
-use Rattle.meaning.specs.Bytes.{small, bit}
-use Rattle.meaning.specs.Refusals.{orElse}
-use Rattle.meaning.specs.Items.{Con, step, walk, content}
+use Rattle.meaning.specs.Bytes.{small}
+use Rattle.meaning.specs.Items.{Con, step, content}
 use Rattle.meaning.specs.Writing.{named, dirty}
 use Rattle.meaning.specs.Schema.{schema, trailer}
-use Rattle.meaning.specs.Records.{layout, room, kindOf, miscOf, origin, fieldsOf, fieldsAnswer, flagBy, value}
+use Rattle.meaning.specs.Records.{layout, room, kindOf, miscOf, origin, fieldsOf, flagBy, value}
 use Rattle.laws.specs.Bytes.{apart, small-take}
 use Rattle.laws.specs.Answers.{fields-zero}
 use Rattle.laws.specs.Every.{trailer-eights}
@@ -27,7 +25,7 @@ use Rattle.table.specs.Flags.{flagAt, flag-none, flag-some}
 use Rattle.record.specs.Into.{Accepted, recordFlag, orDirty}
 use Rattle.compare.specs.Fields.{first, one, otherFields}
 use Rattle.compare.specs.Compared.{same, sameBytes, alike, agree}
-use Rattle.compare.specs.Inner.{met, fieldsAt, Steady, Item-fine, step-fine, turn-other, turn-same, turn-on}
+use Rattle.compare.specs.Inner.{met, fieldsAt, Steady, step-fine, turn-other, turn-same, turn-on}
 use Rattle.compare.specs.Others.{others-met, body-steady, tail-steady}
 use Rattle.extents.specs.declared.Both.{Both}
 use Rattle.extents.specs.Extent.{Passed}
@@ -203,7 +201,7 @@ module _ (xs ys : List ℕ) where
                 few = let w = r .few in by (b .told) w;
                 end-is = r .end-is;
                 steady = subst (λ (w : ℕ). Steady s t is w (b .x) (b .c) (b .d)) (sym (q .w-is)) (subst (λ (x : ℕ). Steady s t is (content s i (p .c) .num) x (b .c) (b .d)) (sym (q .x-is))
-                (subst (λ (c : Cursor). Steady s t is (content s i (p .c) .num) (content t i (p .d) .num) c (b .d)) (sym (q .c-is)) (subst (λ (c : Cursor). Steady s t is (content s i (p .c) .num) (content t i (p .d) .num) (step s i (p .c)) c) (sym (q .d-is)) m)));
+                    (subst (λ (c : Cursor). Steady s t is (content s i (p .c) .num) (content t i (p .d) .num) c (b .d)) (sym (q .c-is)) (subst (λ (c : Cursor). Steady s t is (content s i (p .c) .num) (content t i (p .d) .num) (step s i (p .c)) c) (sym (q .d-is)) m)));
               };
               shut = λ v. absurd (apart (sym v));
             }

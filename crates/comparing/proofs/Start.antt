@@ -1,8 +1,8 @@
 -- A pair of records before the loop over its fields: what their bytes say of the first five. Assumes nothing.
-use mathlib.Core.Path.{_≡_, refl, sym, ap, ap₂, _∙_, subst}
+use mathlib.Core.Path.{_≡_, refl, sym, ap, ap₂, _∙_}
 use mathlib.Core.Bool.{Bool, true, false, cond, _&&_}
-use mathlib.Core.List.{List, [], _∷_, map}
-use Prim.Native.Nat.{ℕ, suc, _+_, _%_, _<_, _≤_}
+use mathlib.Core.List.{List, [], map}
+use Prim.Native.Nat.{ℕ, _+_, _%_, _<_, _≤_}
 use native.Mathlib.Omega.{arith}
 use lib.ListN.{length, take, drop}
 use lib.Seq.{slice, take-all}
@@ -16,18 +16,18 @@ use Rattle.meaning.specs.Bytes.{numberAt, bit}
 use Rattle.meaning.specs.Items.{Con}
 use Rattle.meaning.specs.Schema.{schema, trailer}
 use Rattle.meaning.specs.Editions.{isIn, unreadable}
-use Rattle.meaning.specs.Records.{layout, room, kindOf, miscOf, sizeOf, fieldsAnswer, judge, value, origin}
-use Rattle.meaning.specs.Events.{attributesOf, identifiers, eventAt, indexOf, indexFor, identifierOf, allMarked, hasEvent, layoutFor, unmatched, judgeEvents}
-use Rattle.laws.specs.Bytes.{apart, and-true}
+use Rattle.meaning.specs.Records.{layout, room, kindOf, miscOf, sizeOf, fieldsAnswer, judge, value}
+use Rattle.meaning.specs.Events.{attributesOf, identifiers, eventAt, indexOf, identifierOf, allMarked, hasEvent, judgeEvents}
+use Rattle.laws.specs.Bytes.{and-true}
 use Rattle.laws.specs.Answers.{or-zero, fields-zero}
-use Rattle.laws.specs.Matched.{Carried, carried}
+use Rattle.laws.specs.Matched.{carried}
 use Rattle.runs.specs.Cutting.{framed}
 use Rattle.table.specs.declared.Part.{Part}
-use Rattle.table.specs.Rows.{rows, fieldRows, allRows, itemOf}
+use Rattle.table.specs.Rows.{rows, itemOf}
 use Rattle.table.specs.Same.{Holds}
 use Rattle.table.specs.Turns.{rows-next, rows-over}
 use Rattle.events.specs.Match.{matched-has}
-use Rattle.compare.specs.Fields.{first, otherFields, Reads, layoutOf, valueOf, fields}
+use Rattle.compare.specs.Fields.{first, otherFields, Reads, fields}
 use Rattle.compare.specs.Compared.{sameBytes, alike, agree, eventReads}
 use Rattle.compare.specs.Pairs.{same-bytes}
 use Rattle.compare.specs.Others.{five}

@@ -1,10 +1,9 @@
 -- Two rings compared "under one edition and one table": what is told is true, and a call that is refused is the left side's stop. Assumes nothing.
-use mathlib.Core.Path.{_≡_, refl, sym, ap, ap₂, _∙_, subst}
-use Prim.Native.Nat.{ℕ, _≤_}
+use mathlib.Core.Path.{_≡_, sym, ap, _∙_}
+use Prim.Native.Nat.{ℕ}
 use mathlib.Core.Bool.{Bool, true, false, not}
 use mathlib.Core.List.{List, [], _∷_}
 use lib.ListN.{length}
-use lib.Dec.{eqb}
 use borrow.Author.Tests.{ne-eqb}
 use Rattle.meaning.specs.declared.Event.{Event}
 use Rattle.meaning.specs.declared.Frame.{Frame}
@@ -18,12 +17,12 @@ use Rattle.laws.specs.Bytes.{apart}
 use Rattle.laws.specs.Answers.{or-zero}
 use Rattle.laws.specs.Rings.{frame-stop, frame-reason}
 use Rattle.laws.specs.Matched.{carried, judge-matched, sound-marked, frame-refused}
-use Rattle.runs.specs.Cutting.{Cut, Cuts, halt, begin, cutBy, All}
+use Rattle.runs.specs.Cutting.{Cut, Cuts, halt, begin, All}
 use Rattle.runs.specs.Runs.{cut-stop}
 use Rattle.events.specs.Match.{matched-has}
 use Rattle.compare.specs.declared.Compared.{Compared}
 use Rattle.compare.specs.Fields.{Reads}
-use Rattle.compare.specs.Compared.{Side, eventReads, sideOf, stops, cuttingAll, compared, meet, scratchThen}
+use Rattle.compare.specs.Compared.{Side, eventReads, sideOf, stops, cuttingAll, compared, meet}
 use Rattle.compare.specs.Promise.{Sound, Told}
 use Rattle.compare.specs.Sides.{framed-side, compared-told, compared-only}
 use Rattle.compare.specs.Facts.{meet-editions}

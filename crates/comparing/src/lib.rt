@@ -140,7 +140,12 @@ fn begin(x: &[u8], y: &[u8], e: u64, rows: &[[u64; 7]]) -> Pos
     if id != events::identifier_of(y, kind) {
         return settled(4, false);
     }
-    others(x, kind, misc, events::attributes_at(rows, events::find(rows, id)))
+    others(
+        x,
+        kind,
+        misc,
+        events::attributes_at(rows, events::find(rows, id)),
+    )
 }
 
 // One row further.
@@ -195,7 +200,10 @@ fn flag(x: &[u8], y: &[u8], p: Pos) -> Pos
     if table::flag_at(p.kind) == 0 {
         return settled(p.k, true);
     }
-    settled(p.k, record::or_dirty(0, x, p.a) == record::or_dirty(0, y, p.a))
+    settled(
+        p.k,
+        record::or_dirty(0, x, p.a) == record::or_dirty(0, y, p.a),
+    )
 }
 
 // From the body's rows to the trailer's, whose eighth is the identifier.

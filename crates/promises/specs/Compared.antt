@@ -1,11 +1,11 @@
 -- M-108, "Compare two saved rings", in its own words. `compared` is what `ollskuvan_compare` is proved equal to; `Told` says that every pair before the
 -- reported place is equal under demand 2, and that what is reported is so. Assumes nothing.
-use mathlib.Core.Path.{_≡_, sym, ap, _∙_}
-use mathlib.Core.Bool.{Bool, true, false}
+use mathlib.Core.Path.{_≡_, sym}
+use mathlib.Core.Bool.{true, false}
 use mathlib.Core.List.{List, map}
 use mathlib.Core.Logic.{_⊎_}
 use Prim.Native.Nat.{ℕ, _^_, _<_, _≤_}
-use lib.ListN.{length, take}
+use lib.ListN.{length}
 use Rattle.meaning.specs.declared.Attributes.{Attributes}
 use Rattle.meaning.specs.declared.Event.{Event}
 use Rattle.meaning.specs.declared.Known.{Known}
@@ -14,20 +14,20 @@ use Rattle.meaning.specs.Editions.{editions, known, allowed, outside}
 use Rattle.meaning.specs.Records.{layout, checkBy, flagOf, value, cleanedRecord}
 use Rattle.meaning.specs.Ring.{frame, stopAt}
 use Rattle.meaning.specs.Events.{sound, askedEvents, judgeEvents, eventDepends}
-use Rattle.runs.specs.Cutting.{Cut, Cuts, All, recordOf}
+use Rattle.runs.specs.Cutting.{Cut, All}
 use Rattle.runs.specs.Entries.{all-map}
 use Rattle.editions.specs.Fairness.{rising}
 use Rattle.editions.specs.EventPromise.{EventWords}
 use Rattle.editions.specs.EventRecord.{event-fair}
 use Rattle.compare.specs.declared.Compared.{Compared}
 use Rattle.compare.specs.Fields.{Reads, fields}
-use Rattle.compare.specs.Compared.{alike, agree, allAlike, stops, cutting, cuttingAll, compared, scratchThen, eventReads, Side}
+use Rattle.compare.specs.Compared.{alike, agree, allAlike, stops, cuttingAll, compared, scratchThen, eventReads, Side}
 use Rattle.compare.specs.Promise.{Sound, Whole, Same, First, Told}
-use Rattle.compare.specs.Pairs.{alike-exactly, named-differs, first-only}
-use Rattle.compare.specs.Sides.{framed-side, side-first, side-ends, scratch-long}
+use Rattle.compare.specs.Pairs.{alike-exactly, named-differs}
+use Rattle.compare.specs.Sides.{framed-side, side-ends, scratch-long}
 use Rattle.compare.specs.Facts.{AllEqual, equal-told, told-equal, places-alike, ignored-alike, turned, meet-turned}
 use Rattle.compare.specs.Examples as examples
-use Rattle.comparing.specs.Table.{event-sound, leftSide, rightSide, table-told, table-only, table-refused, editions-alike}
+use Rattle.comparing.specs.Table.{leftSide, rightSide, table-told, table-only, table-refused, editions-alike}
 
 -- ---- two records, under a table whose events select the identifier
 

@@ -1,12 +1,11 @@
 -- `comparing::begin` meets its contract: equal bytes have no field that differs; else the first of the five that differs is named, or, where none does, the
 -- others are to come.
-use mathlib.Core.Path.{_≡_, refl, sym, ap, ap₂, _∙_, subst}
-use Prim.Native.Nat.{ℕ, _+_, _<_, _≤_}
+use mathlib.Core.Path.{_≡_, sym, ap, _∙_, subst}
+use Prim.Native.Nat.{ℕ, _≤_}
 use native.Mathlib.Omega.{arith}
 use lib.ListN.{length}
 use denote.Ref.{now}
 use borrow.Author.Needs.{needs}
-use Rattle.meaning.specs.declared.Attributes.{Attributes}
 use Rattle.meaning.specs.Editions.{editions, known}
 use Rattle.meaning.specs.Records.{kindOf, miscOf, sizeOf, room}
 use Rattle.meaning.specs.Schema.{trailer}

@@ -1,9 +1,9 @@
 -- `comparing::compare_rings` meets its contract: after n turns n pairs are equal, and what is still to come is the whole; the loop over fields says of a
 -- pair what its fields say.
-use mathlib.Core.Path.{_≡_, refl, sym, ap, ap₂, _∙_, subst}
+use mathlib.Core.Path.{_≡_, sym, ap, ap₂, _∙_}
 use mathlib.Core.List.{List}
-use mathlib.Core.Bool.{Bool, true, false, _&&_}
-use Prim.Native.Nat.{ℕ, suc, _-_, _<_, _≤_}
+use mathlib.Core.Bool.{Bool, true, _&&_}
+use Prim.Native.Nat.{ℕ, _-_}
 use native.Mathlib.Nat.{le-of-lt, le-trans}
 use native.Mathlib.Numerals.{add-one}
 use native.Mathlib.Omega.{arith}
@@ -11,10 +11,9 @@ use lib.ListN.{length}
 use denote.Ref.{now}
 use borrow.Author.Needs.{needs}
 use borrow.Author.Tests.{not-true, not-false}
-use Rattle.meaning.specs.Bytes.{small}
 use Rattle.meaning.specs.declared.Frame.{Frame}
 use Rattle.meaning.specs.Editions.{editions, known, allowed}
-use Rattle.meaning.specs.Ring.{askingWith, frame, recordAt, scratchAfter, shown}
+use Rattle.meaning.specs.Ring.{askingWith, frame, recordAt, shown}
 use Rattle.meaning.specs.Events.{eventsOf, askedEvents}
 use Rattle.laws.specs.Bytes.{and-true}
 use Rattle.laws.specs.Matched.{sound-marked, going-sound}
@@ -23,9 +22,9 @@ use Rattle.runs.specs.Cutting.{framed}
 use Rattle.runs.specs.Forward.{going-framed}
 use Rattle.compare.specs.Fields.{Reads, fields}
 use Rattle.compare.specs.Compared.{alike, agree, eventReads}
-use Rattle.compare.specs.Here.{Here, Ensured, PairOf, here-start, here-ends, here-pair, here-same, ensured-same}
+use Rattle.compare.specs.Here.{Here, PairOf, here-start, here-ends, here-pair, here-same, ensured-same}
 use Rattle.comparing.specs.Inner.{Stands, toGo}
-use Rattle.comparing.proofs.Laws.{small-of}
+use Rattle.compare.specs.Slices.{small-of}
 use Rattle.comparing.proofs.Fields.{stands-on, stands-ended, stands-other}
 use Rattle.comparing.proofs.compare_rings.Statement.{statement}
 use Rattle.comparing.proofs.compare_rings.Tie as tie

@@ -1,8 +1,6 @@
-use mathlib.Core.Path.{_≡_, refl, sym, ap, _∙_}
-use mathlib.Core.Bool.{Bool, true, false, cond}
-use lib.Dec.{eqb}
+-- `comparing::ended` meets its contract: by cases of both frames, left first.
+use mathlib.Core.Path.{_∙_}
 use borrow.Author.Needs.{needs}
-use borrow.Author.Tests.{eq-eqb, ne-eqb, eqb-true, eqb-false, not-true, not-false}
 use Rattle.comparing.proofs.Laws.{right-ended, right-stopped, left-stopped, left-ended, both-ended, other-stopped}
 use Rattle.comparing.proofs.ended.Statement.{statement}
 use Rattle.comparing.proofs.ended.Tie as tie

@@ -1,12 +1,11 @@
 -- `comparing::flag` meets its contract: a type without a name has no field more; else the flags are the last, and record check's 44 tells them.
-use mathlib.Core.Path.{_≡_, refl, sym, ap, ap₂, _∙_, subst}
+use mathlib.Core.Path.{_≡_, sym, ap₂, _∙_}
 use Prim.Native.Nat.{ℕ}
 use lib.Dec.{eqb}
 use Rattle.table.specs.Flags.{flagAt}
 use denote.Ref.{now}
 use borrow.Author.Needs.{needs}
 use Rattle.laws.specs.Bytes.{apart}
-use Rattle.comparing.specs.Inner.{isAlike, isField}
 use Rattle.comparing.proofs.Fields.{settled-stands, settled-less, pair-accepted, flag-nameless, flag-test, flag-number}
 use Rattle.comparing.proofs.flag.Statement.{statement}
 use Rattle.comparing.proofs.flag.Tie as tie

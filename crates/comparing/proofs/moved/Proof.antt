@@ -1,9 +1,8 @@
 -- `comparing::moved` meets its contract: field by field, with the number one higher where the row has a field.
-use mathlib.Core.Path.{_≡_, refl, sym, ap, _∙_}
+use mathlib.Core.Path.{_≡_, sym, ap, _∙_}
 use mathlib.Core.Bool.{Bool, cond}
 use mathlib.Core.Logic.{⊎-elim}
-use Prim.Native.Nat.{ℕ, _+_}
-use native.Mathlib.Omega.{arith}
+use Prim.Native.Nat.{_+_}
 use borrow.Author.Needs.{needs}
 use Rattle.comparing.specs.Inner.{moved}
 use Rattle.comparing.proofs.moved.Statement.{statement}

@@ -1,7 +1,6 @@
 -- `comparing::next` meets its contract: a row, then the trailer's rows, then the flag; each leaves what is found as it was, and fewer turns to go.
-use mathlib.Core.Path.{_≡_, refl, sym, ap, _∙_, subst}
-use Prim.Native.Nat.{ℕ, _<_}
-use native.Mathlib.Omega.{arith}
+use mathlib.Core.Path.{_≡_, sym, subst}
+use Prim.Native.Nat.{_<_}
 use denote.Ref.{now}
 use borrow.Author.Needs.{needs}
 use Rattle.comparing.specs.declared.Pos.{Pos}

@@ -1,18 +1,17 @@
 -- `comparing::others` meets its contract: the rows are those of the type, and a SAMPLE's first is passed over.
-use mathlib.Core.Path.{_≡_, refl, sym, ap, ap₂, _∙_, subst}
+use mathlib.Core.Path.{_≡_, ap, _∙_}
 use mathlib.Core.Logic.{⊎-elim}
-use mathlib.Core.List.{List, map}
+use mathlib.Core.List.{map}
 use Prim.Native.Nat.{ℕ, _+_, _-_, _*_, _≤_}
 use native.Mathlib.Omega.{arith}
-use lib.ListN.{length, drop}
+use lib.ListN.{length}
 use lib.Seq.{slice}
 use denote.Ref.{now}
 use borrow.Author.Needs.{needs}
-use Rattle.meaning.specs.Records.{origin, room}
-use Rattle.meaning.specs.Schema.{schema, trailer}
-use Rattle.table.specs.Rows.{rows, allRows, fieldRows, itemOf}
+use Rattle.meaning.specs.Records.{origin}
+use Rattle.table.specs.Rows.{rows, itemOf}
 use Rattle.compare.specs.Fields.{first}
-use Rattle.comparing.specs.Inner.{begunAt, Begun}
+use Rattle.comparing.specs.Inner.{begunAt}
 use Rattle.comparing.proofs.Start.{first-at, first-none, first-one, rows-begun}
 use Rattle.comparing.proofs.others.Statement.{statement}
 use Rattle.comparing.proofs.others.Tie as tie

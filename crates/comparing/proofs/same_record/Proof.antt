@@ -1,8 +1,7 @@
 -- `comparing::same_record` meets its contract: unlike lengths are unlike bytes; else all bytes of both are compared.
-use mathlib.Core.Path.{_≡_, _∙_}
+use mathlib.Core.Path.{_∙_}
 use denote.Ref.{now}
 use borrow.Author.Needs.{needs}
-use native.Mathlib.Omega.{arith}
 use Rattle.comparing.proofs.Start.{other-length, whole-bytes}
 use Rattle.comparing.proofs.same_record.Statement.{statement}
 use Rattle.comparing.proofs.same_record.Tie as tie

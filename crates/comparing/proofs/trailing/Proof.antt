@@ -1,8 +1,5 @@
 -- `comparing::trailing` meets its contract: field by field; both walks start where the body's fields end.
-use mathlib.Core.Path.{_≡_, refl, sym, ap, _∙_}
 use denote.Ref.{now}
-use Prim.Native.Nat.{ℕ}
-use lib.ListN.{length}
 use borrow.Author.Needs.{needs}
 use Rattle.meaning.specs.Records.{origin}
 use Rattle.comparing.specs.Inner.{trailing}

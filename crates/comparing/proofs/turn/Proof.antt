@@ -1,14 +1,13 @@
 -- `comparing::turn` meets its contract: both walks pass the row's item; equal fields lead on, and others are the first that differ.
-use mathlib.Core.Path.{_≡_, refl, sym, ap, _∙_, subst}
-use Prim.Native.Nat.{ℕ, _<_}
+use mathlib.Core.Path.{_≡_, sym, subst}
+use Prim.Native.Nat.{_<_}
 use native.Mathlib.Omega.{arith}
 use lib.Seq.{length-take-le}
 use denote.Ref.{now}
 use borrow.Author.Needs.{needs}
-use Rattle.extents.specs.declared.Both.{Both}
 use Rattle.comparing.specs.declared.Pos.{Pos}
 use Rattle.comparing.specs.Inner.{isAlike, isField, toGo, moved, Stands}
-use Rattle.comparing.proofs.Laws.{small-of}
+use Rattle.compare.specs.Slices.{small-of}
 use Rattle.comparing.proofs.Fields.{differs-stands, settled-less, end-in, row-needs, row-other, row-same, row-less}
 use Rattle.comparing.proofs.turn.Statement.{statement}
 use Rattle.comparing.proofs.turn.Tie as tie

@@ -1,5 +1,5 @@
 -- `extents::of_shape` meets its contract: by shape, the number or the bytes that the definition's field holds are those at the extent's place.
-use mathlib.Core.Path.{_≡_, refl, sym, ap, _∙_, subst}
+use mathlib.Core.Path.{refl, sym, ap, _∙_, subst}
 use Prim.Native.Nat.{ℕ, _-_}
 use native.Mathlib.Omega.{arith}
 use lib.ListN.{length, drop}

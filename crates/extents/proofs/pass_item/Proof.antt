@@ -1,5 +1,5 @@
 -- `extents::pass_item` meets its contract: an item that is not selected leaves all as it is; else both steps, both extents, and their comparison.
-use mathlib.Core.Path.{_≡_, refl, sym, ap, _∙_}
+use mathlib.Core.Path.{refl, sym, ap, _∙_}
 use denote.Ref.{now}
 use borrow.Author.Tests.{not-true, not-false}
 use Rattle.meaning.specs.declared.Cursor.{Cursor}

@@ -1,6 +1,5 @@
 -- `extents::same_bytes` meets its contract: while the bytes are equal, whether all are is whether those still to come are; one that differs settles it.
-use mathlib.Core.Path.{_≡_, sym}
-use Prim.Native.Nat.{ℕ, _-_}
+use Prim.Native.Nat.{_-_}
 use native.Mathlib.Omega.{arith}
 use denote.Ref.{now}
 use borrow.Author.Needs.{needs}

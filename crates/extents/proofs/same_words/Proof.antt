@@ -1,11 +1,12 @@
 -- `extents::same_words` meets its contract: equal numbers of eight bytes are equal bytes, and what is left to look at is still the whole.
-use mathlib.Core.Path.{_≡_, sym, _∙_}
-use Prim.Native.Nat.{ℕ, _-_}
+use mathlib.Core.Path.{sym, _∙_}
+use Prim.Native.Nat.{_-_}
 use native.Mathlib.Omega.{arith}
 use denote.Ref.{now}
 use borrow.Author.Needs.{needs}
+use Rattle.compare.specs.Slices.{small-of}
 use Rattle.extents.specs.Extent.{Rest}
-use Rattle.extents.proofs.Laws.{rest-start, rest-words, small-of}
+use Rattle.extents.proofs.Laws.{rest-start, rest-words}
 use Rattle.extents.proofs.same_words.Statement.{statement}
 use Rattle.extents.proofs.same_words.Tie as tie
 
