@@ -37,7 +37,7 @@ steps='-Wl,--wrap=write,--wrap=fsync,--wrap=rename,--wrap=fchmod,--wrap=close'
   [ -z "${OLLSKUVAN_EMULATED:-}" ] || sanitizers=
   build damage -O1 $sanitizers tool/tests/damage.c tool/dump.c \
     tool/journal.c tool/show.c words/ollskuvan_words.c $shared
-  build stores-checked -O1 -fsanitize=address,undefined -fno-sanitize-recover=all $steps tool/tests/stores.c \
+  build stores-checked -O1 $sanitizers $steps tool/tests/stores.c \
     examples/settings.c
 }
 
