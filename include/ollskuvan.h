@@ -188,14 +188,11 @@ extern "C" {
 #define OLLSKUVAN_DIRTY_NAME 44u /* check: a byte after the name's zero, within its room, is not zero */
 
 /* Refusals of a store (ollskuvan_read_store), at its first faulty entry, tested
- * there in this order. */
+ * there in this order; and of a trace's entry (ollskuvan_replay), at which the
+ * replay ends with all as it stood before that entry. */
 #define OLLSKUVAN_REFUSED_VERSION 50u /* the store's first entry is whole, and shows a version that this build does not read */
 #define OLLSKUVAN_REFUSED_ENTRY 51u   /* an entry is cut short, shorter than 6, or fits no known kind; or the store ends before kind 3 */
 #define OLLSKUVAN_REFUSED_DEPARTURE 52u /* any other: a kind or an index out of turn; a ring length or an edition that is not allowed */
-
-/* Faults of an entry, at which a replay ends with all as it stood before that entry. */
-#define OLLSKUVAN_REFUSED_ENTRY 51u     /* an entry is cut short, shorter than 6, or fits no known kind */
-#define OLLSKUVAN_REFUSED_DEPARTURE 52u /* any other departure: an entry of a known kind that does not stand there */
 #define OLLSKUVAN_REFUSED_OFFER 53u     /* replay: what is offered has fewer than 8 bytes, or a size that is not allowed or not its length */
 
 /* Salvage alone, after 2 and 11: nothing was written. */

@@ -16,7 +16,7 @@ trap 'rm -rf "$tmp"' EXIT
 # ---- the manual page says what the header says
 numbers() { grep -oE '^#define OLLSKUVAN_(STOP|REFUSED|DIRTY)_[A-Z_]+ [0-9]+u' "$root/include/ollskuvan.h" | grep -E "_($1)_" | sed 's/.* \([0-9]*\)u/\1/' | sort -un; }
 page() { awk -v want="$1" '/^\.SS / { on = index($0, want) } on && /^[0-9]+\t/ { print $1 }' "$here/ollskuvan.3" | sort -un; }
-[ "$(numbers STOP)" = "$(page 'Why a drain stopped')" ] || wrong "the page's stops are not the header's"
+[ "$(numbers STOP)" = "$(page 'Why a drain or a walk stopped')" ] || wrong "the page's stops are not the header's"
 [ "$(numbers 'REFUSED|DIRTY')" = "$(page 'Why a record')" ] || wrong "the page's refusals, and 44, are not the header's"
 for call in $(grep -oE 'ollskuvan_[a-z_]+\(' "$root/include/ollskuvan.h" | tr -d '(' | sort -u); do
   grep -q "$call" "$here/ollskuvan.3" || wrong "the page does not name $call"

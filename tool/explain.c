@@ -82,14 +82,11 @@ static const struct {
     { OLLSKUVAN_REFUSED_VERSION, "This build reads version 1. A newer program wrote the store." },
     { OLLSKUVAN_REFUSED_ENTRY,
         "The store is damaged: a length is below 6, passes the end or is not that of its kind, or the last\n"
-        "    entry, which has the ring's length, is missing." },
+        "    entry, which has the ring's length, is missing. In a trace: the same of an entry; kind 16 offers a\n"
+        "    record, and kind 17, of length 10, drains." },
     { OLLSKUVAN_REFUSED_DEPARTURE,
         "A kind or an index out of turn; a ring length that is no power of two from 64 to 1,048,576; or an\n"
-        "    edition that this build does not know." },
-    { OLLSKUVAN_REFUSED_ENTRY,
-        "An entry has a length that covers itself (4 bytes), a kind (2) and a body. In a trace kind 16 offers a\n"
-        "    record, and kind 17, of length 10, drains." },
-    { OLLSKUVAN_REFUSED_DEPARTURE, "In a trace: an entry of a store of settings. The replay ends before it." },
+        "    edition that this build does not know. In a trace: an entry of a store. The replay ends before it." },
     { OLLSKUVAN_REFUSED_OFFER,
         "It has fewer than 8 bytes, or its size is below 8, no multiple of 8, or not its length. The replay ends\n"
         "    before it." },

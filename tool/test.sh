@@ -452,11 +452,11 @@ offered 0 bytes: drained 0 in 0 records, dropped 0 in 0 records, still in the ri
 END
 # where it ends before its end: the entry and its place, and what stood before it
 trace cut "$switch$drain2$switch"'\012\0\0'
-says 1 'cut: not played to its end: 51 at entry 3, byte 54: an entry is cut short' replay $out/replay/cut
+says 1 'cut: not played to its end: 51 at entry 3, byte 54: an entry that is cut short' replay $out/replay/cut
 grep -qx 'entries 3 head 32 tail 16' $out/printed.txt && grep -qx '100000000e0000000000000000000000' $out/printed.txt &&
   grep -q 'drained 16 in 1 record, .* still in the ring 16$' $out/printed.txt || wrong "replay of a trace that is cut"
 trace store "$switch"'\010\0\0\0\001\0\001\0'
-says 1 'store: not played to its end: 52 at entry 1, byte 22: an entry that does not stand there' replay $out/replay/store
+says 1 'store: not played to its end: 52 at entry 1, byte 22: an entry that may not stand there, or holds what is not allowed' replay $out/replay/store
 trace other '\016\0\0\0\020\0\016\0\0\0\0\0\020\0'
 says 1 'other: not played to its end: 53 at entry 0, byte 0: what is offered is no record' replay $out/replay/other
 refuses 1 "worked: not played: 1, the ring's length is not allowed" replay $out/replay/worked --ring 100

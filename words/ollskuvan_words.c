@@ -48,8 +48,6 @@ const struct ollskuvan_answer ollskuvan_answers[] = {
     { OLLSKUVAN_REFUSED_VERSION, NULL, "a store of a version that is not known" },
     { OLLSKUVAN_REFUSED_ENTRY, NULL, "an entry that is cut short or fits no known kind" },
     { OLLSKUVAN_REFUSED_DEPARTURE, NULL, "an entry that may not stand there, or holds what is not allowed" },
-    { OLLSKUVAN_REFUSED_ENTRY, NULL, "an entry is cut short, too short, or fits no known kind" },
-    { OLLSKUVAN_REFUSED_DEPARTURE, NULL, "an entry that does not stand there" },
     { OLLSKUVAN_REFUSED_OFFER, NULL, "what is offered is no record" },
     { OLLSKUVAN_REFUSED_SALVAGE_ROOM, NULL, "no room for what is kept, or for the list of changes" },
 };

@@ -29,10 +29,10 @@ use meaning::Walked;
 use one::OneTold;
 use readers::Published;
 use readers::Readers;
-use settings::Settings;
-use settings::Stored;
 use replay::Replayed;
 use salvage::Salvaged;
+use settings::Settings;
+use settings::Stored;
 
 fn attributes(
     sample: u64,

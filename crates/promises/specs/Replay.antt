@@ -20,7 +20,7 @@ use Rattle.runs.specs.Streams.{joined}
 use Rattle.runs.specs.Scratches.{distance-self}
 use Rattle.runs.specs.Runs.{run-cut}
 use Rattle.runs.specs.Forward.{Counted, run-counted, frame-roomy}
-use Rattle.promises.specs.Scratch.{liesWhole, all-whole, copied, put-holds}
+use Rattle.promises.specs.Scratch.{liesWhole, drain-all-whole, drain-copied, put-holds}
 use Rattle.replay.specs.declared.Replayed.{Replayed}
 use Rattle.replay.specs.Replay.{Happened, Bench, bench, sum, recordsIn, recordsOut, held, putRound, free, goesIn, goesBy, offer, journalLeft, drainOf, cutsOf, drainsOff, faultAt, Played, played, play, before, replay, half, ofStore, standing, told, roomsOf, replayEvents}
 use Rattle.replay.specs.Drains.{bytesOf}
@@ -217,9 +217,9 @@ module _ (asked : Asked) (judge : List ℕ → ℕ) (b : Bench) where
         × (drop (length (bytes-at i)) (drainsOff asked judge b budget .scratch) ≡ drop (length (bytes-at i)) (b .scratch))
     unfolding drainsOff
     drain-copies i g w =
-        let k = copied asked (b .ring) (b .head) hd budget (begin (b .tail) (length (journalLeft b)) (b .scratch)) tl i g w in
+        let k = drain-copied asked (b .ring) (b .head) hd budget (begin (b .tail) (length (journalLeft b)) (b .scratch)) tl i g w in
         rw (scratch-is ∙ k .0) (put-holds (b .scratch) (bytes-at i) (length (bytes-at i)) refl (k .1))
 
     pub drain-copies-none : All (λ (c : Cut). liesWhole (b .ring) c ≡ true) (cutsOf asked b budget .records) → drainsOff asked judge b budget .scratch ≡ b .scratch
     unfolding drainsOff
-    drain-copies-none w = scratch-is ∙ all-whole asked (b .ring) (b .head) budget (begin (b .tail) (length (journalLeft b)) (b .scratch)) w
+    drain-copies-none w = scratch-is ∙ drain-all-whole asked (b .ring) (b .head) hd budget (begin (b .tail) (length (journalLeft b)) (b .scratch)) w
