@@ -5,7 +5,7 @@ use mathlib.Core.Bool.{true, false}
 use mathlib.Core.List.{List, map}
 use mathlib.Core.Logic.{_⊎_}
 use Prim.Native.Nat.{ℕ, _^_, _<_, _≤_}
-use lib.ListN.{length}
+use lib.ListN.{length, take}
 use Rattle.meaning.specs.declared.Attributes.{Attributes}
 use Rattle.meaning.specs.declared.Event.{Event}
 use Rattle.meaning.specs.declared.Known.{Known}
@@ -21,10 +21,10 @@ use Rattle.editions.specs.EventPromise.{EventWords}
 use Rattle.editions.specs.EventRecord.{event-fair}
 use Rattle.compare.specs.declared.Compared.{Compared}
 use Rattle.compare.specs.Fields.{Reads, fields}
-use Rattle.compare.specs.Compared.{alike, agree, allAlike, stops, cuttingAll, compared, scratchThen, eventReads, Side}
+use Rattle.compare.specs.Compared.{alike, agree, allAlike, stops, cuttingAll, compared, scratchThen, eventReads, Side, cutting}
 use Rattle.compare.specs.Promise.{Sound, Whole, Same, First, Told}
 use Rattle.compare.specs.Pairs.{alike-exactly, named-differs}
-use Rattle.compare.specs.Sides.{framed-side, side-ends, scratch-long}
+use Rattle.compare.specs.Sides.{framed-side, side-ends, scratch-long, side-first}
 use Rattle.compare.specs.Facts.{AllEqual, equal-told, told-equal, places-alike, ignored-alike, turned, meet-turned}
 use Rattle.compare.specs.Examples as examples
 use Rattle.comparing.specs.Table.{leftSide, rightSide, table-told, table-only, table-refused, editions-alike}
@@ -94,6 +94,10 @@ module _ (limit e : ℕ) (es : List Event) (ring₁ ring₂ : List ℕ) (head₁
   pub left-to-its-end : small ring₁ ≡ true → head₁ < 2 ^ 64 → tail₁ < 2 ^ 64
       → frame (askedEvents limit editions e es) ring₁ head₁ (cuttingAll left .last .tail) 1 16 (length (cuttingAll left .last .scratch)) ≡ stopAt (cuttingAll left .stop)
   left-to-its-end s = side-ends left head₁ (framed-side (askedEvents limit editions e es) ring₁ head₁ tail₁ scratch₁ s)
+
+  -- the records that were looked at are the first ones
+  pub left-first-records : small ring₁ ≡ true → (j : ℕ) → j ≤ length ring₁ → cutting left j .records ≡ take j (cuttingAll left .records)
+  left-first-records s = side-first left head₁ (framed-side (askedEvents limit editions e es) ring₁ head₁ tail₁ scratch₁ s)
 
   pub left-scratch-long : small ring₁ ≡ true → length (scratchThen report left) ≡ length scratch₁
   left-scratch-long s = scratch-long left head₁ (framed-side (askedEvents limit editions e es) ring₁ head₁ tail₁ scratch₁ s) report
