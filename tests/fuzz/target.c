@@ -963,9 +963,20 @@ static void try_compare(void)
     compare(&left, in.tail, &right, in.tail + shift, scratch_len);
     if (distance == 0 || distance > left.length)
         return;
-    other[(in.tail + shift + (in.control[5] | (uint64_t)in.control[7] << 8) % distance) % left.length] ^= in.control[6] | 1;
-    compare(&left, in.tail, &right, in.tail + shift, scratch_len);
-    compare(&right, in.tail + shift, &left, in.tail, scratch_len);
+    {
+        /* where the input says; in the first header; in a body; at the last record's end: identifier, and what is before */
+        const uint64_t places[] = { in.control[5] | (uint64_t)in.control[7] << 8, 4, 6, 17, distance / 2, distance - 1,
+            distance - 8, distance - 9, distance - 12, distance - 17, distance - 25 };
+
+        for (i = 0; i < sizeof places / sizeof places[0]; i++) {
+            uint8_t *byte = &other[(in.tail + shift + places[i] % distance) % left.length];
+
+            *byte ^= in.control[6] | 1;
+            compare(&left, in.tail, &right, in.tail + shift, scratch_len);
+            compare(&right, in.tail + shift, &left, in.tail, scratch_len);
+            *byte ^= in.control[6] | 1;
+        }
+    }
 }
 
 static void try_events(void)
