@@ -1056,7 +1056,7 @@ struct ollskuvan_compared {
  * where its entries stand. Registers are present where the abi before them, a
  * field of its own, is not 0; a filled length where the stack's size is not 0. The
  * identifier is not told again in SAMPLE or trailer. So MMAP2's prot is 14, or 11
- * with a build id.
+ * with a build id: ollskuvan_field_name gives the name of a number.
  *
  * Both rings are only read. A scratch gets the records of its side that cross the
  * ring's end, from its start on, as in a drain; it is written if both sides have a
@@ -1070,7 +1070,7 @@ struct ollskuvan_compared ollskuvan_compare(const uint8_t *left, size_t left_len
     const struct ollskuvan_event *events, size_t event_count, uint32_t edition);
 
 /* ------------------------------------------------------------------------
- * The numbers in words, for messages. These four are plain C and stand in
+ * The numbers in words, for messages. These five are plain C and stand in
  * libollskuvan_words.a; a program that does not use them links libollskuvan.a
  * alone. None gives a null pointer, and what they give is never freed.
  */
@@ -1087,6 +1087,13 @@ const char *ollskuvan_type_name(uint64_t type);
  * any other type. A list's place has the list's name. No two words of a type
  * have the same name; a word that the type does not have has the name "". */
 const char *ollskuvan_word_name(uint64_t type, uint32_t word);
+
+/* The name of a field by its number, as ollskuvan_compare counts them: "prot" for
+ * 14 of an MMAP2. Which number a field has depends on what is present: fields are
+ * the words of an accepted record's value, event is the one that wrote it. The
+ * names are those of ollskuvan_word_name, but "answer" for 0 and "identifier" for
+ * 4; "" for a number that the record does not have. */
+const char *ollskuvan_field_name(const uint64_t *fields, const struct ollskuvan_event *event, uint32_t number);
 
 #ifdef __cplusplus
 }
