@@ -13,35 +13,56 @@
 #include "events.h"
 #include "messages.h"
 #include "ollskuvan.h"
+#include "settings.h"
 
 static const struct takes takes = {
-    "usage: ollskuvan salvage IN OUT [--changes FILE] [--edition N]\n"
+    "usage: ollskuvan salvage IN OUT [--changes FILE] [--settings STORE] [--edition N]\n"
     "Keeps the sound records of IN, a stream of records end to end, in OUT, and prints each hole: where it\n"
     "begins in IN, and its bytes. The table of events stands beside IN: NAME.table beside NAME.img, else\n"
-    "IN.table. Nothing is overwritten: OUT and FILE must not be there yet.\n"
+    "IN.table; or in a store of settings. Nothing is overwritten: OUT and FILE must not be there yet.\n"
     "  --changes FILE   the list of holes too, an entry of 22 bytes each\n"
+    "  --settings STORE the table, and the edition unless it is named, of a store of settings\n"
     "  --edition N      what the reader knows: 1, 2, 3 or 4 (4)\n",
     NULL, 2, 2,
 };
 
 /* What a stream was written with. */
-struct settings {
-    struct event_table table;
-    uint32_t edition;
+struct basis {
+    struct ollskuvan_event events[OLLSKUVAN_EVENTS_MAX];
+    size_t count;
+    uint32_t edition; /* 0: not named */
 };
 
-/* The one place where they are found: the edition of the option, and the table beside the stream. */
-static bool settings_of(struct settings *settings, const char *path, uint32_t edition)
+static bool basis_of_store(struct basis *basis, const char *path)
 {
+    struct settings settings;
     char why[WHY_ROOM];
-    settings->edition = edition;
-    if (!event_table_load(&settings->table, path, why)) {
+    if (settings_load(path, &settings, why) != SETTINGS_READ) {
         complain("%s: %s", path, why);
         return false;
     }
-    if (settings->table.count == 0)
+    memcpy(basis->events, settings.events, settings.count * sizeof settings.events[0]);
+    basis->count = settings.count;
+    if (basis->edition == 0)
+        basis->edition = settings.edition;
+    return true;
+}
+
+static bool basis_beside(struct basis *basis, const char *path)
+{
+    struct event_table table;
+    char why[WHY_ROOM];
+    if (!event_table_load(&table, path, why)) {
+        complain("%s: %s", path, why);
+        return false;
+    }
+    if (table.count == 0)
         complain("%s: there is no table of events beside it (NAME.table beside NAME.img, else %s.table)", path, path);
-    return settings->table.count != 0;
+    memcpy(basis->events, table.events, table.count * sizeof table.events[0]);
+    basis->count = table.count;
+    if (basis->edition == 0)
+        basis->edition = OLLSKUVAN_EDITION_4;
+    return table.count != 0;
 }
 
 /* ---- files ---- */
@@ -111,8 +132,8 @@ static bool write_all(FILE *file, const char *path, const uint8_t *bytes, size_t
 }
 
 struct salvage {
-    const char *in, *out, *changes; /* paths; changes is a null pointer if no list is wanted */
-    struct settings settings;
+    const char *in, *out, *changes, *store; /* paths; changes is a null pointer if no list is wanted, store if the table stands beside */
+    struct basis basis;
     struct stream stream;
     uint8_t *kept, *list;
     struct ollskuvan_salvaged told;
@@ -170,27 +191,29 @@ static void print_told(const struct salvage *s)
 
 /* ---- the command ---- */
 
-/* The newest if none is named; 0 if it is none, which is said. */
-static uint32_t edition_of(const char *text)
+/* 0 if none is named. False: it is none, which is said. */
+static bool edition_of(uint32_t *edition, const char *text)
 {
+    *edition = 0;
     if (text == NULL)
-        return OLLSKUVAN_EDITION_4;
-    if (text[0] >= '1' && text[0] <= '4' && text[1] == '\0')
-        return (uint32_t)(text[0] - '0');
+        return true;
+    if (text[0] >= '1' && text[0] <= '4' && text[1] == '\0') {
+        *edition = (uint32_t)(text[0] - '0');
+        return true;
+    }
     complain("--edition: a number from 1 to 4 is wanted, not '%s'", text);
-    return 0;
+    return false;
 }
 
 /* Rooms that are always enough: see ollskuvan.h. */
 static bool salvage(struct salvage *s)
 {
-    const struct event_table *table = &s->settings.table;
     size_t room = OLLSKUVAN_CHANGE_ENTRY * (s->stream.length / 24 + 1);
     s->kept = malloc(s->stream.length + 1);
     s->list = malloc(room);
     if (s->kept == NULL || s->list == NULL)
         return no_memory(s->in);
-    s->told = ollskuvan_salvage(s->stream.bytes, s->stream.length, table->events, table->count, s->settings.edition,
+    s->told = ollskuvan_salvage(s->stream.bytes, s->stream.length, s->basis.events, s->basis.count, s->basis.edition,
         s->kept, s->stream.length, s->list, room);
     if (s->told.answer != OLLSKUVAN_OK)
         complain("%s: not salvaged: %" PRIu32 ", %s", s->in, s->told.answer, ollskuvan_refusal_text(s->told.answer));
@@ -203,15 +226,16 @@ int salvage_command(int argc, char **argv)
     const char *given = NULL;
     int status;
     if (!take_option(&argc, argv, "--changes", &s.changes, takes.usage, &status) ||
+        !take_option(&argc, argv, "--settings", &s.store, takes.usage, &status) ||
         !take_option(&argc, argv, "--edition", &given, takes.usage, &status) ||
         take_words(argc, argv, &takes, &status) < 0)
         return status;
-    const uint32_t edition = edition_of(given);
-    if (edition == 0)
+    if (!edition_of(&s.basis.edition, given))
         return STATUS_USAGE;
     s.in = argv[1];
     s.out = argv[2];
-    bool done = stream_read(&s.stream, s.in) && settings_of(&s.settings, s.in, edition) && salvage(&s) && write_files(&s);
+    bool done = stream_read(&s.stream, s.in) &&
+        (s.store != NULL ? basis_of_store(&s.basis, s.store) : basis_beside(&s.basis, s.in)) && salvage(&s) && write_files(&s);
     if (done)
         print_told(&s);
     free(s.stream.bytes);

@@ -521,6 +521,15 @@ salvages shifted '16 bytes, 1 record' '36 bytes, 1 hole' '16: 36 bytes, up to th
 salvages inside '32 bytes, 2 records' '8 bytes, 1 hole' '0: 8 bytes'
 : | fresh nothing $out/salvage/seven
 salvages nothing '0 bytes, 0 records' '0 bytes, 0 holes'
+# the table of a store of settings, with none beside the stream
+printf '7 0x10000 0 0 0 0 1\n' >$stores/many.table
+writes $stores/seven --image $stores/many.img
+rm -f $out/salvage/bare* && printf "$switch" >$out/salvage/bare
+[ "$($tool salvage $out/salvage/bare $out/salvage/bare.out --settings $stores/seven)" = 'kept 16 bytes, 1 record; dropped 0 bytes, 0 holes' ] ||
+  wrong "salvage with the table of a store"
+head -c 20 $stores/seven >$stores/torn
+refuses 1 'torn: ' salvage $out/salvage/bare $out/salvage/new --settings $stores/torn
+refuses 1 'No such file' salvage $out/salvage/bare $out/salvage/new --settings $stores/none
 # what is there is not overwritten, and a failure leaves no file behind
 printf "$switch" | fresh kept $out/salvage/seven
 echo old >$out/salvage/old
