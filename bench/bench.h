@@ -53,4 +53,8 @@ int list_streams(void);
 int run_salvages(const char *whose, const char *stream, uint64_t calls);
 int time_salvage(size_t rounds);
 
+/* rings.c: two rings compared */
+int compare_rings(uint64_t rings, uint64_t seed);
+int time_rings(size_t rounds);
+
 #endif

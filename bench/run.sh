@@ -4,7 +4,7 @@
 #   bench/run.sh                 all of it: the comparison, times, ring sizes, values, instructions
 #   bench/run.sh --short         the comparison alone, without a table and with one, and of replay, and of salvage: fails only if careful C and ours
 #                                differ (the gate)
-#   bench/run.sh --time | --sizes | --values | --instructions | --kinds | --tables | --stores | --replay | --walks | --salvage    one part, after a short comparison
+#   bench/run.sh --time | --sizes | --values | --instructions | --kinds | --tables | --stores | --replay | --walks | --salvage | --compare    one part, after a short comparison
 #   bench/run.sh --sanitize      the comparison with address and undefined-behaviour sanitizers on the C side
 #
 # Options before the part: --library FILE (an archive other than target/staticlib/libollskuvan.a),
@@ -26,7 +26,7 @@ while [ $# -gt 0 ]; do
     --rings) [ $# -gt 1 ] || die "--rings needs a number"; rings=$2; shift ;;
     --seed) [ $# -gt 1 ] || die "--seed needs a number"; seed=$2; shift ;;
     --rounds) [ $# -gt 1 ] || die "--rounds needs a number"; rounds=$2; shift ;;
-    --short | --time | --sizes | --values | --instructions | --kinds | --tables | --walks | --stores | --replay | --salvage | --sanitize) part=${1#--} ;;
+    --short | --time | --sizes | --values | --instructions | --kinds | --tables | --walks | --stores | --replay | --salvage | --compare | --sanitize) part=${1#--} ;;
     -h | --help) sed -n '2,12p' "$0" | sed 's/^# \{0,1\}//'; exit 0 ;;
     *) die "unknown argument: $1 (see --help)" ;;
   esac
@@ -92,7 +92,7 @@ if [ "$part" = sanitize ]; then
   program=$out/bench-sanitized
 fi
 # shellcheck disable=SC2086 # the flags are words
-gcc $flags -o "$program" bench/bench.c bench/compare.c bench/timing.c bench/made.c bench/kinds.c bench/replay.c bench/salvage.c bench/careful.c bench/careful_check.c bench/careful_replay.c bench/careful_store.c bench/stores.c bench/careful_walk.c bench/walks.c bench/careful_salvage.c bench/floor.c "$library" $link ||
+gcc $flags -o "$program" bench/bench.c bench/compare.c bench/timing.c bench/made.c bench/kinds.c bench/replay.c bench/salvage.c bench/rings.c bench/careful.c bench/careful_check.c bench/careful_replay.c bench/careful_store.c bench/stores.c bench/careful_walk.c bench/walks.c bench/careful_salvage.c bench/floor.c "$library" $link ||
   die "the bench does not build"
 
 # instructions of one drain under callgrind, which repeat exactly
@@ -266,10 +266,10 @@ kinds() { # kinds|table-kinds
 case "$part" in
   short) "$program" stores $((rings / 2)) "$seed" || exit 1; "$program" kinds || exit 1; "$program" table-kinds || exit 1; "$program" compare "$rings" "$seed" || exit 1; "$program" tables $((rings / 2)) "$seed" || exit 1
     "$program" compare-replay $((rings / 10)) "$seed" || exit 1; "$program" walks $((rings / 2)) "$seed" || exit 1
-    "$program" compare-salvage $((rings / 10)) "$seed" || exit 1 ;;
+    "$program" compare-salvage $((rings / 10)) "$seed" || exit 1; "$program" compare-rings $((rings / 20)) "$seed" || exit 1 ;;
   sanitize) "$program" stores $((rings / 2)) "$seed" || exit 1; "$program" compare "$rings" "$seed" || exit 1; "$program" tables $((rings / 2)) "$seed" || exit 1
     "$program" compare-replay $((rings / 10)) "$seed" || exit 1; "$program" walks $((rings / 2)) "$seed" || exit 1
-    "$program" compare-salvage $((rings / 10)) "$seed" || exit 1 ;;
+    "$program" compare-salvage $((rings / 10)) "$seed" || exit 1; "$program" compare-rings $((rings / 20)) "$seed" || exit 1 ;;
   *)
     "$program" stores $((rings / 2)) "$seed" || die "no times: the two differ on a store"
     "$program" kinds || die "no times: the drains differ, or a kind is missing"
@@ -279,10 +279,12 @@ case "$part" in
     "$program" compare-replay $((rings / 10)) "$seed" || die "no times: the replays differ"
     "$program" walks $((rings / 2)) "$seed" || die "no times: the walks differ"
     "$program" compare-salvage $((rings / 10)) "$seed" || die "no times: the salvages differ"
+    "$program" compare-rings $((rings / 20)) "$seed" || die "no times: rings and their copies are told otherwise than is due"
     case "$part" in all | time) "$program" time $rounds || exit 1 ;; esac
     case "$part" in all | time | tables) "$program" mixes $rounds || exit 1 ;; esac
     case "$part" in all | replay) "$program" replay $rounds || exit 1; replays || exit 1 ;; esac
     case "$part" in all | salvage) "$program" salvage $rounds || exit 1; salvages || exit 1 ;; esac
+    case "$part" in all | compare) "$program" rings $rounds || exit 1 ;; esac
     case "$part" in all | sizes) "$program" sizes $rounds || exit 1 ;; esac
     case "$part" in all | values) "$program" values $rounds || exit 1 ;; esac
     case "$part" in all | instructions) instructions && instructions 1 && checks || exit 1 ;; esac

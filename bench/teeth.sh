@@ -25,7 +25,7 @@ plant() { # WORDS SED-EXPRESSION (over the whole file at once) [tables, stores: 
     echo "bench/teeth.sh: '$1' changes nothing: $file has moved on" >&2
     exit 2
   fi
-  gcc -std=c11 -O2 -w -DWITHOUT_VALUES -Iinclude -Ibench -o "$out/bench" bench/bench.c bench/compare.c bench/timing.c bench/made.c bench/kinds.c bench/replay.c bench/salvage.c bench/careful_check.c bench/stores.c \
+  gcc -std=c11 -O2 -w -DWITHOUT_VALUES -Iinclude -Ibench -o "$out/bench" bench/bench.c bench/compare.c bench/timing.c bench/made.c bench/kinds.c bench/replay.c bench/salvage.c bench/rings.c bench/careful_check.c bench/stores.c \
     "$walks" bench/walks.c bench/floor.c "$drains" "$out/careful_store.c" "$out/careful_replay.c" "$out/careful_salvage.c" "$library" || exit 2
   # in a shell of its own: some mistakes end in a crash, which is found too
   if bash -c '"$@"; exit $?' teeth "$out/bench" "${3:-compare}" "${RINGS:-20000}" "${SEED:-1}" >"$out/log" 2>&1; then

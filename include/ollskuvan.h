@@ -198,6 +198,14 @@ extern "C" {
 /* Salvage alone, after 2 and 11: nothing was written. */
 #define OLLSKUVAN_REFUSED_SALVAGE_ROOM 54u /* salvage: what is kept doesn't fit its buffer, or the list of changes its own */
 
+/* What ollskuvan_compare tells of two rings. */
+#define OLLSKUVAN_COMPARED_ALIKE 0u         /* both ended, at the same number, and all pairs are equal */
+#define OLLSKUVAN_COMPARED_FIELD 1u         /* a field of the two records of this number differs */
+#define OLLSKUVAN_COMPARED_LEFT_ENDED 2u    /* the left ring ended first */
+#define OLLSKUVAN_COMPARED_RIGHT_ENDED 3u   /* the right ring ended first */
+#define OLLSKUVAN_COMPARED_LEFT_STOPPED 4u  /* the left ring stopped, and not with 0 */
+#define OLLSKUVAN_COMPARED_RIGHT_STOPPED 5u /* the right ring stopped, and not with 0 */
+
 /* ------------------------------------------------------------------------
  * Record types: what stands in word OLLSKUVAN_TYPE of a value.
  */
@@ -1018,8 +1026,51 @@ struct ollskuvan_salvaged ollskuvan_salvage(const uint8_t *stream, size_t stream
     const struct ollskuvan_event *events, size_t event_count, uint32_t edition, uint8_t *out, size_t out_len,
     uint8_t *changes, size_t changes_len);
 
+struct ollskuvan_compared {
+    uint64_t records; /* equal pairs before the place that is told: the number, from 0, of the record there */
+    uint32_t what;    /* OLLSKUVAN_COMPARED_..., 0 to 5 */
+    uint32_t field;   /* the number of the first field that differs; 0 unless what is 1 */
+    uint32_t stop;    /* why the side stopped; 0 unless what is 4 or 5 */
+};
+
+/*
+ * ollskuvan_compare tells whether two rings say the same: each with its head, tail
+ * and scratch, both under one table of events and one edition. Record after record
+ * of the left ring is set beside that of the right one. Where the records lie, and
+ * the bytes that are ignored (behind a CPU, the rest of a build id's 20 bytes,
+ * padding), do not count. A name's flag does, and what the name's stale bytes are
+ * does not.
+ *
+ * It ends at the first record number at which one of these holds, in this order:
+ * the left side stops with 1, 2, 4, 5, 11, 6, 7 or 3 (as ollskuvan_drain_events
+ * does; 8 and 9 do not occur): 4; the right side does: 5; both ended: 0; the left
+ * ended: 2; the right ended: 3; a field differs: 1. So a table or an edition that
+ * is refused is the left side's stop, with 0 records.
+ *
+ * The fields of a record by number. Field 0 is its answer, 0 or the refusal. Two
+ * records that are refused alike have one more field, 1: all their bytes. Of an
+ * accepted record 1 is the type, 2 misc, 3 the size, 4 the identifier, and from 5
+ * on come the other fields that are present, in the order in which they lie in the
+ * record; last, of MMAP, COMM, MMAP2, KSYMBOL and CGROUP, the name's flag. A list,
+ * a name, a build id or a text is one field, together with its count; it stands
+ * where its entries stand. Registers are present where the abi before them, a
+ * field of its own, is not 0; a filled length where the stack's size is not 0. The
+ * identifier is not told again in SAMPLE or trailer. So MMAP2's prot is 14, or 11
+ * with a build id: ollskuvan_field_name gives the name of a number.
+ *
+ * Both rings are only read. A scratch gets the records of its side that cross the
+ * ring's end, from its start on, as in a drain; it is written if both sides have a
+ * record at that number. After a stop or an end both are as they stood before that
+ * record, after a difference as after it. The rings may be the same memory, the
+ * scratches may not overlap anything that is lent.
+ */
+struct ollskuvan_compared ollskuvan_compare(const uint8_t *left, size_t left_len, uint64_t left_head,
+    uint64_t left_tail, uint8_t *left_scratch, size_t left_scratch_len, const uint8_t *right, size_t right_len,
+    uint64_t right_head, uint64_t right_tail, uint8_t *right_scratch, size_t right_scratch_len,
+    const struct ollskuvan_event *events, size_t event_count, uint32_t edition);
+
 /* ------------------------------------------------------------------------
- * The numbers in words, for messages. These four are plain C and stand in
+ * The numbers in words, for messages. These five are plain C and stand in
  * libollskuvan_words.a; a program that does not use them links libollskuvan.a
  * alone. None gives a null pointer, and what they give is never freed.
  */
@@ -1036,6 +1087,13 @@ const char *ollskuvan_type_name(uint64_t type);
  * any other type. A list's place has the list's name. No two words of a type
  * have the same name; a word that the type does not have has the name "". */
 const char *ollskuvan_word_name(uint64_t type, uint32_t word);
+
+/* The name of a field by its number, as ollskuvan_compare counts them: "prot" for
+ * 14 of an MMAP2. Which number a field has depends on what is present: fields are
+ * the words of an accepted record's value, event is the one that wrote it. The
+ * names are those of ollskuvan_word_name, but "answer" for 0 and "identifier" for
+ * 4; "" for a number that the record does not have. */
+const char *ollskuvan_field_name(const uint64_t *fields, const struct ollskuvan_event *event, uint32_t number);
 
 #ifdef __cplusplus
 }

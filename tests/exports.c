@@ -1687,6 +1687,111 @@ static void test_salvage(void)
     kept = changes = NULL;
 }
 
+/* MMAP2 of event 7: pid 1, tid 2, addr 3, len 4, pgoff 5, the numbers of a file, prot 5, flags 1, name "a". */
+static const uint8_t MMAP2_OF_7[88] = {10, 0, 0, 0, 0, 0, 88, 0, 1, 0, 0, 0, 2, 0, 0, 0, 3, 0, 0, 0, 0, 0, 0, 0, 4, 0, 0, 0, 0, 0,
+    0, 0, 5, 0, 0, 0, 0, 0, 0, 0, 9, 0, 0, 0, 8, 0, 0, 0, 7, 0, 0, 0, 0, 0, 0, 0, 6, 0, 0, 0, 0, 0, 0, 0, 5, 0, 0, 0, 1, 0, 0,
+    0, 'a', 0, 0, 0, 0, 0, 0, 0, 7};
+
+/* A ring with its pointers, and its scratch as the last comparison left it: exactly the bytes that are lent. */
+struct side {
+    uint8_t *ring, *scratch;
+    size_t ring_len, scratch_len;
+    uint64_t head, tail;
+};
+
+static struct side side(size_t length, uint64_t tail, size_t scratch)
+{
+    struct side s = {block(length), block(scratch), length, scratch, tail, tail};
+    memset(s.ring, 0, length);
+    return s;
+}
+
+static void side_record(struct side *s, const uint8_t *record, size_t size)
+{
+    size_t i;
+    for (i = 0; i < size; i++)
+        s->ring[(s->head + i) % s->ring_len] = record[i];
+    s->head += size;
+}
+
+static struct ollskuvan_compared compared(const struct side *left, const struct side *right, size_t events, uint32_t edition)
+{
+    const struct ollskuvan_event table[2] = {{7, OLLSKUVAN_BIT_IDENTIFIER, 0, 0, 0, 0, 1},
+        {8, OLLSKUVAN_BIT_IDENTIFIER | OLLSKUVAN_BIT_CPU, 0, 0, 0, 0, 1}};
+    return ollskuvan_compare(left->ring, left->ring_len, left->head, left->tail, left->scratch, left->scratch_len, right->ring,
+        right->ring_len, right->head, right->tail, right->scratch, right->scratch_len, table, events, edition);
+}
+
+static void is_told(int line, struct ollskuvan_compared told, uint64_t records, uint32_t what, uint32_t field, uint32_t stop)
+{
+    is(line, "records", told.records, records);
+    is(line, "what", told.what, what);
+    is(line, "field", told.field, field);
+    is(line, "stop", told.stop, stop);
+}
+
+#define TELLS(told, records, what, field, stop) is_told(__LINE__, told, records, what, field, stop)
+
+static void test_compare(void)
+{
+    struct side left = side(128, 0, 128), right = side(256, 8 * 31, 256);
+    uint8_t record[88];
+    IS(sizeof(struct ollskuvan_compared), 24);
+    /* nothing on either side; no table, no edition */
+    TELLS(compared(&left, &right, 2, 4), 0, OLLSKUVAN_COMPARED_ALIKE, 0, 0);
+    TELLS(compared(&left, &right, 0, 4), 0, OLLSKUVAN_COMPARED_LEFT_STOPPED, 0, OLLSKUVAN_STOP_TABLE);
+    TELLS(compared(&left, &right, 0, 5), 0, OLLSKUVAN_COMPARED_LEFT_STOPPED, 0, OLLSKUVAN_STOP_EDITION);
+    /* a switch: it crosses the right ring's end, and goes to the scratch only if the left has one too */
+    side_record(&right, OF_7, 16);
+    TELLS(compared(&left, &right, 2, 4), 0, OLLSKUVAN_COMPARED_LEFT_ENDED, 0, 0);
+    TELLS(compared(&right, &left, 2, 4), 0, OLLSKUVAN_COMPARED_RIGHT_ENDED, 0, 0);
+    OK(untouched(right.scratch, 256));
+    side_record(&left, OF_7, 16);
+    TELLS(compared(&left, &right, 2, 4), 1, OLLSKUVAN_COMPARED_ALIKE, 0, 0);
+    OK(memcmp(right.scratch, OF_7, 16) == 0 && untouched(right.scratch + 16, 240) && untouched(left.scratch, 128));
+    right.scratch_len = 15;
+    TELLS(compared(&left, &right, 2, 4), 0, OLLSKUVAN_COMPARED_RIGHT_STOPPED, 0, OLLSKUVAN_STOP_SCRATCH);
+    right.scratch_len = 256;
+    /* MMAP2: prot is field 14; with a build id 11, and then what lies behind the id does not count */
+    side_record(&left, MMAP2_OF_7, 88);
+    memcpy(record, MMAP2_OF_7, 88);
+    record[64] = 7;
+    side_record(&right, record, 88);
+    TELLS(compared(&left, &right, 2, 4), 1, OLLSKUVAN_COMPARED_FIELD, 14, 0);
+    TELLS(compared(&right, &left, 2, 4), 1, OLLSKUVAN_COMPARED_FIELD, 14, 0);
+    left.ring[16 + 5] = 64;
+    right.ring[8 + 5] = 64;
+    TELLS(compared(&left, &right, 2, 4), 1, OLLSKUVAN_COMPARED_FIELD, 11, 0);
+    right.ring[8 + 64] = 5;
+    TELLS(compared(&left, &right, 2, 4), 2, OLLSKUVAN_COMPARED_ALIKE, 0, 0);
+    right.ring[8 + 40 + 23] = 1;
+    TELLS(compared(&left, &right, 2, 4), 2, OLLSKUVAN_COMPARED_ALIKE, 0, 0);
+    right.ring[8 + 40] = 8;
+    TELLS(compared(&left, &right, 2, 4), 1, OLLSKUVAN_COMPARED_FIELD, 10, 0);
+    right.ring[8 + 40] = 9;
+    /* the flag is the last field: "a", its zero, and a stale byte on one side, on both */
+    right.ring[8 + 74] = 1;
+    TELLS(compared(&left, &right, 2, 4), 1, OLLSKUVAN_COMPARED_FIELD, 14, 0);
+    left.ring[16 + 79] = 2;
+    TELLS(compared(&left, &right, 2, 4), 2, OLLSKUVAN_COMPARED_ALIKE, 0, 0);
+    /* edition 1 refuses both alike: by their bytes, field 1; an unknown identifier on one side: field 0 */
+    TELLS(compared(&left, &right, 2, 1), 1, OLLSKUVAN_COMPARED_FIELD, 1, 0);
+    right.ring[8 + 80] = 9;
+    TELLS(compared(&left, &right, 2, 4), 1, OLLSKUVAN_COMPARED_FIELD, 0, 0);
+    /* a stop at the same record goes first, the left one if both stop */
+    right.ring[8 + 6] = 4;
+    TELLS(compared(&left, &right, 2, 4), 1, OLLSKUVAN_COMPARED_RIGHT_STOPPED, 0, OLLSKUVAN_STOP_SIZE);
+    left.ring[16 + 6] = 96;
+    TELLS(compared(&left, &right, 2, 4), 1, OLLSKUVAN_COMPARED_LEFT_STOPPED, 0, OLLSKUVAN_STOP_PAST_HEAD);
+    TELLS(compared(&right, &left, 2, 4), 1, OLLSKUVAN_COMPARED_LEFT_STOPPED, 0, OLLSKUVAN_STOP_SIZE);
+    right.ring_len = 255;
+    TELLS(compared(&left, &right, 2, 4), 0, OLLSKUVAN_COMPARED_RIGHT_STOPPED, 0, OLLSKUVAN_STOP_RING_LENGTH);
+    free(left.ring);
+    free(left.scratch);
+    free(right.ring);
+    free(right.scratch);
+}
+
 int main(void)
 {
     IS(OLLSKUVAN_TRAILER_BITS, 66246);
@@ -1709,6 +1814,7 @@ int main(void)
     test_walk_round();
     test_walk_calls();
     test_salvage();
+    test_compare();
 #ifndef WITHOUT_VALUES
     test_dirty_values();
     test_read_write();

@@ -59,7 +59,7 @@ enum kind {
     MEANING_GIVEN, STOP_GIVEN, CHECK_GIVEN, COPY_GIVEN, WRITE_GIVEN, DIRTY_CHECK_GIVEN, DIRTY_WRITE_GIVEN,
     EVENTS_MOST, TABLE_STOP_GIVEN, EVENT_ANSWER_GIVEN, WALK_STOP_GIVEN, STORE_BYTE_WRITTEN, STORE_READ_GIVEN,
     STORE_WRITE_GIVEN, KIND_OFFERS, KIND_DRAINS, REPLAY_GIVEN, CHANGE_BYTES, CHANGE_OFFSET, CHANGE_KIND_GIVEN,
-    SALVAGE_GIVEN
+    SALVAGE_GIVEN, COMPARED_GIVEN
 };
 
 struct row {
@@ -120,6 +120,7 @@ struct row {
 #define CHANGE_PLACE(w, number, bytes) ROW(CHANGE_OFFSET, #w, w, NULL, number, bytes)
 #define CHANGE_KIND_IS(w) ROW(CHANGE_KIND_GIVEN, #w, w, NULL, 0)
 #define SALVAGED(w, ...) ROW(SALVAGE_GIVEN, #w, w, NULL, __VA_ARGS__)
+#define COMPARED(w, ...) ROW(COMPARED_GIVEN, #w, w, NULL, __VA_ARGS__)
 
 /* The entry that ENTRY_PLACE looks at: a type that no edition knows, at this tail. */
 #define ENTRY_KIND 0x7766
@@ -332,6 +333,21 @@ static struct ollskuvan_salvaged salvaged(uint64_t out_room, uint64_t list_room,
     return ollskuvan_salvage(stream, sizeof stream, &event, 1, 3, out, (size_t)out_room, list, (size_t)list_room);
 }
 
+/* What is told of two rings of switches of the one event 1: so many bytes of each, and the right side's misc. */
+static uint64_t compared(uint64_t left_bytes, uint64_t right_bytes, uint64_t misc)
+{
+    const struct ollskuvan_event event = {1, 1 << 16, 0, 0, 0, 0, 1};
+    uint8_t left[64] = {0}, right[64] = {0};
+    int i;
+    for (i = 0; i < 64; i += 16) {
+        left[i] = right[i] = 14;
+        left[i + 6] = right[i + 6] = 16;
+        left[i + 8] = right[i + 8] = 1;
+        right[i + 4] = (uint8_t)misc;
+    }
+    return ollskuvan_compare(left, 64, left_bytes, 0, NULL, 0, right, 64, right_bytes, 0, NULL, 0, &event, 1, 3).what;
+}
+
 /* Where in the list's one entry this number of so many bytes stands. */
 static uint64_t change_offset(uint64_t number, int bytes)
 {
@@ -405,6 +421,7 @@ static uint64_t shown(const struct row *row)
     case CHANGE_OFFSET: return change_offset(n[0], (int)n[1]);
     case CHANGE_KIND_GIVEN: salvaged(64, 64, buffer); return (uint64_t)buffer[4] | (uint64_t)buffer[5] << 8;
     case SALVAGE_GIVEN: return salvaged(n[0], n[1], buffer).answer;
+    case COMPARED_GIVEN: return compared(n[0], n[1], n[2]);
     default: return n[0]; /* SAME_NUMBER */
     }
 }

@@ -17,6 +17,7 @@ int replay_command(int argc, char **argv);
 int explain_command(int argc, char **argv);
 int settings_command(int argc, char **argv);
 int salvage_command(int argc, char **argv);
+int compare_command(int argc, char **argv);
 
 /* A word of the command line that begins with "-". */
 struct flag {

@@ -25,6 +25,7 @@ static const struct command commands[] = {
     { NAMED("record"), record_command, "live rings of this kernel, read or saved as images" },
     { NAMED("settings"), settings_command, "what a store of settings holds, and a new one of it" },
     { NAMED("salvage"), salvage_command, "what is sound of a stream of records that has holes" },
+    { NAMED("compare"), compare_command, "where two images first differ, by record and field" },
     { NAMED("explain"), explain_command, "what the number of a stop or a refusal means" },
 };
 enum { COMMANDS = sizeof commands / sizeof commands[0] };
@@ -43,7 +44,7 @@ static void print_help(FILE *out)
         fprintf(out, "  %-8s %s\n", word_of(&commands[i]), commands[i].purpose);
     fputs("\n'ollskuvan COMMAND --help' and 'man ollskuvan' tell more; --version tells the version.\n"
           "Exit status: 0; 1 if something failed or a ring was not read to its end; 2 for wrong usage;\n"
-          "3 if this kernel does not allow perf events.\n", out);
+          "3 if this kernel does not allow perf events. Of compare: 0 alike, 1 different, 2 trouble.\n", out);
 }
 
 static int other_word(const char *word)

@@ -123,7 +123,7 @@ void show_bytes(const uint8_t *bytes, size_t count, bool whole)
 }
 
 /* Never cut short; bytes that are no plain signs, quotes and backslashes as \xNN. */
-static void show_name(const uint8_t *name, uint64_t count)
+void show_name(const uint8_t *name, uint64_t count)
 {
     putchar('"');
     for (uint64_t i = 0; i < count; i++) {
@@ -277,16 +277,10 @@ static void show_list(const struct value *value, const struct ollskuvan_word *li
 
 bool is_selected(const struct value *value, const struct ollskuvan_word *row)
 {
-    const struct ollskuvan_when *when = &row->when;
-    uint64_t format = value->image->read_format, misc = value->fields[OLLSKUVAN_MISC];
-    uint64_t branch = value->image->branch_sample_type;
-    if (row->word >= OLLSKUVAN_TRAILER_PID && value->image->sample_id_all == 0)
-        return false;
-    return (when->sample == 0 || (value->image->sample_type & when->sample) != 0) &&
-        (format & when->format_set) == when->format_set && (format & when->format_clear) == 0 &&
-        (branch & when->branch) == when->branch &&
-        (misc & when->misc_set) == when->misc_set && (misc & when->misc_clear) == 0 &&
-        (when->not_zero == 0 || value->fields[when->not_zero] != 0);
+    const struct image *image = value->image;
+    const struct ollskuvan_written written = { image->sample_type, image->read_format, image->branch_sample_type,
+        image->sample_id_all != 0, value->fields };
+    return ollskuvan_word_is_present(row, &written) != 0;
 }
 
 /* The kernel writes -1 for a thread that had ended (ollskuvan.h). */

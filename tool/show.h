@@ -43,6 +43,9 @@ void show_branch_type(uint64_t branch_sample_type);
 void show_attributes(uint64_t sample_type, uint64_t read_format, uint64_t user_mask, uint64_t interrupt_mask,
     uint64_t branch_sample_type);
 
+/* A name in quotes. */
+void show_name(const uint8_t *name, uint64_t count);
+
 /* Sixteen bytes a line; a few of them unless the whole is wanted. */
 void show_bytes(const uint8_t *bytes, size_t count, bool whole);
 

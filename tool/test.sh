@@ -31,6 +31,7 @@ steps='-Wl,--wrap=write,--wrap=fsync,--wrap=rename,--wrap=fchmod,--wrap=close'
 {
   build stores -O1 $steps tool/tests/stores.c examples/settings.c
   build values -O1 tool/tests/values.c tool/show.c $shared
+  build fields -O1 tool/tests/fields.c tool/show.c $shared
   build stack -O1 -fno-optimize-sibling-calls -Wl,-z,now tool/tests/stack.c $shared
   # under an emulator the sanitizers do not run
   sanitizers='-fsanitize=address,undefined -fno-sanitize-recover=all'
@@ -556,6 +557,76 @@ refuses 2 'unknown option --list' salvage $out/salvage/kept $out/salvage/new --l
 $tool salvage --edition 1 $out/salvage/kept $out/salvage/first | grep -qx 'hole at 0: 16 bytes, up to the end' ||
   wrong "salvage in edition 1, which knows no identifiers"
 
+# ---- compare: rings beside themselves, at other counts, with a byte or a record changed
+mkdir -p $out/compare
+$out/fields rings/*.img rings/events/*.img $out/made/*.img >$out/fields.txt || { wrong "fields by number"; head $out/fields.txt; }
+tail -n 1 $out/fields.txt
+compares() { # STATUS LINE A B: what is printed
+  local said status
+  said=$($tool compare "$3" "$4" 2>&1)
+  status=$?
+  [ "$status" -eq "$1" ] && [ "$said" = "$2" ] || wrong "compare $3 $4: exit $status, '$said' and not '$2'"
+  tried=$((tried + 1))
+}
+# an image: head and tail in octal bytes, sample type with bit 16, edition 4, sample_id_all, then 64 bytes from stdin
+image_of() { # NAME HEAD TAIL
+  { printf "$2\\0\\0\\0\\0\\0\\0\\0$3\\0\\0\\0\\0\\0\\0\\0\\0\\0\\1\\0\\0\\0\\0\\0"; head -c 24 /dev/zero; printf '\4\1'
+    { cat; head -c 64 /dev/zero; } | head -c 64; } >$out/compare/"$1".img
+}
+for image in rings/events/children.img rings/events/counters.img rings/tasks.img; do
+  records=$($tool dump $image | sed -n 's/^\([0-9]*\) records,.*/\1/p')
+  compares 0 "alike: $records records" $image $image
+done
+lost() { printf '\2\0\0\0\0\0\040\0\5\0\0\0\0\0\0\0\'"$1"'\0\0\0\0\0\0\0\7\0\0\0\0\0\0\0'; }
+{ printf "$switch"; lost 6; } | image_of six '\060' '\0'
+{ printf "$switch"; lost 7; } | image_of seven '\060' '\0'
+# the same records from count 32 on: the LOST begins at 48 and goes on at 0
+{ lost 6 | tail -c 16; head -c 16 /dev/zero; printf "$switch"; lost 6 | head -c 16; } | image_of moved '\120' '\040'
+printf "$switch" | image_of short '\020' '\0'
+{ printf "$switch"; lost 6; } | image_of cut '\050' '\0'
+{ printf "$switch$switch"; } | image_of switches '\040' '\0'
+{ printf '\016\0\0\0\2\0\020\0\7\0\0\0\0\0\0\0'; lost 6; } | image_of user '\060' '\0'
+{ printf '\016\0\0\0\0\0\020\0\6\0\0\0\0\0\0\0'; lost 6; } | image_of other '\060' '\0'
+{ printf '\026\0\0\0\0\0\020\0\7\0\0\0\0\0\0\0'; lost 6; } | image_of unknown '\060' '\0'
+{ printf '\026\0\0\0\0\0\020\0\7\1\0\0\0\0\0\0'; lost 6; } | image_of unknown-too '\060' '\0'
+{ printf '\003\0\0\0\0\0\040\0\1\0\0\0\1\0\0\0kiln\0\0\0\0\7\0\0\0\0\0\0\0'; } | image_of kiln '\040' '\0'
+{ printf '\003\0\0\0\0\0\040\0\1\0\0\0\1\0\0\0oven\0\0\0\1\7\0\0\0\0\0\0\0'; } | image_of oven '\040' '\0'
+{ printf '\003\0\0\0\0\0\040\0\1\0\0\0\1\0\0\0kiln\0\0\0\1\7\0\0\0\0\0\0\0'; } | image_of dirty '\040' '\0'
+of=$out/compare
+compares 0 'alike: 2 records' $of/six.img $of/moved.img
+compares 1 'record 1 (LOST): field 6, lost, 6 and 7' $of/six.img $of/seven.img
+compares 1 'record 1 (LOST): field 6, lost, 7 and 6' $of/seven.img $of/moved.img
+compares 1 "$of/short.img ended after 1 equal record" $of/short.img $of/six.img
+compares 1 "$of/short.img ended after 1 equal record" $of/six.img $of/short.img
+compares 1 'record 1 (LOST and SWITCH): field 1, type, 2 and 14' $of/six.img $of/switches.img
+compares 1 'record 0 (SWITCH): field 2, misc, 0 and 2' $of/six.img $of/user.img
+compares 1 'record 0 (SWITCH): field 4, identifier, 7 and 6' $of/six.img $of/other.img
+compares 1 'record 0 (SWITCH and unknown type): field 0, answer, 0 and 20' $of/six.img $of/unknown.img
+compares 0 'alike: 2 records' $of/unknown.img $of/unknown.img
+compares 1 'record 0 (unknown type): field 1, the bytes of both, refused with 20, byte 9: 00 and 01' $of/unknown.img $of/unknown-too.img
+compares 1 'record 0 (COMM): field 7, name, "kiln" and "oven"' $of/kiln.img $of/oven.img
+compares 1 'record 0 (COMM): field 8, name flag, 0 and 1' $of/kiln.img $of/dirty.img
+compares 2 "ollskuvan compare: $of/cut.img: stop 7 after 1 equal record: the record's size passes the head" $of/six.img $of/cut.img
+compares 2 "ollskuvan compare: $of/cut.img: stop 7 after 1 equal record: the record's size passes the head" $of/cut.img $of/six.img
+# tables: one that is not allowed, events that are told otherwise
+cp $of/six.img $of/table.img && printf '7 0x10000 0 0 0 0 1\n' >$of/table.table
+compares 0 'alike: 2 records' $of/table.img $of/six.img
+cp $of/six.img $of/timed.img && printf '7 0x10004 0 0 0 0 1\n' >$of/timed.table
+compares 2 "ollskuvan compare: $of/timed.img: event 7 has other attributes than on the other side" $of/six.img $of/timed.img
+cp $of/six.img $of/unsound.img && printf '7 0x4 0 0 0 0 1\n' >$of/unsound.table
+compares 2 "ollskuvan compare: $of/unsound.img: stop 11 after 0 equal records: the table of events is not allowed" \
+  $of/unsound.img $of/unsound.img
+refuses 2 'its records carry no identifier' compare rings/switches-cpu-wide.img rings/switches-cpu-wide.img
+refuses 2 'edition 4 and' compare $of/six.img rings/tasks.img
+refuses 2 'No such file' compare $of/six.img $of/none.img
+refuses 2 'no ring image' compare $out/49.img $of/six.img
+refuses 2 'a number from 1 to 4 is wanted' compare $of/six.img $of/six.img --edition 5
+refuses 2 'too few words' compare $of/six.img
+[ "$($tool compare --edition 1 $of/six.img $of/seven.img)" = \
+  'record 1 (LOST): field 1, the bytes of both, refused with 21, byte 16: 06 and 07' ] || wrong "compare --edition 1"
+$tool compare $of/six.img $of/six.img >/dev/full 2>/dev/null
+[ $? -eq 2 ] || wrong "compare to a full device is no trouble"
+
 # ---- output that cannot be written
 for words in 'dump rings/tasks.img' 'journal rings/tasks.img' 'report rings/tasks.img' 'explain 7' --help --version \
   'dump --help' "settings show $stores/three" 'settings --help'; do
@@ -570,7 +641,7 @@ for words in 'dump rings/tasks.img' 'journal rings/tasks.img' 'report rings/task
 done
 
 # ---- help, version, explain
-for words in --help -h 'dump --help' 'dump -h' 'journal -h' 'explain -h' 'report -h' 'record -h' 'settings -h' 'replay -h' 'salvage -h'; do
+for words in --help -h 'dump --help' 'dump -h' 'journal -h' 'explain -h' 'report -h' 'record -h' 'settings -h' 'replay -h' 'salvage -h' 'compare -h'; do
   # shellcheck disable=SC2086
   $tool $words 2>/dev/null | grep -q '^usage: ollskuvan' || wrong "ollskuvan $words is no help"
 done

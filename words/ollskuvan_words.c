@@ -315,3 +315,74 @@ const char *ollskuvan_word_name(uint64_t type, uint32_t word)
     const struct ollskuvan_word *row = word_row(type, word);
     return row != NULL ? row->name : "";
 }
+
+/* ---- the fields of a record that is compared, by number ---- */
+
+int ollskuvan_word_is_present(const struct ollskuvan_word *row, const struct ollskuvan_written *written)
+{
+    const struct ollskuvan_when *when = &row->when;
+    const uint64_t format = written->read_format, misc = written->fields[OLLSKUVAN_MISC];
+    if (row->word >= OLLSKUVAN_TRAILER_PID && !written->sample_id_all)
+        return 0;
+    return (when->sample == 0 || (written->sample_type & when->sample) != 0) &&
+        (format & when->format_set) == when->format_set && (format & when->format_clear) == 0 &&
+        (written->branch_sample_type & when->branch) == when->branch &&
+        (misc & when->misc_set) == when->misc_set && (misc & when->misc_clear) == 0 &&
+        (when->not_zero == 0 || written->fields[when->not_zero] != 0);
+}
+
+static int is_identifier(const struct ollskuvan_word *row)
+{
+    return row->word == OLLSKUVAN_TRAILER_IDENTIFIER ||
+        (row->type == OLLSKUVAN_TYPE_SAMPLE && row->word == OLLSKUVAN_SAMPLE_IDENTIFIER);
+}
+
+/* From 5 on: no header, no count, not the identifier; no registers after abi 0. The flag is told last. */
+static int has_number(const struct ollskuvan_word *row, const struct ollskuvan_written *written)
+{
+    switch (row->form) {
+    case OLLSKUVAN_FORM_HEADER:
+    case OLLSKUVAN_FORM_COUNT:
+    case OLLSKUVAN_FORM_KEPT:
+    case OLLSKUVAN_FORM_FLAG:
+        return 0;
+    case OLLSKUVAN_FORM_USER_REGISTERS:
+        return written->fields[OLLSKUVAN_SAMPLE_USER_ABI] != 0;
+    case OLLSKUVAN_FORM_INTERRUPT_REGISTERS:
+        return written->fields[OLLSKUVAN_SAMPLE_INTERRUPT_ABI] != 0;
+    default:
+        return !is_identifier(row);
+    }
+}
+
+const struct ollskuvan_word *ollskuvan_field_row(const struct ollskuvan_written *written, uint32_t number)
+{
+    const uint64_t type = written->fields[OLLSKUVAN_TYPE];
+    const struct ollskuvan_word *flag = NULL;
+    uint32_t next = 5;
+    size_t i;
+    if (number >= 1 && number <= 3)
+        return word_row(type, number - 1 + OLLSKUVAN_TYPE);
+    if (number == 4)
+        return word_row(type, type == OLLSKUVAN_TYPE_SAMPLE ? OLLSKUVAN_SAMPLE_IDENTIFIER : OLLSKUVAN_TRAILER_IDENTIFIER);
+    for (i = 0; i < ollskuvan_words_count; i++) {
+        const struct ollskuvan_word *row = &ollskuvan_words[i];
+        if (!ollskuvan_word_is_of(row, type) || !ollskuvan_word_is_present(row, written))
+            continue;
+        if (row->form == OLLSKUVAN_FORM_FLAG)
+            flag = row;
+        else if (has_number(row, written) && next++ == number)
+            return row;
+    }
+    return next == number ? flag : NULL;
+}
+
+const char *ollskuvan_field_name(const uint64_t *fields, const struct ollskuvan_event *event, uint32_t number)
+{
+    const struct ollskuvan_written written = { event->sample_type, event->read_format, event->branch_sample_type,
+        event->sample_id_all != 0, fields };
+    const struct ollskuvan_word *row = ollskuvan_field_row(&written, number);
+    if (number == 0)
+        return "answer";
+    return row == NULL ? "" : number == 4 ? "identifier" : row->name;
+}

@@ -61,6 +61,20 @@ extern const size_t ollskuvan_words_count;
 /* A value of this known type has the row's word. */
 int ollskuvan_word_is_of(const struct ollskuvan_word *row, uint64_t type);
 
+/* The attributes of the event that wrote a record, and the record's value as the library read it. */
+struct ollskuvan_written {
+    uint64_t sample_type, read_format, branch_sample_type;
+    int sample_id_all;
+    const uint64_t *fields;
+};
+
+/* The row's field stands in that record. */
+int ollskuvan_word_is_present(const struct ollskuvan_word *row, const struct ollskuvan_written *written);
+
+/* The row of the field with this number, as ollskuvan_compare counts them, 1 and on; of 4 that of the identifier. A null
+ * pointer for 0, which has no word, and where the record has no such field. */
+const struct ollskuvan_word *ollskuvan_field_row(const struct ollskuvan_written *written, uint32_t number);
+
 /* The texts of an answer as they stand in the table: a null pointer for none. */
 struct ollskuvan_answer {
     uint32_t number;

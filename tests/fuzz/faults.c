@@ -42,6 +42,9 @@ struct ollskuvan_replayed reader_replay(const uint8_t *, size_t, uint64_t, const
 struct ollskuvan_salvaged reader_salvage(const uint8_t *, size_t, const struct ollskuvan_event *, size_t, uint32_t,
     uint8_t *, size_t, uint8_t *, size_t);
 
+struct ollskuvan_compared reader_compare(const uint8_t *, size_t, uint64_t, uint64_t, uint8_t *, size_t, const uint8_t *,
+    size_t, uint64_t, uint64_t, uint8_t *, size_t, const struct ollskuvan_event *, size_t, uint32_t);
+
 static int fault(int number) { return FAULT == number; }
 
 /* The word of a name's flag; 0 for a type that has no name. */
@@ -446,4 +449,38 @@ struct ollskuvan_salvaged ollskuvan_salvage(const uint8_t *stream, size_t stream
     if (fault(65) && s.answer == OLLSKUVAN_REFUSED_SALVAGE_ROOM && out_len >= 16 && stream_len >= 16) /* room tested after */
         memcpy(out, stream, 16);                                                                     /* the first write */
     return s;
+}
+
+/* The bytes from tail to head of two rings that were found alike. */
+static int same_bytes(const uint8_t *left, size_t left_len, uint64_t left_head, uint64_t left_tail, const uint8_t *right,
+    size_t right_len, uint64_t right_tail)
+{
+    uint64_t i;
+    for (i = 0; i < left_head - left_tail; i++)
+        if (left[(left_tail + i) % left_len] != right[(right_tail + i) % right_len])
+            return 0;
+    return 1;
+}
+
+struct ollskuvan_compared ollskuvan_compare(const uint8_t *left, size_t left_len, uint64_t left_head, uint64_t left_tail,
+    uint8_t *left_scratch, size_t left_scratch_len, const uint8_t *right, size_t right_len, uint64_t right_head,
+    uint64_t right_tail, uint8_t *right_scratch, size_t right_scratch_len, const struct ollskuvan_event *events,
+    size_t event_count, uint32_t edition)
+{
+    struct ollskuvan_compared c = reader_compare(left, left_len, left_head, left_tail, left_scratch, left_scratch_len, right,
+        right_len, right_head, right_tail, right_scratch, right_scratch_len, events, event_count, edition);
+
+    if (fault(71) && c.what == OLLSKUVAN_COMPARED_FIELD) /* a difference found, but the next record named */
+        c.records++;
+    if (fault(72) && c.field > 4) /* the identifier told twice */
+        c.field++;
+    if (fault(73) && c.what == OLLSKUVAN_COMPARED_RIGHT_STOPPED && right_scratch_len) /* a scratch touched by a stop */
+        right_scratch[0] ^= 1;
+    if (fault(74) && c.what == OLLSKUVAN_COMPARED_ALIKE &&
+        !same_bytes(left, left_len, left_head, left_tail, right, right_len, right_tail)) { /* ignored bytes that count */
+        c.what = OLLSKUVAN_COMPARED_FIELD;
+        c.field = 1;
+        c.records = 0;
+    }
+    return c;
 }

@@ -14,7 +14,7 @@
  * What is missing is zero. The control block:
  *   0  the call, modulo TRIED: drain (and read one, and the walk of the ring as a backward one), ringdump, record (check, misc,
  *      name copy, read, write again), write, drain with a table of events (and the same with it, the lookup,
- *      replay, and salvage of the bytes), store of settings (read, written again; written
+ *      replay, salvage of the bytes, and the ring compared with a copy at other counts, a byte changed), store of settings (read, written again; written
  *      of the table, with the head's ring length or LAID's, the edition and the tail's budget, and read back)
  *   1  flags, see below            2  LAID: the ring's length is 64 << (this modulo 9)
  *   3  what buffers hold before    4, 5  scratch: choice and number; ringdump: 4 cuts the input below 50; salvage: out
@@ -83,6 +83,8 @@ struct ollskuvan_replayed reader_replay(const uint8_t *, size_t, uint64_t, const
     uint8_t *, size_t, uint8_t *, size_t);
 struct ollskuvan_salvaged reader_salvage(const uint8_t *, size_t, const struct ollskuvan_event *, size_t, uint32_t,
     uint8_t *, size_t, uint8_t *, size_t);
+struct ollskuvan_compared reader_compare(const uint8_t *, size_t, uint64_t, uint64_t, uint8_t *, size_t, const uint8_t *,
+    size_t, uint64_t, uint64_t, uint8_t *, size_t, const struct ollskuvan_event *, size_t, uint32_t);
 size_t reader_print(const uint8_t *, size_t, uint8_t *, size_t);
 size_t reader_mutate(uint8_t *, size_t, size_t, uint32_t);
 int ringdump_main(void);
@@ -112,11 +114,11 @@ static struct {
 /* ---- What was reached: told to libFuzzer as if it were coverage, and counted for the end's report. ---- */
 
 enum call { DRAIN, PROGRAM, CHECK, COPY, READ, WRITE, MEANING, ONE_STOP, ONE, TABLED, TABLED_RECORD, STORE_READ,
-    STORE_WRITTEN, REPLAY, WALK, TABLED_WALK, SALVAGE, CALLS };
+    STORE_WRITTEN, REPLAY, WALK, TABLED_WALK, SALVAGE, COMPARE, COMPARE_STOP, CALLS };
 static const char *const call_names[CALLS] = { "drain", "ringdump", "check", "name copy", "read", "write",
     "misc meaning, without the CPU mode,", "read one, its stops:", "read one", "drain with a table", "records under a table",
     "read store", "write store", "replay",
-    "walk", "walk with a table", "salvage" };
+    "walk", "walk with a table", "salvage", "compare", "compare, its stops:" };
 
 /* by call, type (0, or 22 for every other) and answer */
 enum { TYPES = 23, ANSWERS = 64 };
@@ -190,7 +192,7 @@ static void differs(const char *words, ...)
 
 /* ---- Lent slices. ---- */
 
-enum slice { RING, SCRATCH, JOURNAL, RECORD, NAME, VALUE, SOURCE, BUFFER, TABLE, STORE, ROWS, SLICES };
+enum slice { RING, SCRATCH, JOURNAL, RECORD, NAME, VALUE, SOURCE, BUFFER, TABLE, STORE, ROWS, RIGHT, RIGHT_SCRATCH, SLICES };
 enum { AREA = 1 << 18, GUARD = 64 };
 static uint8_t *areas[SLICES];
 
@@ -907,6 +909,76 @@ static void try_salvage(void)
         differs("salvage: what was kept is not kept again");
 }
 
+/* ---- Two rings compared: the ring of the input, and its records at other counts with a byte changed. ---- */
+
+static void compare(const struct ring *left, uint64_t left_tail, const struct ring *right, uint64_t right_tail, size_t scratch_len)
+{
+    static uint8_t left_scratch[LONGEST], right_scratch[LONGEST];
+    const struct ollskuvan_event *table = lend_table();
+    const uint8_t *lent_left = lend(RING, left->bytes, left->length), *lent_right = lend(RIGHT, right->bytes, right->length);
+    uint8_t *lent_left_scratch, *lent_right_scratch;
+    size_t right_len = scratch_length(right->length);
+    struct ollskuvan_compared library, independent;
+
+    memset(left_scratch, in.control[3], scratch_len);
+    memset(right_scratch, in.control[3], right_len);
+    lent_left_scratch = lend(SCRATCH, left_scratch, scratch_len);
+    lent_right_scratch = lend(RIGHT_SCRATCH, right_scratch, right_len);
+    library = ollskuvan_compare(lent_left, left->length, left->head, left_tail, lent_left_scratch, scratch_len, lent_right,
+        right->length, right->head, right_tail, lent_right_scratch, right_len, table, in.event_count, in.edition);
+    independent = reader_compare(left->bytes, left->length, left->head, left_tail, left_scratch, scratch_len, right->bytes,
+        right->length, right->head, right_tail, right_scratch, right_len, in.events, in.event_count, in.edition);
+    if (library.records != independent.records || library.what != independent.what || library.field != independent.field ||
+        library.stop != independent.stop) {
+        print_hex("left", left->bytes, left->length);
+        print_hex("right", right->bytes, right->length);
+        differs("compare: library %" PRIu64 " records, what %" PRIu32 ", field %" PRIu32 ", stop %" PRIu32 "; independent %"
+            PRIu64 ", %" PRIu32 ", %" PRIu32 ", %" PRIu32, library.records, library.what, library.field, library.stop,
+            independent.records, independent.what, independent.field, independent.stop);
+    }
+    is_as(SCRATCH, lent_left_scratch, left_scratch, scratch_len, "compare: the left scratch");
+    is_as(RIGHT_SCRATCH, lent_right_scratch, right_scratch, right_len, "compare: the right scratch");
+    is_kept(RING, lent_left, left->bytes, left->length);
+    is_kept(RIGHT, lent_right, right->bytes, right->length);
+    table_is_kept(table);
+    reach(COMPARE, library.field < TYPES ? library.field : TYPES - 1, library.what);
+    if (library.what >= OLLSKUVAN_COMPARED_LEFT_STOPPED)
+        reach(COMPARE_STOP, library.what, library.stop);
+}
+
+static void try_compare(void)
+{
+    static uint8_t other[LONGEST];
+    const struct ring left = make_ring();
+    struct ring right = { other, left.length, left.head };
+    uint64_t distance = left.head - in.tail, shift = 8 * (uint64_t)in.control[8], i;
+    size_t scratch_len = scratch_length(left.length);
+
+    if (left.length == 0 || left.length > LONGEST)
+        return;
+    memset(other, 0, left.length);
+    for (i = 0; i < left.length; i++)
+        other[(in.tail + shift + i) % left.length] = left.bytes[(in.tail + i) % left.length];
+    right.head = left.head + shift;
+    compare(&left, in.tail, &right, in.tail + shift, scratch_len);
+    if (distance == 0 || distance > left.length)
+        return;
+    {
+        /* where the input says; in the first header; in a body; at the last record's end: identifier, and what is before */
+        const uint64_t places[] = { in.control[5] | (uint64_t)in.control[7] << 8, 4, 6, 17, distance / 2, distance - 1,
+            distance - 8, distance - 9, distance - 12, distance - 17, distance - 25 };
+
+        for (i = 0; i < sizeof places / sizeof places[0]; i++) {
+            uint8_t *byte = &other[(in.tail + shift + places[i] % distance) % left.length];
+
+            *byte ^= in.control[6] | 1;
+            compare(&left, in.tail, &right, in.tail + shift, scratch_len);
+            compare(&right, in.tail + shift, &left, in.tail, scratch_len);
+            *byte ^= in.control[6] | 1;
+        }
+    }
+}
+
 static void try_events(void)
 {
     size_t i;
@@ -914,6 +986,7 @@ static void try_events(void)
     try_drain();
     try_replay();
     try_salvage();
+    try_compare();
     for (i = 0; i < in.event_count && i < 4; i++)
         find_event(in.events[i].identifier);
     find_event(in.head);

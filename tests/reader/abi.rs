@@ -1,6 +1,7 @@
 //! The exports of libollskuvan.a, as include/ollskuvan.h declares them.
 
 use crate::backward::Walked;
+use crate::compare::Compared;
 use crate::events::Event;
 use crate::replay::Replayed;
 use crate::ring::{Drained, One, Published};
@@ -53,6 +54,22 @@ pub struct CSalvaged {
     pub dropped: u64,
     pub changes: u64,
     pub answer: u32,
+}
+
+#[repr(C)]
+pub struct CCompared {
+    pub records: u64,
+    pub what: u32,
+    pub field: u32,
+    pub stop: u32,
+}
+
+extern "C" {
+    pub fn ollskuvan_compare(
+        left: *const u8, left_len: usize, left_head: u64, left_tail: u64, left_scratch: *mut u8, left_scratch_len: usize,
+        right: *const u8, right_len: usize, right_head: u64, right_tail: u64, right_scratch: *mut u8,
+        right_scratch_len: usize, events: *const Event, event_count: usize, edition: u32,
+    ) -> CCompared;
 }
 
 extern "C" {
@@ -317,6 +334,22 @@ pub fn salvage(stream: &[u8], words: &[u64], edition: u32, out: &mut [u8], chang
         )
     };
     Salvaged { kept: s.kept, dropped: s.dropped, changes: s.changes, answer: s.answer }
+}
+
+/// A ring of one side as it is lent: its bytes, head and tail.
+pub type LentSide<'r> = (&'r [u8], u64, u64);
+
+pub fn compare(
+    left: LentSide, left_scratch: &mut [u8], right: LentSide, right_scratch: &mut [u8], words: &[u64], edition: u32,
+) -> Compared {
+    let c = unsafe {
+        ollskuvan_compare(
+            left.0.as_ptr(), left.0.len(), left.1, left.2, left_scratch.as_mut_ptr(), left_scratch.len(), right.0.as_ptr(),
+            right.0.len(), right.1, right.2, right_scratch.as_mut_ptr(), right_scratch.len(), words.as_ptr().cast(),
+            words.len() / 7, edition,
+        )
+    };
+    Compared { records: c.records, what: c.what, field: c.field, stop: c.stop }
 }
 
 #[cfg(not(without_values))]

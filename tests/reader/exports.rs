@@ -5,8 +5,9 @@
 //! and says nothing about the library. Under names of its own (`own_names`: reader_drain and so on) it
 //! stands beside the library in one program: the fuzz target, tests/fuzz.
 
-use crate::abi::{CDrained, COne, CPublished, CSettings, CStored, CReplayed, CWalked, CSalvaged};
+use crate::abi::{CDrained, COne, CPublished, CSettings, CStored, CReplayed, CWalked, CSalvaged, CCompared};
 use crate::backward::{self, Walked};
+use crate::compare;
 use crate::events::{self, Event};
 use crate::record;
 use crate::replay;
@@ -242,4 +243,22 @@ pub unsafe extern "C" fn ollskuvan_salvage(
     let (stream, table) = (lent(stream, stream_len), lent(table, event_count));
     let s = salvage::salvage(stream, table, edition, lent_mut(out, out_len), lent_mut(changes, changes_len));
     CSalvaged { kept: s.kept, dropped: s.dropped, changes: s.changes, answer: s.answer }
+}
+
+#[allow(clippy::too_many_arguments)]
+#[cfg_attr(own_names, export_name = "reader_compare")]
+#[cfg_attr(not(own_names), no_mangle)]
+pub unsafe extern "C" fn ollskuvan_compare(
+    left: *const u8, left_len: usize, left_head: u64, left_tail: u64, left_scratch: *mut u8, left_scratch_len: usize,
+    right: *const u8, right_len: usize, right_head: u64, right_tail: u64, right_scratch: *mut u8, right_scratch_len: usize,
+    table: *const Event, event_count: usize, edition: u32,
+) -> CCompared {
+    let attributes = Attributes::EMPTY;
+    let left = Ring { bytes: lent(left, left_len), head: left_head, edition, attributes };
+    let right = Ring { bytes: lent(right, right_len), head: right_head, edition, attributes };
+    let c = compare::compare(
+        &left, left_tail, lent_mut(left_scratch, left_scratch_len), &right, right_tail,
+        lent_mut(right_scratch, right_scratch_len), lent(table, event_count),
+    );
+    CCompared { records: c.records, what: c.what, field: c.field, stop: c.stop }
 }

@@ -4,6 +4,7 @@
 
 mod abi;
 mod backward;
+mod compare;
 mod events;
 mod exports;
 mod fuzz;

@@ -6,6 +6,8 @@
 mod abi;
 mod backward;
 mod cases;
+mod compare;
+mod compares;
 mod drains;
 mod events;
 mod examples;
@@ -63,6 +65,7 @@ reader replays [OPTIONS]              traces played over a simulated ring: the l
 reader walks [OPTIONS]                the walk of a backward ring, with one attribute set and with a table, compared
 reader back-rings FOLDER [OPTIONS]    the real backward rings, some with a NAME.table; then damaged
 reader salvages [OPTIONS]             damaged streams: what is kept, the list of holes, the rooms; the library against the independent reader
+reader compares [OPTIONS]             two rings compared, with a field, a record or ignored bytes changed; the library against the independent reader
 reader meanings [OPTIONS]             what misc means: the library against the independent reader
 reader bits                           each sample bit, read format, branch bit, type and trailer bit: written, read, compared
 reader images PROGRAM [WORDS...] [OPTIONS]
@@ -158,6 +161,7 @@ fn run(command: &str, o: &Options) -> Result<(), String> {
             walks::rings(folder, o.seed, o.count.unwrap_or(500))
         }
         "salvages" => run_salvages(o),
+        "compares" => run_compares(o),
         "values" | "bits" | "ones" if cfg!(without_values) => Err("built without read and write".to_string()),
         "values" => run_values(o),
         "ones" => run_ones(o),
@@ -560,6 +564,34 @@ fn run_salvages(o: &Options) -> Result<(), String> {
     println!(
         "salvages: seed {}, {count} streams and {fixed} by hand and by changes of one byte, no difference, {:.1} s",
         o.seed,
+        start.elapsed().as_secs_f64()
+    );
+    Ok(())
+}
+
+fn run_compares(o: &Options) -> Result<(), String> {
+    let start = Instant::now();
+    let count = o.count.unwrap_or(20_000);
+    let mut tally = Tally::default();
+    let mut fixed = 0;
+    if o.from == 0 {
+        fixed += fixed_part("by hand", compares::by_hand, &mut tally)?;
+        fixed += fixed_part("every field", compares::every_field, &mut tally)?;
+    }
+    run_cases("compares", o, count, &mut tally, compares::one_case)?;
+    for call in compares::CALLS {
+        tally.print_answers(call);
+    }
+    for (what, count) in &tally.notes {
+        println!("{count:>9} {what}");
+    }
+    let mut missing = tally.missing(compares::MUST, &[], false);
+    missing.extend(compares::missing(&tally));
+    all_reached(missing, count, 2_000)?;
+    println!(
+        "compares: seed {}, {count} pairs of rings and {fixed} by hand and by field; {} fields of known types told, no difference, {:.1} s",
+        o.seed,
+        tally.fields.keys().filter(|(kind, _)| (1..=21).contains(kind)).count(),
         start.elapsed().as_secs_f64()
     );
     Ok(())

@@ -3,6 +3,7 @@
 
 mod abi;
 mod backward;
+mod compare;
 mod events;
 mod exports;
 mod record;

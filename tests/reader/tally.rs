@@ -12,6 +12,8 @@ pub struct Tally {
     pub accepted: BTreeMap<(u32, u64), u64>,
     /// (call, answer)
     pub answers: BTreeMap<(&'static str, u32), u64>,
+    /// (type, word): fields that were told as the first in which two records differ
+    pub fields: BTreeMap<(u64, usize), u64>,
     /// what else was counted
     pub notes: BTreeMap<&'static str, u64>,
 }

@@ -4,7 +4,8 @@
  * its tail), written back and its name copied; drained, read and looked up with the
  * image's table of events, or with a full one where it has none; offered and drained with it in a replay. A store of a full table is written and read, the
  * identifiers rising and not; and walked as those of
- * a backward ring; the ring's bytes as they lie are salvaged with it. Prints the greatest use of each call; more than ollskuvan.h says is a failure.
+ * a backward ring; the ring's bytes as they lie are salvaged with it,
+ * and the ring is compared with itself and with copies of it that differ in a byte. Prints the greatest use of each call; more than ollskuvan.h says is a failure.
  */
 #define _XOPEN_SOURCE 700
 #include <inttypes.h>
@@ -20,10 +21,10 @@
 enum { STACK = 1 << 16, MOST = 2560, MOST_OF_STORE = 16640 };
 enum { NOTHING, DRAIN, CHECK, COPY_NAME, READ, READ_ONE, WRITE, DRAIN_EVENTS, FIND_EVENT, READ_ONE_EVENTS,
     WRITE_STORE, READ_STORE, REPLAY, WALK_BACK,
-    WALK_BACK_EVENTS, SALVAGE, CALLS };
+    WALK_BACK_EVENTS, SALVAGE, COMPARE, CALLS };
 
 static const char *const names[CALLS] = { "nothing", "drain", "check", "copy_name", "read", "read_one", "write",
-    "drain_events", "find_event", "read_one_events", "write_store", "read_store", "replay", "walk_back", "walk_back_events", "salvage" };
+    "drain_events", "find_event", "read_one_events", "write_store", "read_store", "replay", "walk_back", "walk_back_events", "salvage", "compare" };
 static uint8_t stack[STACK] __attribute__((aligned(64)));
 static size_t used[CALLS];
 static ucontext_t here, there;
@@ -32,7 +33,7 @@ static ucontext_t here, there;
 static const struct image *image;
 static int call;
 static uint8_t record[OLLSKUVAN_RECORD_MAX], written[OLLSKUVAN_RECORD_MAX], scratch[OLLSKUVAN_RECORD_MAX];
-static uint8_t journal[OLLSKUVAN_RING_MAX], kept[OLLSKUVAN_RING_MAX];
+static uint8_t journal[OLLSKUVAN_RING_MAX], kept[OLLSKUVAN_RING_MAX], other[OLLSKUVAN_RING_MAX];
 static uint8_t trace[OLLSKUVAN_RECORD_MAX + 32], rooms[2 * 131072];
 static size_t size, trace_length;
 static uint64_t tail, newest; /* newest: where the walk begins */
@@ -108,6 +109,10 @@ static void make_the_call(void)
     case SALVAGE:
         answer = ollskuvan_salvage(image->ring, image->length, events, event_count, image->edition, kept, sizeof kept,
             journal, sizeof journal).answer;
+        break;
+    case COMPARE:
+        answer = ollskuvan_compare(image->ring, image->length, image->head, image->tail, scratch, sizeof scratch, other,
+            image->length, image->head, image->tail, written, sizeof written, events, event_count, image->edition).what;
         break;
     default:
         nothing();
@@ -197,6 +202,19 @@ static void make_trace(void)
     trace_length = 16 + size;
 }
 
+/* The ring beside itself, and beside copies in which one byte is another. */
+static void compare_changed(void)
+{
+    memcpy(other, image->ring, image->length);
+    measure(COMPARE);
+    for (size_t i = 0; i < 40; i++) {
+        uint8_t *at = other + (image->tail + i * 37) % image->length;
+        *at ^= 1;
+        measure(COMPARE);
+        *at ^= 1;
+    }
+}
+
 static void measure_image(const struct image *of)
 {
     image = of;
@@ -211,6 +229,7 @@ static void measure_image(const struct image *of)
     measure(DRAIN_EVENTS);
     turn_round();
     measure(SALVAGE);
+    compare_changed();
     memset(journal, 0, sizeof journal);
     measure(DRAIN);
     uint64_t taken = 0;

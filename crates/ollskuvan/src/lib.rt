@@ -2,17 +2,18 @@
 // numbers of 32 bits are not narrowed, so edition 257 is no edition and any sample_id_all but 0 is set.
 ghost use mathlib.Core.Path.{_≡_};
 ghost use lib.ListN.{length};
-ghost use Rattle.meaning.specs.Editions.{editions};
+ghost use Rattle.meaning.specs.Editions.{editions, known};
 ghost use Rattle.meaning.specs.Misc.{miscMeaning};
 ghost use Rattle.meaning.specs.Records.{recordCheck};
 ghost use Rattle.meaning.specs.Ring.{oneScratch};
 ghost use Rattle.meaning.specs.Drain.{told, drain};
-ghost use Rattle.meaning.specs.Events.{eventLimit, eventsOf, drainEvents, oneEventsScratch};
+ghost use Rattle.meaning.specs.Events.{eventLimit, eventsOf, askedEvents, drainEvents, oneEventsScratch};
 ghost use Rattle.meaning.specs.Backward.{walkTold, walkBack, walkEvents};
 ghost use Rattle.meaning.specs.Names.{nameAnswer, nameBuffer};
 ghost use Rattle.record.specs.Into.{readIntoAnswer, readIntoWords};
 ghost use Rattle.one.specs.Told.{oneTold, oneWords};
 ghost use Rattle.event_one.specs.Told.{oneEventsTold, oneEventsWords};
+ghost use Rattle.compare.specs.Compared.{eventReads, sideOf, compared, scratchThen};
 ghost use Rattle.readers.specs.Readers.{published, readersAt};
 ghost use Rattle.settings.specs.Versions.{versions};
 ghost use Rattle.settings.specs.Reading.{readStore, rowsAfter};
@@ -21,6 +22,7 @@ ghost use Rattle.replay.specs.Replay as Replay;
 ghost use Rattle.salvage.specs.Salvage.{salvageTold, salvageOut, salvageList};
 ghost use Rattle.writer.specs.Writer.{writeWordsAnswer, writeWordsBuffer};
 ghost use Rattle.ollskuvan.specs.Given.{given};
+use compare::Compared;
 use meaning::Attributes;
 use meaning::Drained;
 use meaning::Walked;
@@ -151,6 +153,40 @@ pub extern "C" fn ollskuvan_read_one_events(
 {
     let e = edition as u64;
     event_one::read_one_events(ring, head, tail, e, events, EVENTS, scratch, fields)
+}
+
+// Two rings, each with its counts and its scratch, under one table (M-108).
+#[no_mangle]
+pub extern "C" fn ollskuvan_compare(
+    left: &[u8],
+    lhead: u64,
+    ltail: u64,
+    lscratch: &mut [u8],
+    right: &[u8],
+    rhead: u64,
+    rtail: u64,
+    rscratch: &mut [u8],
+    events: &[[u64; 7]],
+    edition: u32,
+) -> Compared
+    ensures { λ r. ⌜ r ≡ compared (eventReads (known editions edition) (eventsOf (now (events .entry)))) (sideOf (askedEvents eventLimit editions edition (eventsOf (now (events .entry)))) (now (left .entry)) lhead ltail (now (lscratch .entry))) (sideOf (askedEvents eventLimit editions edition (eventsOf (now (events .entry)))) (now (right .entry)) rhead rtail (now (rscratch .entry))) ⌝ }
+    ensures { λ r. ⌜ now (lscratch .exit) ≡ scratchThen r (sideOf (askedEvents eventLimit editions edition (eventsOf (now (events .entry)))) (now (left .entry)) lhead ltail (now (lscratch .entry))) ⌝ }
+    ensures { λ r. ⌜ now (rscratch .exit) ≡ scratchThen r (sideOf (askedEvents eventLimit editions edition (eventsOf (now (events .entry)))) (now (right .entry)) rhead rtail (now (rscratch .entry))) ⌝ }
+{
+    let e = edition as u64;
+    comparing::compare_rings(
+        left,
+        lhead,
+        ltail,
+        lscratch,
+        right,
+        rhead,
+        rtail,
+        rscratch,
+        events,
+        EVENTS,
+        e,
+    )
 }
 
 // The parameter is not named `record`, which is a word of the proofs' language.

@@ -20,3 +20,4 @@ pub mod SettingsExamples
 pub mod Replay
 pub mod Salvage
 pub mod SalvageExamples
+pub mod Compared

@@ -25,6 +25,8 @@ use Rattle.meaning.specs.declared.Shape.the-variants.{Bytes}
 use Rattle.meaning.specs.Items.{span}
 use Rattle.meaning.specs.Schema.{always}
 use Rattle.meaning.specs.Values.{Slot}
+use Rattle.meaning.specs.Editions.{editions}
+use Rattle.meaning.specs.Events.{eventLimit, eventsOf, askedEvents}
 use Rattle.table.specs.Rows.{rows, itemOf}
 use Rattle.blocks.specs.Seen.{Leaves, Closes}
 use Rattle.blocks.specs.Steady.{oneWidth, widthOf, steady, total}
@@ -56,6 +58,11 @@ use Rattle.event_drain.proofs as eventful
 use Rattle.walk_back.proofs as walks
 use Rattle.event_one.proofs as single
 use Rattle.salvage.proofs as salvage
+use Rattle.extents.proofs as extents
+use Rattle.extents.specs.Extent.{passed-one}
+use Rattle.comparing.proofs as comparing
+use Rattle.compare.specs.declared.Compared.{Compared}
+use Rattle.compare.specs.Compared.{Side, sideOf, scratchThen}
 use Rattle.fast_drain.proofs as fast
 use Rattle.replay.proofs as replay
 use Rattle.ollskuvan.proofs as ollskuvan
@@ -590,6 +597,31 @@ event-read-one-scratch κs a x y s t p q = same (p .1 .0) (q .1 .0)
 pub event-read-one-words : Seen single.read_one_events.Kinds.ps single.read_one_events.Kinds.r single.read_one_events.Reads.Learnt (λ κs x s. now (s .1 .1 .1 .1 .1 .1 .1 .0))
 event-read-one-words κs a x y s t p q = same (p .1 .1) (q .1 .1)
 
+-- ---- two rings compared: bytes of two records, one item of both, what is told, and both scratches at exit
+
+-- what a scratch holds is an equation over what is told, which is one thing
+told-scratch : (l : Side) (x y z : Compared) (u v : List ℕ) → x ≡ z → y ≡ z → u ≡ scratchThen x l → v ≡ scratchThen y l → u ≡ v
+told-scratch l x y z u v p q a b = a ∙ ap (λ (c : Compared). scratchThen c l) (same p q) ∙ sym b
+
+pub extents-same-bytes : Result extents.same_bytes.Kinds.ps extents.same_bytes.Kinds.r extents.same_bytes.Reads.Learnt
+extents-same-bytes κs a x y s t p q = same p q
+
+pub extents-pass-item : Result extents.pass_item.Kinds.ps extents.pass_item.Kinds.r extents.pass_item.Reads.Learnt
+extents-pass-item κs a x y s t p q = passed-one _ _ _ _ _ _ _ x y p q
+
+pub comparing-compare-rings : Result comparing.compare_rings.Kinds.ps comparing.compare_rings.Kinds.r comparing.compare_rings.Reads.Learnt
+comparing-compare-rings κs a x y s t p q = same (p .0) (q .0)
+
+pub comparing-compare-rings-left : Seen comparing.compare_rings.Kinds.ps comparing.compare_rings.Kinds.r comparing.compare_rings.Reads.Learnt (λ κs x s. now (s .1 .1 .1 .0))
+comparing-compare-rings-left κs a x y s t p q =
+    told-scratch (sideOf (askedEvents (a .1 .1 .1 .1 .1 .1 .1 .1 .1 .0) editions (a .1 .1 .1 .1 .1 .1 .1 .1 .1 .1 .0) (eventsOf (now (a .1 .1 .1 .1 .1 .1 .1 .1 .0)))) (now (a .0)) (a .1 .0) (a .1 .1 .0) (now (a .1 .1 .1 .0)))
+    x y _ _ _ (p .0) (q .0) (p .1 .0) (q .1 .0)
+
+pub comparing-compare-rings-right : Seen comparing.compare_rings.Kinds.ps comparing.compare_rings.Kinds.r comparing.compare_rings.Reads.Learnt (λ κs x s. now (s .1 .1 .1 .1 .1 .1 .1 .0))
+comparing-compare-rings-right κs a x y s t p q =
+    told-scratch (sideOf (askedEvents (a .1 .1 .1 .1 .1 .1 .1 .1 .1 .0) editions (a .1 .1 .1 .1 .1 .1 .1 .1 .1 .1 .0) (eventsOf (now (a .1 .1 .1 .1 .1 .1 .1 .1 .0)))) (now (a .1 .1 .1 .1 .0)) (a .1 .1 .1 .1 .1 .0) (a .1 .1 .1 .1 .1 .1 .0) (now (a .1 .1 .1 .1 .1 .1 .1 .0)))
+    x y _ _ _ (p .0) (q .0) (p .1 .1) (q .1 .1)
+
 -- ---- fast_drain, under the same contract
 
 pub fast-told : Result fast.drain.Kinds.ps fast.drain.Kinds.r fast.drain.Reads.Learnt
@@ -708,6 +740,19 @@ ollskuvan-drain-events-journal κs a x y s t p q = same (p .1 .0) (q .1 .0)
 
 pub ollskuvan-drain-events-scratch : Seen ollskuvan.ollskuvan_drain_events.Kinds.ps ollskuvan.ollskuvan_drain_events.Kinds.r ollskuvan.ollskuvan_drain_events.Reads.Learnt (λ κs x s. now (s .1 .1 .1 .1 .1 .1 .0))
 ollskuvan-drain-events-scratch κs a x y s t p q = same (p .1 .1) (q .1 .1)
+
+pub ollskuvan-compare : Result ollskuvan.ollskuvan_compare.Kinds.ps ollskuvan.ollskuvan_compare.Kinds.r ollskuvan.ollskuvan_compare.Reads.Learnt
+ollskuvan-compare κs a x y s t p q = same (p .0) (q .0)
+
+pub ollskuvan-compare-left : Seen ollskuvan.ollskuvan_compare.Kinds.ps ollskuvan.ollskuvan_compare.Kinds.r ollskuvan.ollskuvan_compare.Reads.Learnt (λ κs x s. now (s .1 .1 .1 .0))
+ollskuvan-compare-left κs a x y s t p q =
+    told-scratch (sideOf (askedEvents eventLimit editions (a .1 .1 .1 .1 .1 .1 .1 .1 .1 .0) (eventsOf (now (a .1 .1 .1 .1 .1 .1 .1 .1 .0)))) (now (a .0)) (a .1 .0) (a .1 .1 .0) (now (a .1 .1 .1 .0)))
+    x y _ _ _ (p .0) (q .0) (p .1 .0) (q .1 .0)
+
+pub ollskuvan-compare-right : Seen ollskuvan.ollskuvan_compare.Kinds.ps ollskuvan.ollskuvan_compare.Kinds.r ollskuvan.ollskuvan_compare.Reads.Learnt (λ κs x s. now (s .1 .1 .1 .1 .1 .1 .1 .0))
+ollskuvan-compare-right κs a x y s t p q =
+    told-scratch (sideOf (askedEvents eventLimit editions (a .1 .1 .1 .1 .1 .1 .1 .1 .1 .0) (eventsOf (now (a .1 .1 .1 .1 .1 .1 .1 .1 .0)))) (now (a .1 .1 .1 .1 .0)) (a .1 .1 .1 .1 .1 .0) (a .1 .1 .1 .1 .1 .1 .0) (now (a .1 .1 .1 .1 .1 .1 .1 .0)))
+    x y _ _ _ (p .0) (q .0) (p .1 .1) (q .1 .1)
 
 pub ollskuvan-read-one-events : Result ollskuvan.ollskuvan_read_one_events.Kinds.ps ollskuvan.ollskuvan_read_one_events.Kinds.r ollskuvan.ollskuvan_read_one_events.Reads.Learnt
 ollskuvan-read-one-events κs a x y s t p q = same (p .0) (q .0)
