@@ -156,6 +156,7 @@ struct image image_of_event(const struct image *image, const uint64_t fields[OLL
     of.read_format = v->read_format;
     of.user_mask = v->user_mask;
     of.interrupt_mask = v->interrupt_mask;
+    of.branch_sample_type = v->branch_sample_type;
     of.sample_id_all = v->sample_id_all != 0;
     return of;
 }
