@@ -287,7 +287,7 @@ pub extern "C" fn ollskuvan_read_store(store: &[u8], events: &mut [[u64; 7]]) ->
     ensures { λ r. ⌜ r ≡ readStore versions editions (now (store .entry)) (length (now (events .entry))) ⌝ }
     ensures { λ _. ⌜ now (events .exit) ≡ rowsAfter versions editions (now (store .entry)) (now (events .entry)) ⌝ }
 {
-    settings::read_store(store, events)
+    settings_read::read_store(store, events)
 }
 
 // Settings written into the caller's buffer: how many bytes, or a refusal.
@@ -303,7 +303,7 @@ pub extern "C" fn ollskuvan_write_store(
     ensures { λ _. ⌜ now (buffer .exit) ≡ bufferAfter writes editions (now (events .entry)) ring edition budget (now (buffer .entry)) ⌝ }
 {
     let e = edition as u64;
-    settings::write_store(events, ring, e, budget, buffer)
+    settings_write::write_store(events, ring, e, budget, buffer)
 }
 
 // A recorded trace, played over a simulated ring: `rooms` is the ring and then the scratch, each half of it; one journal for all
@@ -322,7 +322,7 @@ pub extern "C" fn ollskuvan_replay(
     ensures { λ _. ⌜ now (journal .exit) ≡ Replay.replayEvents eventLimit editions edition (eventsOf (now (events .entry))) (now (trace .entry)) start (now (rooms .entry)) (now (journal .entry)) .now .journal ⌝ }
 {
     let e = edition as u64;
-    replay::replay(trace, start, e, events, EVENTS, rooms, journal)
+    replaying::replay(trace, start, e, events, EVENTS, rooms, journal)
 }
 
 // A backward ring, from head upward: the newest record is the first. No tail moves.

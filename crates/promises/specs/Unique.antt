@@ -48,7 +48,8 @@ use Rattle.exact.proofs as exact
 use Rattle.plan.proofs as plan
 use Rattle.names.proofs as names
 use Rattle.ring.proofs as ring
-use Rattle.settings.proofs as settings
+use Rattle.settings_read.proofs as settings-read
+use Rattle.settings_write.proofs as settings-write
 use Rattle.readers.proofs as readers
 use Rattle.shown.proofs as shown
 use Rattle.one.proofs as one
@@ -64,7 +65,7 @@ use Rattle.comparing.proofs as comparing
 use Rattle.compare.specs.declared.Compared.{Compared}
 use Rattle.compare.specs.Compared.{Side, sideOf, scratchThen}
 use Rattle.fast_drain.proofs as fast
-use Rattle.replay.proofs as replay
+use Rattle.replaying.proofs as replaying
 use Rattle.ollskuvan.proofs as ollskuvan
 use Rattle.writer_words.proofs as words
 use Rattle.writer_forms.proofs as forms
@@ -635,16 +636,16 @@ fast-scratch κs a x y s t p q = same (p .1 .1) (q .1 .1)
 
 -- ---- settings: the store, read and written
 
-pub settings-read-store : Result settings.read_store.Kinds.ps settings.read_store.Kinds.r settings.read_store.Reads.Learnt
+pub settings-read-store : Result settings-read.read_store.Kinds.ps settings-read.read_store.Kinds.r settings-read.read_store.Reads.Learnt
 settings-read-store κs a x y s t p q = same (p .0) (q .0)
 
-pub settings-read-store-rows : Seen settings.read_store.Kinds.ps settings.read_store.Kinds.r settings.read_store.Reads.Learnt (λ κs x s. now (s .1 .0))
+pub settings-read-store-rows : Seen settings-read.read_store.Kinds.ps settings-read.read_store.Kinds.r settings-read.read_store.Reads.Learnt (λ κs x s. now (s .1 .0))
 settings-read-store-rows κs a x y s t p q = same (p .1) (q .1)
 
-pub settings-write-store : Result settings.write_store.Kinds.ps settings.write_store.Kinds.r settings.write_store.Reads.Learnt
+pub settings-write-store : Result settings-write.write_store.Kinds.ps settings-write.write_store.Kinds.r settings-write.write_store.Reads.Learnt
 settings-write-store κs a x y s t p q = same (p .0) (q .0)
 
-pub settings-write-store-buffer : Seen settings.write_store.Kinds.ps settings.write_store.Kinds.r settings.write_store.Reads.Learnt (λ κs x s. now (s .1 .1 .1 .1 .0))
+pub settings-write-store-buffer : Seen settings-write.write_store.Kinds.ps settings-write.write_store.Kinds.r settings-write.write_store.Reads.Learnt (λ κs x s. now (s .1 .1 .1 .1 .0))
 settings-write-store-buffer κs a x y s t p q = same (p .1) (q .1)
 
 -- ---- walk_back: the walk over a backward ring
@@ -689,13 +690,13 @@ readers-publish κs a x y s t p q = same p q
 
 -- ---- replay
 
-pub replay-replay : Result replay.replay.Kinds.ps replay.replay.Kinds.r replay.replay.Reads.Learnt
+pub replay-replay : Result replaying.replay.Kinds.ps replaying.replay.Kinds.r replaying.replay.Reads.Learnt
 replay-replay κs a x y s t p q = same (p .0) (q .0)
 
-pub replay-replay-rooms : Seen replay.replay.Kinds.ps replay.replay.Kinds.r replay.replay.Reads.Learnt (λ κs x s. now (s .1 .1 .1 .1 .1 .0))
+pub replay-replay-rooms : Seen replaying.replay.Kinds.ps replaying.replay.Kinds.r replaying.replay.Reads.Learnt (λ κs x s. now (s .1 .1 .1 .1 .1 .0))
 replay-replay-rooms κs a x y s t p q = same (p .1 .0) (q .1 .0)
 
-pub replay-replay-journal : Seen replay.replay.Kinds.ps replay.replay.Kinds.r replay.replay.Reads.Learnt (λ κs x s. now (s .1 .1 .1 .1 .1 .1 .0))
+pub replay-replay-journal : Seen replaying.replay.Kinds.ps replaying.replay.Kinds.r replaying.replay.Reads.Learnt (λ κs x s. now (s .1 .1 .1 .1 .1 .1 .0))
 replay-replay-journal κs a x y s t p q = same (p .1 .1) (q .1 .1)
 
 -- ---- salvage
