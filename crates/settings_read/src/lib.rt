@@ -280,4 +280,3 @@ pub fn read_store(bytes: &[u8], rows: &mut [[u64; 7]]) -> Settings
         answer: 0,
     }
 }
-

@@ -8,8 +8,8 @@ use denote.Ref.{now}
 use borrow.Author.Needs.{needs}
 use Rattle.meaning.specs.Bytes.{put}
 use Rattle.replay.specs.Within.{gathered-not, gathered}
-use Rattle.replaying.proofs.gather_within.Statement.{statement}
-use Rattle.replaying.proofs.gather_within.Tie as tie
+use Rattle.rooms.proofs.gather_within.Statement.{statement}
+use Rattle.rooms.proofs.gather_within.Tie as tie
 
 returns : tie.Need-returns
 returns c =

@@ -13,8 +13,8 @@ use Rattle.meaning.specs.Drain.{journalKind, entry}
 use Rattle.meaning.specs.Events.{eventsOf, judgeEvents}
 use Rattle.laws.specs.Rings.{record-length}
 use Rattle.replay.specs.Within.{shown-within}
-use Rattle.replaying.proofs.take_within.Statement.{statement}
-use Rattle.replaying.proofs.take_within.Tie as tie
+use Rattle.rooms.proofs.take_within.Statement.{statement}
+use Rattle.rooms.proofs.take_within.Tie as tie
 
 -- what is shown is the record, whichever half it lies in
 bytes : (c : tie.After-shown) → now (c .shown .result) ≡ recordAt (take (c .before .before .before .before .before .before .before .before .before .before .args .h) (now (c .before .before .before .before .before .before .before .before .before .before .args .rooms))) (c .before .before .before .before .before .before .before .before .before .before .args .f .place) (c .before .before .before .before .before .before .before .before .before .before .args .f .size)

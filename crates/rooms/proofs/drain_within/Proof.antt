@@ -14,8 +14,8 @@ use Rattle.meaning.specs.Drain.{End, told}
 use Rattle.meaning.specs.Events.{eventsOf, judgeEvents}
 use Rattle.laws.specs.Rings.{Going, distance-lt}
 use Rattle.replay.specs.Within.{Together, together-first, together-going, together-inside, together-end, together-again}
-use Rattle.replaying.proofs.drain_within.Statement.{statement}
-use Rattle.replaying.proofs.drain_within.Tie as tie
+use Rattle.rooms.proofs.drain_within.Statement.{statement}
+use Rattle.rooms.proofs.drain_within.Tie as tie
 
 abbrev Inv-loop : tie.InvT-loop
 Inv-loop rooms₀ h head tail e rows budget journal₀ t₀ left₀ bytes₀ at₀ rooms journal t left bytes at =

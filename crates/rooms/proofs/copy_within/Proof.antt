@@ -8,8 +8,8 @@ use denote.Ref.{now}
 use Rattle.meaning.specs.Bytes.{put}
 use Rattle.laws.specs.Put.{put-nil, length-put}
 use Rattle.replay.specs.Within.{copied-on}
-use Rattle.replaying.proofs.copy_within.Statement.{statement}
-use Rattle.replaying.proofs.copy_within.Tie as tie
+use Rattle.rooms.proofs.copy_within.Statement.{statement}
+use Rattle.rooms.proofs.copy_within.Tie as tie
 
 abbrev Inv-loop : tie.InvT-loop
 Inv-loop d₀ from to n j₀ d j = (d ≡ put d₀ to (take j (drop from d₀))) × (j ≤ n) × (length d ≡ length d₀)

@@ -10,10 +10,10 @@ use Rattle.meaning.specs.Bytes.{put}
 use Rattle.replay.specs.Replay.{putRound}
 use Rattle.replay.specs.Round.{round-past, round-whole}
 use borrow.Author.Needs.{needs}
-use Rattle.replaying.proofs.put_round.Statement.{statement}
-use Rattle.replaying.proofs.put_round.Tie as tie
-use Rattle.replaying.proofs.put_round.Reads as reads
-use Rattle.replaying.proofs.put_round.Lts as lts
+use Rattle.rooms.proofs.put_round.Statement.{statement}
+use Rattle.rooms.proofs.put_round.Tie as tie
+use Rattle.rooms.proofs.put_round.Reads as reads
+use Rattle.rooms.proofs.put_round.Lts as lts
 use Rattle.wire.proofs.copy_at.Reads as copy-at-reads
 
 copy-at-requires : tie.Need-copy-at-requires
