@@ -82,7 +82,7 @@ s/r->set\.events != EVENTS \|\| memcmp.*$/r->set.events != EVENTS ||/
 s/^(    case OLLSKUVAN_STOP_SIZE: .*)$/    case 99:/
 s/^(    case OLLSKUVAN_REFUSED_IDENTIFIER: .*)$/    case 99:/
 s/d\.stop != OLLSKUVAN_STOP_DISTANCE \? head - d\.tail : 0/head - d.tail + 8/
-s/^(        give_back\(r, )d\.tail\);/\1head);/
+s/^(    give_back\(r, )d\.tail\);/\1head);/
 s/^(        give_back\(r, )p\.tail\);/\1head);/
 s/^        d\.tail = head;$/        (void)head;/
 s/look_at\(r, head \+ w\.bytes, /look_at(r, head, /

@@ -190,6 +190,8 @@ static void scene_step(const char *folder)
 static void print_turn(struct reader *logger, struct reader *report, uint64_t from)
 {
     uint32_t answer = turn(&ring, logger, report);
+    if (at_stop(logger->stop) != GO_ON || at_stop(report->stop) != GO_ON)
+        fail("readers", "a reader stopped");
     if (logger->tail != ring.page->data_head || ring.page->data_tail != report->tail)
         fail("readers", "the kernel's tail is not the slower one's");
     printf("logger %" PRIu64 ", report %" PRIu64 ", answer %u, %" PRIu64 " bytes given back", logger->taken, report->taken, answer,
