@@ -32,7 +32,10 @@ numbers() { # PAGE
 }
 
 build() { # PAGE FOLDER
-  mkdir -p "$2" && blocks "$1" '```c' >"$2/page.c" || return 1
+  mkdir -p "$2" && blocks "$1" '```c' >"$2/page.new" || return 1
+  [ -n "${built:-}" ] && [ -x "$2/program" ] && cmp -s "$2/page.new" "$2/page.c" && return # with --teeth: the same C once more
+  rm -f "$2/program"
+  mv "$2/page.new" "$2/page.c" || return 1
   "${CC:-cc}" -std=gnu11 -Wall -Wextra -Werror -g -O1 -Iinclude -I"$2" -Itests/snippets -o "$2/program" \
     tests/snippets/main.c tests/snippets/numbers.c $archive
 }
@@ -41,6 +44,7 @@ build() { # PAGE FOLDER
 look() { # PAGE FOLDER
   local scene named
   numbers "$1" || return 1
+  grep -nE '^ *```' "$1" | grep -vE '^[0-9]+:```(c|output [a-z]+)?$' && { echo 'a block that is neither C nor an output'; return 1; }
   named=$(sed -nE 's/^```output (.*)/\1/p' "$1" | tr '\n' ' ')
   [ "$named" = "$scenes " ] || { echo "the page's outputs are '$named' and not '$scenes '"; return 1; }
   build "$1" "$2" || { echo 'the C of the page does not compile'; return 1; }
@@ -50,6 +54,9 @@ look() { # PAGE FOLDER
   done
 }
 
+# a busy machine may fill the ring with its own records once: what errs errs every time
+live() { timeout 60 $out/program live $out; }
+
 # each of these must be seen: a C block that is missing, a line of an output that differs, a call that is wrong, a number that is
 planted=0
 bites() { # WHAT: the page was broken in this way
@@ -57,14 +64,33 @@ bites() { # WHAT: the page was broken in this way
   look $out/teeth/page.md $out/teeth >$out/teeth/said 2>&1 && wrong "not seen: $1"
   planted=$((planted + 1))
 }
+# what a live ring alone shows, where there is one
+live_teeth() {
+  local edit
+  build $page $out/teeth || wrong 'the page is wrong as it stands'
+  $out/teeth/program live $out/teeth | grep -q skipped && { echo 'snippets: nothing is planted in the live part'; return; }
+  while IFS= read -r edit; do
+    sed -E "$edit" $page >$out/teeth/page.md
+    cmp -s $page $out/teeth/page.md && wrong "nothing was planted: $edit"
+    build $out/teeth/page.md $out/teeth || wrong "does not compile: $edit"
+    timeout 60 $out/teeth/program live $out/teeth >$out/teeth/said 2>&1 && wrong "not seen live: $edit"
+    planted=$((planted + 1))
+  done <<'PLANTS'
+s/PERF_EVENT_IOC_SET_OUTPUT, r->fds\[0\]\) != 0/PERF_EVENT_IOC_RESET, 0) != 0/
+s/PERF_EVENT_IOC_ID, &r->table\[i\]\.identifier\)/PERF_EVENT_IOC_RESET, 0)/
+s/\.sample_id_all = 1, \.disabled = 1/.disabled = 1/
+s/\.write_backward = backward,/.write_backward = backward \&\& 0,/
+PLANTS
+}
 teeth() {
   local count block line edit
   mkdir -p $out/teeth
   cp $page $out/teeth/page.md
   look $out/teeth/page.md $out/teeth || wrong 'the page is wrong as it stands'
+  built=1
   count=$(grep -c '^```c$' $page)
   for block in $(seq "$count"); do
-    awk -v due="$block" '$0 == "```c" && ++n == due { print "```text"; next } { print }' $page >$out/teeth/page.md
+    awk -v due="$block" '$0 == "```c" && ++n == due { left = 1 } !left { print } /^```$/ { left = 0 }' $page >$out/teeth/page.md
     bites "C block $block left out"
   done
   for line in $(awk '/^```output / { inside = 1; next } /^```$/ { inside = 0 } inside { print NR }' $page); do
@@ -91,7 +117,10 @@ s/r->scratch, sizeof r->scratch, f, OLLSKUVAN_FIELDS\)/r->scratch, sizeof r->scr
 s/^- 13, `OLLSKUVAN_STOP_OVERWRITTEN`/- 12, `OLLSKUVAN_STOP_OVERWRITTEN`/
 s/^- 27, `OLLSKUVAN_REFUSED_NO_IDENTIFIER`/- 27/
 s/^```output flight$/```output walk/
+0,/^```c$/s/^```c$/```C/
+s/s->name, sizeof s->name\)/s->name, 4)/
 PLANTS
+  live_teeth
   echo "snippets: $planted broken pages, each seen"
 }
 
@@ -101,7 +130,7 @@ case ${1:-} in
 *)
   page=${1:-$page}
   look "$page" $out || wrong "$page: see above"
-  timeout 60 $out/program live $out || wrong "$page: the live part failed"
+  live || live || live || wrong "$page: the live part failed"
   echo "snippets: $(grep -c '^```c$' "$page") blocks of C, $(wc -w <<<"$scenes") outputs and $(grep -cE '^- [0-9]+, `OLLSKUVAN_' "$page") numbers of $page are as it says"
   ;;
 esac
