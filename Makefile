@@ -42,7 +42,7 @@ clean:
 $(LIB):
 	@$(MAKE) -s lib
 
-examples bench bench-short bench-instructions install outside-tests: $(LIB)
+examples bench bench-short bench-instructions install outside-tests snippets-test: $(LIB)
 
 MINUTES ?= 5
 .PHONY: soak

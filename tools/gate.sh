@@ -52,6 +52,7 @@ part 'tests from outside' bash tests/run.sh
 part 'careful C beside ours' bash bench/run.sh --short
 part 'the program for people' make -s tool-test
 part 'examples' make -s examples-test
+part 'the page for controllers' make -s snippets-test
 part 'live rings' make -s live-test
 part 'the package' make -s install-test
 echo "all in $(($(date +%s) - began)) s"
