@@ -3,7 +3,6 @@
 
 #include <errno.h>
 #include <linux/perf_event.h>
-#include <stdarg.h>
 #include <stdio.h>
 #include <stdlib.h>
 #include <string.h>
@@ -15,19 +14,7 @@
 
 #include "bytes.h"
 #include "ollskuvan.h"
-
-static bool refuse(char why[WHY_ROOM], const char *format, ...) __attribute__((format(printf, 2, 3)));
-
-static bool refuse(char why[WHY_ROOM], const char *format, ...)
-{
-    va_list list;
-    va_start(list, format);
-    int length = vsnprintf(why, WHY_ROOM, format, list);
-    va_end(list);
-    if (length < 0 || length >= WHY_ROOM) /* never half a reason */
-        memcpy(why, "the reason does not fit its room", sizeof "the reason does not fit its room");
-    return false;
-}
+#include "why.h"
 
 /* ---- events ---- */
 

@@ -7,7 +7,7 @@
 #include <string.h>
 
 #include "bytes.h"
-#include "commands.h"
+#include "command.h"
 #include "messages.h"
 
 enum { MOST = IMAGE_HEADER_BYTES + OLLSKUVAN_RING_MAX + IMAGE_BRANCH_BYTES };
@@ -89,6 +89,19 @@ void image_free(struct image *image)
 {
     free(image->bytes);
     image->bytes = NULL;
+}
+
+int image_command(int argc, char **argv, const struct takes *takes, int (*print)(const struct image *image))
+{
+    struct image image;
+    int status;
+    if (take_words(argc, argv, takes, &status) < 0)
+        return status;
+    if (!image_read(&image, argv[1]))
+        return STATUS_FAILED;
+    status = print(&image);
+    image_free(&image);
+    return finished(status);
 }
 
 /* ---- what is wrong with it ---- */

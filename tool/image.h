@@ -38,6 +38,10 @@ struct image {
 bool image_read(struct image *image, const char *path);
 void image_free(struct image *image);
 
+/* A command that takes one image: reads it, prints it and gives the exit status. */
+struct takes;
+int image_command(int argc, char **argv, const struct takes *takes, int (*print)(const struct image *image));
+
 /* True if it is no image: too short, or its ring has a length that row 1
  * refuses. It was said what is wrong. */
 bool image_is_none(const struct image *image);

@@ -10,7 +10,7 @@ use crate::backward::{self, Walked};
 use crate::compare;
 use crate::events::{self, Event};
 use crate::record;
-use crate::replay;
+use crate::replay::{self, Replayed};
 use crate::ring::{self, One, Ring};
 use crate::rules::{self, Attributes};
 use crate::store::{self, Settings};
