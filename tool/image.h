@@ -20,8 +20,6 @@
 #include "events.h"
 #include "ollskuvan.h"
 
-enum { IMAGE_HEADER_BYTES = 50, IMAGE_BRANCH_BYTES = 8 };
-
 struct image {
     const char *name; /* for messages */
     uint64_t head, tail, sample_type, read_format, user_mask, interrupt_mask, branch_sample_type;
@@ -29,7 +27,7 @@ struct image {
     struct event_table table; /* count 0: the attributes above serve */
     const uint8_t *ring;
     size_t length;  /* of the ring; one more than is allowed stands for any longer one */
-    size_t present; /* bytes of the input; below IMAGE_HEADER_BYTES all numbers above are 0 */
+    size_t present; /* bytes of the input; below IMAGE_HEADER all numbers above are 0 */
     uint8_t *bytes; /* all of it, freed by image_free */
 };
 
