@@ -29,6 +29,21 @@ struct ollskuvan_drained run_events(events_function *drain, const struct made_ri
 /* Zeroed memory, or the end of the program. */
 void *grab(size_t bytes);
 
+/* compare.c: two rooms for each side, left for careful C and right for ours, as long as they are lent now, with a guard on
+ * either end. */
+enum { GUARD = 64 };
+struct rooms {
+    uint8_t *first, *second; /* behind their guards */
+};
+struct sides {
+    struct rooms left, right;
+    size_t first_len, second_len;
+};
+void open_sides(struct sides *sides, size_t first_most, size_t second_most);
+void close_sides(struct sides *sides);
+void spoil_sides(struct sides *sides); /* the same bytes on both sides, which nobody would write */
+bool same_sides(const struct sides *sides);
+
 /* compare.c: the exit status. */
 int compare(uint64_t rings, uint64_t seed);
 int compare_tables(uint64_t rings, uint64_t seed);
@@ -37,6 +52,11 @@ int compare_walks(uint64_t rings, uint64_t seed); /* of backward rings, without 
 /* timing.c: processor time of this thread; the middle one of the values, which are sorted then. */
 uint64_t thread_ns(void);
 double median(double *values, size_t count);
+/* The middle times of as many calls of each, by turns; `run` tells by its last argument whose call is due. */
+struct two_times {
+    double careful, ours;
+};
+struct two_times time_both(void (*run)(void *on, bool ours), void *on, size_t rounds);
 int time_workloads(size_t rounds);
 int time_sizes(size_t rounds);
 int time_values(size_t rounds);

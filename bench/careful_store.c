@@ -2,33 +2,12 @@
  * The store of settings in careful C, written for speed as careful.c is: one pass
  * over the entries, nothing written before all is known.
  */
+#include "bytes.h"
 #include "stores.h"
 
 #include <stdbool.h>
-#include <string.h>
 
 enum { HEAD = 6, FIRST = 8, ROW = 55, LAST = 19, INDEX = 1 };
-
-static uint64_t load64(const uint8_t *at)
-{
-    uint64_t x;
-    memcpy(&x, at, 8);
-    return x;
-}
-
-static uint32_t load32(const uint8_t *at)
-{
-    uint32_t x;
-    memcpy(&x, at, 4);
-    return x;
-}
-
-static uint32_t load16(const uint8_t *at)
-{
-    uint16_t x;
-    memcpy(&x, at, 2);
-    return x;
-}
 
 static bool ring_allowed(uint64_t length)
 {

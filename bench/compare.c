@@ -17,8 +17,6 @@
 #define ASAN_UNPOISON_MEMORY_REGION(at, bytes) ((void)(at), (void)(bytes))
 #endif
 
-enum { GUARD = 64 };
-
 enum { ANSWERS = 34, STOPS = 14, KINDS = 23 };
 
 struct tally {
@@ -38,6 +36,50 @@ static void count_records(struct tally *tally, const uint8_t *journal, uint64_t 
         tally->records++;
     }
 }
+
+/* ---- the rooms of both sides ---- */
+
+static struct rooms open_rooms(size_t first_most, size_t second_most)
+{
+    return (struct rooms){ (uint8_t *)grab(first_most + 2 * GUARD) + GUARD, (uint8_t *)grab(second_most + 2 * GUARD) + GUARD };
+}
+
+void open_sides(struct sides *sides, size_t first_most, size_t second_most)
+{
+    *sides = (struct sides){ open_rooms(first_most, second_most), open_rooms(first_most, second_most), first_most, second_most };
+}
+
+static void close_rooms(struct rooms *rooms)
+{
+    free(rooms->first - GUARD);
+    free(rooms->second - GUARD);
+}
+
+void close_sides(struct sides *sides)
+{
+    close_rooms(&sides->left);
+    close_rooms(&sides->right);
+}
+
+static void spoil_rooms(struct rooms *rooms, size_t first_len, size_t second_len)
+{
+    memset(rooms->first - GUARD, 0xa5, first_len + 2 * GUARD);
+    memset(rooms->second - GUARD, 0x5a, second_len + 2 * GUARD);
+}
+
+void spoil_sides(struct sides *sides)
+{
+    spoil_rooms(&sides->left, sides->first_len, sides->second_len);
+    spoil_rooms(&sides->right, sides->first_len, sides->second_len);
+}
+
+bool same_sides(const struct sides *sides)
+{
+    return memcmp(sides->left.first - GUARD, sides->right.first - GUARD, sides->first_len + 2 * GUARD) == 0 &&
+           memcmp(sides->left.second - GUARD, sides->right.second - GUARD, sides->second_len + 2 * GUARD) == 0;
+}
+
+/* ---- drains ---- */
 
 /* Buffers of one side: exactly as long as lent, with a guard on either end. */
 struct side {

@@ -381,6 +381,16 @@ static void lay(struct made_ring *ring, uint64_t count, const uint8_t *record, s
         ring->bytes[(count + i) % ring->length] = record[i];
 }
 
+/* A record behind those that the ring holds; false where it has no room for it. */
+static bool append(struct made_ring *ring, const uint8_t *record, size_t size)
+{
+    if (ring->head - ring->tail + size > ring->length)
+        return false;
+    lay(ring, ring->head, record, size);
+    ring->head += size;
+    return true;
+}
+
 static void some_ends(struct made_random *r, struct made_ring *ring)
 {
     switch (made_below(r, 30)) {
@@ -431,7 +441,7 @@ void made_case(struct made_random *r, struct made_ring *ring)
     ring->tail = ring->head = some_count(r, ring->length);
 
     unsigned faults = (unsigned)made_below(r, 4) * 3; /* of 10 records, so many are damaged */
-    size_t used = 0, records = 0;
+    size_t records = 0;
     while (ring->length >= 64) {
         size_t most = ring->length < 512 ? ring->length / 4 : 512;
         unsigned type = one_in(r, 3) ? 9 : 1 + (unsigned)made_below(r, 21);
@@ -441,11 +451,8 @@ void made_case(struct made_random *r, struct made_ring *ring)
         size_t size = made_record(r, &ring->attributes, type, one_in(r, 50) && most <= 512 ? 4 * most : most, record, &aims);
         if (made_below(r, 10) < faults && one_in(r, 2))
             size = damage(r, record, size, &aims);
-        if (used + size > ring->length)
+        if (!append(ring, record, size))
             break;
-        lay(ring, ring->head, record, size);
-        ring->head += size;
-        used += size;
         records++;
     }
     some_ends(r, ring);
@@ -576,14 +583,11 @@ void made_table_case(struct made_random *r, struct made_ring *ring)
     memset(ring->bytes, 0, ring->length);
     ring->tail = ring->head = some_count(r, ring->length);
     unsigned faults = (unsigned)made_below(r, 4) * 3;
-    size_t used = 0, records = 0;
+    size_t records = 0;
     while (ring->length >= 64) {
         size_t size = event_record(r, ring, attributes, faults, ring->length < 512 ? ring->length / 4 : 512, record);
-        if (used + size > ring->length)
+        if (!append(ring, record, size))
             break;
-        lay(ring, ring->head, record, size);
-        ring->head += size;
-        used += size;
         records++;
     }
     some_ends(r, ring);
@@ -702,17 +706,11 @@ void made_fill(enum made_workload which, size_t length, struct made_ring *ring)
     ring->budget = UINT64_MAX;
     ring->scratch_length = length;
     ring->journal_length = 16 * (length / 8 + 1);
-    size_t used = 0, misses = 0;
+    size_t misses = 0;
     for (uint64_t time = UINT64_C(90000000000); misses < 64; time += 1000 + made_below(&r, 5000)) {
         size_t size = which == MADE_SIDE_BAND ? side_band(&r, time, record)
                                               : sample(&r, time, which == MADE_FAT_SAMPLES, record);
-        if (used + size > length) {
-            misses++; /* a smaller one may still fit */
-            continue;
-        }
-        lay(ring, ring->head, record, size);
-        ring->head += size;
-        used += size;
+        misses += !append(ring, record, size); /* a smaller one may still fit */
     }
 }
 
@@ -778,18 +776,12 @@ void made_table_fill(const struct made_mix *mix, size_t length, struct made_ring
         mix_attributes(i, &attributes[i]);
         as_event(17 + i, &attributes[i], &ring->events[i]); /* a kernel counts them up */
     }
-    size_t used = 0, misses = 0, event = 0;
+    size_t misses = 0, event = 0;
     for (uint64_t time = UINT64_C(90000000000); misses < 64; time += 1000 + made_below(&r, 5000)) {
         if (!one_in(&r, 3)) /* else the same event once more */
             event = mix_event(&r, mix->busy);
         size_t size = mix_record(&r, &attributes[event], event, time, record);
-        if (used + size > length) {
-            misses++;
-            continue;
-        }
         put_identifier(record, size, ring->events[event].identifier);
-        lay(ring, ring->head, record, size);
-        ring->head += size;
-        used += size;
+        misses += !append(ring, record, size);
     }
 }

@@ -7,7 +7,7 @@
 #include <stdlib.h>
 #include <string.h>
 
-enum { GUARD = 64, TRACE_MAX = 4 * MIB, JOURNAL_MAX = 16 * (MIB / 8), ROOMS_MAX = 4 * MIB };
+enum { TRACE_MAX = 4 * MIB, JOURNAL_MAX = 16 * (MIB / 8), ROOMS_MAX = 4 * MIB };
 
 struct trace {
     uint8_t *bytes; /* room for TRACE_MAX */
@@ -19,14 +19,11 @@ struct trace {
     size_t rooms_len, journal_len;
 };
 
-struct rooms {
-    uint8_t *rooms, *journal; /* behind a guard */
-};
-
+/* The ring and the scratch are the first of the rooms, the journal is the second. */
 static struct ollskuvan_replayed run_replay(replay_function *replay, const struct trace *t, const struct rooms *rooms)
 {
-    return replay(t->bytes, t->length, t->start, t->events, t->event_count, t->edition, rooms->rooms + GUARD, t->rooms_len,
-        rooms->journal + GUARD, t->journal_len);
+    return replay(t->bytes, t->length, t->start, t->events, t->event_count, t->edition, rooms->first, t->rooms_len,
+        rooms->second, t->journal_len);
 }
 
 /* ---- traces ---- */
@@ -117,15 +114,14 @@ static void some_trace(struct made_random *r, struct trace *t, struct made_ring 
 struct desk {
     struct trace trace;
     struct made_ring ring;
-    struct rooms left, right;
+    struct sides sides;
 };
 
 static void open_desk(struct desk *d)
 {
-    size_t rooms = ROOMS_MAX + 2 * GUARD, journal = JOURNAL_MAX + 2 * GUARD;
-    *d = (struct desk){ .ring = { .bytes = grab(MADE_RING_MAX), .events = grab(MADE_EVENTS_MAX * sizeof *d->ring.events) },
-        .left = { grab(rooms), grab(journal) }, .right = { grab(rooms), grab(journal) } };
+    *d = (struct desk){ .ring = { .bytes = grab(MADE_RING_MAX), .events = grab(MADE_EVENTS_MAX * sizeof *d->ring.events) } };
     d->trace.bytes = grab(TRACE_MAX + MADE_RECORD_MAX);
+    open_sides(&d->sides, ROOMS_MAX, JOURNAL_MAX);
 }
 
 static void close_desk(struct desk *d)
@@ -133,10 +129,7 @@ static void close_desk(struct desk *d)
     free(d->ring.bytes);
     free(d->ring.events);
     free(d->trace.bytes);
-    free(d->left.rooms);
-    free(d->left.journal);
-    free(d->right.rooms);
-    free(d->right.journal);
+    close_sides(&d->sides);
 }
 
 static void show(const char *who, const struct ollskuvan_replayed *r)
@@ -149,18 +142,15 @@ static void show(const char *who, const struct ollskuvan_replayed *r)
 
 static bool same(struct desk *d, uint64_t number, struct ollskuvan_replayed *told)
 {
-    size_t rooms = d->trace.rooms_len + 2 * GUARD, journal = d->trace.journal_len + 2 * GUARD;
-    memset(d->left.rooms, 0xa5, rooms);
-    memset(d->right.rooms, 0xa5, rooms);
-    memset(d->left.journal, 0x5a, journal);
-    memset(d->right.journal, 0x5a, journal);
-    struct ollskuvan_replayed l = run_replay(careful_replay, &d->trace, &d->left);
-    struct ollskuvan_replayed r = run_replay(ollskuvan_replay, &d->trace, &d->right);
+    d->sides.first_len = d->trace.rooms_len;
+    d->sides.second_len = d->trace.journal_len;
+    spoil_sides(&d->sides);
+    struct ollskuvan_replayed l = run_replay(careful_replay, &d->trace, &d->sides.left);
+    struct ollskuvan_replayed r = run_replay(ollskuvan_replay, &d->trace, &d->sides.right);
     *told = r;
     if (l.entries == r.entries && l.offered_bytes == r.offered_bytes && l.drained_bytes == r.drained_bytes &&
         l.dropped_bytes == r.dropped_bytes && l.held_bytes == r.held_bytes && l.taken == r.taken && l.dropped == r.dropped &&
-        l.head == r.head && l.tail == r.tail && l.answer == r.answer && memcmp(d->left.rooms, d->right.rooms, rooms) == 0 &&
-        memcmp(d->left.journal, d->right.journal, journal) == 0)
+        l.head == r.head && l.tail == r.tail && l.answer == r.answer && same_sides(&d->sides))
         return true;
     printf("DIFFERENCE in replay, case %llu: trace %zu, edition %u, events %zu, rooms %zu, journal %zu, start %llu\n",
         (unsigned long long)number, d->trace.length, d->trace.edition, d->trace.event_count, d->trace.rooms_len,
@@ -214,34 +204,33 @@ int run_replays(const char *whose, uint64_t calls)
     open_desk(&d);
     fill_trace(&d.trace, &d.ring);
     for (uint64_t i = 0; i < calls; i++)
-        told = run_replay(replay, &d.trace, &d.left);
+        told = run_replay(replay, &d.trace, &d.sides.left);
     printf("records %llu entries %llu bytes %zu dropped %llu answer %u\n", (unsigned long long)told.taken,
         (unsigned long long)told.entries, d.trace.length, (unsigned long long)told.dropped, told.answer);
     close_desk(&d);
     return 0;
 }
 
+static void play(void *on, bool ours)
+{
+    struct desk *d = on;
+    if (ours)
+        run_replay(ollskuvan_replay, &d->trace, &d->sides.right);
+    else
+        run_replay(careful_replay, &d->trace, &d->sides.left);
+}
+
 int time_replay(size_t rounds)
 {
     struct desk d;
-    struct ollskuvan_replayed told = { 0 };
-    double *careful = grab(rounds * sizeof *careful), *ours = grab(rounds * sizeof *ours);
     open_desk(&d);
     fill_trace(&d.trace, &d.ring);
-    for (size_t i = 0; i < rounds; i++) {
-        uint64_t begin = thread_ns();
-        run_replay(careful_replay, &d.trace, &d.left);
-        uint64_t middle = thread_ns();
-        told = run_replay(ollskuvan_replay, &d.trace, &d.right);
-        careful[i] = (double)(middle - begin);
-        ours[i] = (double)(thread_ns() - middle);
-    }
-    double records = (double)told.taken, c = median(careful, rounds) / records, o = median(ours, rounds) / records;
+    const struct ollskuvan_replayed told = run_replay(ollskuvan_replay, &d.trace, &d.sides.right);
+    const struct two_times ns = time_both(play, &d, rounds);
+    double records = (double)told.taken, c = ns.careful / records, o = ns.ours / records;
     printf("\nreplay of a trace of %llu records and %llu drains over a ring of %d bytes, %zu rounds: ns a record\n",
         (unsigned long long)told.taken, (unsigned long long)(told.entries - d.trace.records), RING, rounds);
     printf("  careful %.2f, ours %.2f, ratio %.3f\n", c, o, o / c);
     close_desk(&d);
-    free(careful);
-    free(ours);
     return 0;
 }

@@ -8,7 +8,7 @@
 #include <stdlib.h>
 #include <string.h>
 
-enum { GUARD = 64, LIST_MAX = OLLSKUVAN_CHANGE_ENTRY * (MIB / 24 + 1) };
+enum { LIST_MAX = OLLSKUVAN_CHANGE_ENTRY * (MIB / 24 + 1) };
 
 struct stream {
     uint8_t *bytes; /* room for MADE_RING_MAX */
@@ -18,15 +18,12 @@ struct stream {
     uint32_t edition;
 };
 
-struct rooms {
-    uint8_t *out, *list; /* behind a guard */
-    size_t out_len, list_len;
-};
-
-static struct ollskuvan_salvaged run_salvage(salvage_function *salvage, const struct stream *s, const struct rooms *rooms)
+/* The output is the first of the rooms, the list of changes the second. */
+static struct ollskuvan_salvaged run_salvage(salvage_function *salvage, const struct stream *s, const struct sides *sides,
+    const struct rooms *rooms)
 {
-    return salvage(s->bytes, s->length, s->events, s->event_count, s->edition, rooms->out + GUARD, rooms->out_len,
-        rooms->list + GUARD, rooms->list_len);
+    return salvage(s->bytes, s->length, s->events, s->event_count, s->edition, rooms->first, sides->first_len, rooms->second,
+        sides->second_len);
 }
 
 /* ---- streams ---- */
@@ -105,18 +102,27 @@ static void fill_stream(unsigned which, struct stream *s, struct made_ring *ring
 struct desk {
     struct stream stream;
     struct made_ring ring;
-    struct rooms left, right;
+    struct sides sides;
     uint8_t *before;
 };
 
+static struct ollskuvan_salvaged by_careful(struct desk *d)
+{
+    return run_salvage(careful_salvage, &d->stream, &d->sides, &d->sides.left);
+}
+
+static struct ollskuvan_salvaged by_ours(struct desk *d)
+{
+    return run_salvage(ollskuvan_salvage, &d->stream, &d->sides, &d->sides.right);
+}
+
 static void open_desk(struct desk *d)
 {
-    size_t room = MIB + 2 * GUARD, list = LIST_MAX + 2 * GUARD;
     *d = (struct desk){ .ring = { .bytes = grab(MADE_RING_MAX), .events = grab(MADE_EVENTS_MAX * sizeof *d->ring.events) },
-        .left = { grab(room), grab(list), MIB, LIST_MAX }, .right = { grab(room), grab(list), MIB, LIST_MAX },
         .before = grab(MIB) };
     d->stream.bytes = grab(MADE_RING_MAX);
     d->stream.events = d->ring.events;
+    open_sides(&d->sides, MIB, LIST_MAX);
 }
 
 static void close_desk(struct desk *d)
@@ -124,32 +130,21 @@ static void close_desk(struct desk *d)
     free(d->ring.bytes);
     free(d->ring.events);
     free(d->stream.bytes);
-    free(d->left.out);
-    free(d->left.list);
-    free(d->right.out);
-    free(d->right.list);
+    close_sides(&d->sides);
     free(d->before);
 }
 
 static bool same(struct desk *d, uint64_t number, struct ollskuvan_salvaged *told)
 {
-    size_t out = d->left.out_len + 2 * GUARD, list = d->left.list_len + 2 * GUARD;
-    d->right.out_len = d->left.out_len;
-    d->right.list_len = d->left.list_len;
-    memset(d->left.out, 0xa5, out);
-    memset(d->right.out, 0xa5, out);
-    memset(d->left.list, 0x5a, list);
-    memset(d->right.list, 0x5a, list);
+    spoil_sides(&d->sides);
     memcpy(d->before, d->stream.bytes, d->stream.length);
-    struct ollskuvan_salvaged l = run_salvage(careful_salvage, &d->stream, &d->left);
-    struct ollskuvan_salvaged r = run_salvage(ollskuvan_salvage, &d->stream, &d->right);
+    struct ollskuvan_salvaged l = by_careful(d), r = by_ours(d);
     *told = r;
     if (l.kept == r.kept && l.dropped == r.dropped && l.changes == r.changes && l.answer == r.answer &&
-        memcmp(d->left.out, d->right.out, out) == 0 && memcmp(d->left.list, d->right.list, list) == 0 &&
-        memcmp(d->before, d->stream.bytes, d->stream.length) == 0)
+        same_sides(&d->sides) && memcmp(d->before, d->stream.bytes, d->stream.length) == 0)
         return true;
     printf("DIFFERENCE in salvage, case %llu: stream %zu, edition %u, events %zu, rooms %zu and %zu\n", (unsigned long long)number,
-        d->stream.length, d->stream.edition, d->stream.event_count, d->left.out_len, d->left.list_len);
+        d->stream.length, d->stream.edition, d->stream.event_count, d->sides.first_len, d->sides.second_len);
     printf("  careful: kept %llu dropped %llu changes %llu answer %u\n", (unsigned long long)l.kept, (unsigned long long)l.dropped,
         (unsigned long long)l.changes, l.answer);
     printf("  ours:    kept %llu dropped %llu changes %llu answer %u\n", (unsigned long long)r.kept, (unsigned long long)r.dropped,
@@ -194,11 +189,11 @@ int compare_salvage(uint64_t streams, uint64_t seed)
     }
     for (uint64_t i = 0; i < streams && differences < 5; i++) {
         some_stream(&r, &d);
-        d.left.out_len = MIB;
-        d.left.list_len = LIST_MAX;
-        struct ollskuvan_salvaged due = run_salvage(careful_salvage, &d.stream, &d.left);
-        d.left.out_len = some_room(&r, due.kept);
-        d.left.list_len = some_room(&r, due.changes);
+        d.sides.first_len = MIB;
+        d.sides.second_len = LIST_MAX;
+        struct ollskuvan_salvaged due = by_careful(&d);
+        d.sides.first_len = some_room(&r, due.kept);
+        d.sides.second_len = some_room(&r, due.changes);
         differences += !same(&d, i, &told);
         answers[told.answer < 55 ? told.answer : 0]++;
         holes += told.changes / OLLSKUVAN_CHANGE_ENTRY;
@@ -227,7 +222,7 @@ int list_streams(void)
 /* So many calls on one stream, for callgrind. */
 int run_salvages(const char *whose, const char *stream, uint64_t calls)
 {
-    salvage_function *salvage = strcmp(whose, "careful") == 0 ? careful_salvage : ollskuvan_salvage;
+    struct ollskuvan_salvaged (*salvage)(struct desk *) = strcmp(whose, "careful") == 0 ? by_careful : by_ours;
     struct desk d;
     int status = 2;
     open_desk(&d);
@@ -236,7 +231,7 @@ int run_salvages(const char *whose, const char *stream, uint64_t calls)
             struct ollskuvan_salvaged told = { 0 };
             fill_stream(which, &d.stream, &d.ring);
             for (uint64_t i = 0; i < calls; i++)
-                told = run_salvage(salvage, &d.stream, &d.left);
+                told = salvage(&d);
             printf("words %zu kept %llu dropped %llu holes %llu answer %u\n", d.stream.length / 8, (unsigned long long)told.kept,
                 (unsigned long long)told.dropped, (unsigned long long)told.changes / OLLSKUVAN_CHANGE_ENTRY, told.answer);
             status = 0;
@@ -245,27 +240,25 @@ int run_salvages(const char *whose, const char *stream, uint64_t calls)
     return status;
 }
 
+static void salvage_once(void *on, bool ours)
+{
+    if (ours)
+        by_ours(on);
+    else
+        by_careful(on);
+}
+
 int time_salvage(size_t rounds)
 {
     struct desk d;
-    double *careful = grab(rounds * sizeof *careful), *ours = grab(rounds * sizeof *ours);
     open_desk(&d);
     printf("\nsalvage of streams of 1 MiB, %zu rounds: ns for 8 bytes\n  %-20s %10s %10s %8s\n", rounds, "", "careful", "ours", "ratio");
     for (unsigned which = 0; which < STREAMS; which++) {
         fill_stream(which, &d.stream, &d.ring);
-        for (size_t i = 0; i < rounds; i++) {
-            uint64_t begin = thread_ns();
-            run_salvage(careful_salvage, &d.stream, &d.left);
-            uint64_t middle = thread_ns();
-            run_salvage(ollskuvan_salvage, &d.stream, &d.right);
-            careful[i] = (double)(middle - begin);
-            ours[i] = (double)(thread_ns() - middle);
-        }
-        double words = (double)d.stream.length / 8, c = median(careful, rounds) / words, o = median(ours, rounds) / words;
+        const struct two_times ns = time_both(salvage_once, &d, rounds);
+        double words = (double)d.stream.length / 8, c = ns.careful / words, o = ns.ours / words;
         printf("  %-20s %10.2f %10.2f %8.3f\n", stream_names[which], c, o, o / c);
     }
     close_desk(&d);
-    free(careful);
-    free(ours);
     return 0;
 }

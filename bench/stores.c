@@ -11,7 +11,7 @@
 
 #include "bench.h"
 
-enum { ROWS = 40, ROOM = OLLSKUVAN_STORE_BYTES(ROWS) + 64, ANSWERS = 53, GUARD = 32 };
+enum { ROWS = 40, ROOM = OLLSKUVAN_STORE_BYTES(ROWS) + 64, ANSWERS = 53, BEHIND = 32 };
 
 struct made_store {
     struct ollskuvan_event events[ROWS];
@@ -119,7 +119,7 @@ static bool compare_read(const struct made_store *s, size_t rows, uint64_t *answ
 
 static bool compare_write(const struct made_store *s, size_t room, uint64_t *answers)
 {
-    static uint8_t left[ROOM + GUARD], right[ROOM + GUARD];
+    static uint8_t left[ROOM + BEHIND], right[ROOM + BEHIND];
     memset(left, 0x5a, sizeof left);
     memset(right, 0x5a, sizeof right);
     struct ollskuvan_stored a = careful_write_store(s->events, s->count, s->ring_length, s->edition, s->budget, left, room);

@@ -1,6 +1,7 @@
 #!/usr/bin/env bash
-# Does the comparison bite? Plants one mistake at a time in a copy of careful.c or careful_salvage.c, or of careful_walk.c, or careful_replay.c, or of careful_store.c, and runs the
-# comparison: each must be found. Not part of the gate; run it after a change of made.c or compare.c.
+# Does the comparison bite? Plants one mistake at a time in a copy of careful C (careful.c, or careful_walk.c, careful_replay.c,
+# careful_salvage.c, careful_store.c) and runs the comparison: each must be found. Not part of the gate; run it after a change of
+# made.c or compare.c.
 #
 #   bench/teeth.sh [ARCHIVE]       target/staticlib/libollskuvan.a; RINGS=20000 SEED=1
 set -u
@@ -11,24 +12,24 @@ out=target/bench/teeth
 mkdir -p "$out" || exit 2
 found=0 missed=0
 
-plant() { # WORDS SED-EXPRESSION (over the whole file at once) [tables, stores: in the comparison with a table, of stores [FILE: careful.c; walks: careful_walk.c [FILE: careful.c]]
-  local file=${4:-careful.c}
-  [ "${3:-}" = stores ] && file=careful_store.c
-  cp bench/careful.c bench/careful_store.c bench/careful_replay.c "$out" || exit 2
-  local file=careful.c drains=$out/careful.c walks=bench/careful_walk.c
-  [ "${3:-}" != walks ] || file=careful_walk.c drains=bench/careful.c walks=$out/careful_walk.c
-  rm -f "$out"/*.c]
-  local file=${4:-careful.c}
-  cp bench/careful.c bench/careful_salvage.c "$out" || exit 2
-  sed -z "$2" "bench/$file" >"$out/$file" || exit 2
-  if cmp -s "bench/$file" "$out/$file"; then
+plant() { # WORDS SED-EXPRESSION (over the whole file at once) [COMPARISON of bench.c: compare [FILE: that of the comparison]]
+  local mode=${3:-compare} file=careful.c
+  case $mode in
+    stores) file=careful_store.c ;;
+    walks) file=careful_walk.c ;;
+    compare-replay) file=careful_replay.c ;;
+    compare-salvage) file=careful_salvage.c ;;
+  esac
+  file=${4:-$file}
+  rm -rf "$out"/bench* && mkdir "$out/bench.d" && cp bench/*.[ch] "$out/bench.d" && rm "$out/bench.d/count.c" || exit 2
+  sed -z "$2" "bench/$file" >"$out/bench.d/$file" || exit 2
+  if cmp -s "bench/$file" "$out/bench.d/$file"; then
     echo "bench/teeth.sh: '$1' changes nothing: $file has moved on" >&2
     exit 2
   fi
-  gcc -std=c11 -O2 -w -DWITHOUT_VALUES -Iinclude -Ibench -o "$out/bench" bench/bench.c bench/compare.c bench/timing.c bench/made.c bench/kinds.c bench/replay.c bench/salvage.c bench/rings.c bench/careful_check.c bench/stores.c \
-    "$walks" bench/walks.c bench/floor.c "$drains" "$out/careful_store.c" "$out/careful_replay.c" "$out/careful_salvage.c" "$library" || exit 2
+  gcc -std=c11 -O2 -w -DWITHOUT_VALUES -Iinclude -o "$out/bench" "$out"/bench.d/*.c "$library" || exit 2
   # in a shell of its own: some mistakes end in a crash, which is found too
-  if bash -c '"$@"; exit $?' teeth "$out/bench" "${3:-compare}" "${RINGS:-20000}" "${SEED:-1}" >"$out/log" 2>&1; then
+  if bash -c '"$@"; exit $?' teeth "$out/bench" "$mode" "${RINGS:-20000}" "${SEED:-1}" >"$out/log" 2>&1; then
     echo "MISSED: $1"
     missed=$((missed + 1))
   else
@@ -104,11 +105,11 @@ plant "a buffer a byte short" 's/if (buffer_len < bytes)/if (buffer_len + 1 < by
 plant "equal identifiers in a store" 's/identifiers\[i - 1\] < identifiers/identifiers[i - 1] <= identifiers/' stores
 plant "sample_id_all that is not looked at" 's/ && events\[i\].sample_id_all != 0//' stores
 plant "1 before 11" 's/){ 0, 11 };\n    if (!ring/){ 0, ring_allowed(ring_length) ? 11 : 1 };\n    if (!ring/' stores
-plant "the free room a word less" 's/if (size > length - (r->head - r->tail)) {/if (size + 8 > length - (r->head - r->tail)) {/' compare-replay careful_replay.c
-plant "a record cut at the ring's end" 's/memcpy(ring, record + first, size - first);//' compare-replay careful_replay.c
-plant "53 for a record longer than the ring" 's/size == body ? 0 : 53/size == body \&\& size <= 512 ? 0 : 53/' compare-replay careful_replay.c
-plant "a version of a store is 51" 's/return length == 8 ? 52 : 51/return 51/' compare-replay careful_replay.c
-plant "a dropped record that is not counted" 's/        r->dropped++;//' compare-replay careful_replay.c
+plant "the free room a word less" 's/if (size > length - (r->head - r->tail)) {/if (size + 8 > length - (r->head - r->tail)) {/' compare-replay
+plant "a record cut at the ring's end" 's/memcpy(ring, record + first, size - first);//' compare-replay
+plant "53 for a record longer than the ring" 's/size == body ? 0 : 53/size == body \&\& size <= 512 ? 0 : 53/' compare-replay
+plant "a version of a store is 51" 's/return length == 8 ? 52 : 51/return 51/' compare-replay
+plant "a dropped record that is not counted" 's/        r->dropped++;//' compare-replay
 plant "a size of 0 is 6" 's/size == 0 ? 0 : 6/6/' walks
 plant "13 before 6" 's/if (unlikely(size < HEADER || size % 8 != 0)) {/if (unlikely(size > rest)) {\n            stop = 13;\n            break;\n        }\n        if (unlikely(size < HEADER || size % 8 != 0)) {/' walks
 plant "past the length by a word" 's/unlikely(size > rest)/unlikely(size > rest + 8)/' walks
@@ -118,11 +119,11 @@ plant "8 before 13" 's/if (unlikely(size > rest)) {/if (unlikely(left == 0)) {\n
 plant "starts without the head" 's/store64(journal + 8, head + way)/store64(journal + 8, way)/' walks
 plant "head of any kind" 's/(head \& 7) != 0 ? 5 : 0/0/' walks
 plant "11 before 5" 's/uint32_t stop = refused(ring_len, edition, head);\n    if (stop == 0 \&\& !sound/uint32_t stop = refused(ring_len, edition, head);\n    if ((stop == 0 || stop == 5) \&\& !sound/' walks
-plant "4 bytes dropped in place of 8" 's/at += length - at < 8 ? length - at : 8;/at += length - at < 4 ? length - at : 4;/' compare-salvage careful_salvage.c
-plant "a hole's start counted in the output" 's/store64(list + OLLSKUVAN_CHANGE_START, hole)/store64(list + OLLSKUVAN_CHANGE_START, p.kept)/' compare-salvage careful_salvage.c
-plant "salvage: row 7 a word late" 's/size % 8 != 0 || size > left))/size % 8 != 0 || size > left + 8))/' compare-salvage careful_salvage.c
-plant "54 a byte late" 's/out_len < p.kept/out_len + 1 < p.kept/' compare-salvage careful_salvage.c
-plant "11 before 2" 's/if (edition - 1 > 3) {\n        told.answer = 2;/if (edition - 1 > 3 \&\& sound(events, event_count)) {\n        told.answer = 2;/' compare-salvage careful_salvage.c
+plant "4 bytes dropped in place of 8" 's/at += length - at < 8 ? length - at : 8;/at += length - at < 4 ? length - at : 4;/' compare-salvage
+plant "a hole's start counted in the output" 's/store64(list + OLLSKUVAN_CHANGE_START, hole)/store64(list + OLLSKUVAN_CHANGE_START, p.kept)/' compare-salvage
+plant "salvage: row 7 a word late" 's/size % 8 != 0 || size > left))/size % 8 != 0 || size > left + 8))/' compare-salvage
+plant "54 a byte late" 's/out_len < p.kept/out_len + 1 < p.kept/' compare-salvage
+plant "11 before 2" 's/if (edition - 1 > 3) {\n        told.answer = 2;/if (edition - 1 > 3 \&\& sound(events, event_count)) {\n        told.answer = 2;/' compare-salvage
 rm -rf "$out"
 echo "planted mistakes: $found found, $missed missed"
 [ "$missed" -eq 0 ]

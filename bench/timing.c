@@ -33,6 +33,23 @@ double median(double *values, size_t count)
     return count % 2 != 0 ? values[count / 2] : (values[count / 2 - 1] + values[count / 2]) / 2;
 }
 
+struct two_times time_both(void (*run)(void *on, bool ours), void *on, size_t rounds)
+{
+    double *careful = grab(rounds * sizeof *careful), *ours = grab(rounds * sizeof *ours);
+    for (size_t i = 0; i < rounds; i++) {
+        uint64_t begin = thread_ns();
+        run(on, false);
+        uint64_t middle = thread_ns();
+        run(on, true);
+        careful[i] = (double)(middle - begin);
+        ours[i] = (double)(thread_ns() - middle);
+    }
+    const struct two_times ns = { median(careful, rounds), median(ours, rounds) };
+    free(careful);
+    free(ours);
+    return ns;
+}
+
 static void stay_on_one_cpu(void)
 {
     cpu_set_t set;

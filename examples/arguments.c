@@ -2,6 +2,7 @@
 
 #include <ctype.h>
 #include <errno.h>
+#include <getopt.h>
 #include <stdlib.h>
 #include <string.h>
 
@@ -78,6 +79,20 @@ bool counters_argument(const char *text, uint32_t *counters)
         }
         *counters |= UINT32_C(1) << number;
         at = at[length] == ',' ? at + length + 1 : NULL;
+    }
+    return true;
+}
+
+bool each_option(int argc, char **argv, const struct option *names, bool (*take)(void *options, int letter), void *options,
+    bool *help)
+{
+    int letter;
+    optind = 0; /* a program of several commands has looked at its own arguments before */
+    while ((letter = getopt_long(argc, argv, "+h", names, NULL)) != -1) {
+        if (letter == 'h')
+            return *help = true;
+        if (!take(options, letter))
+            return false;
     }
     return true;
 }

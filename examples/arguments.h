@@ -27,4 +27,10 @@ bool pages_argument(const char *text, size_t *pages);
  * counter_names. */
 bool counters_argument(const char *text, uint32_t *counters);
 
+/* Each option in turn, by its letter, up to the first other word: optind is its place. *help is set at -h or --help, and no
+ * more are taken. False: one is none, which `take` said. */
+struct option;
+bool each_option(int argc, char **argv, const struct option *names, bool (*take)(void *options, int letter), void *options,
+    bool *help);
+
 #endif

@@ -3,7 +3,6 @@
 
 #include <errno.h>
 #include <linux/perf_event.h>
-#include <stdarg.h>
 #include <stdio.h>
 #include <stdlib.h>
 #include <string.h>
@@ -15,19 +14,8 @@
 
 #include "bytes.h"
 #include "ollskuvan.h"
-
-static bool refuse(char why[WHY_ROOM], const char *format, ...) __attribute__((format(printf, 2, 3)));
-
-static bool refuse(char why[WHY_ROOM], const char *format, ...)
-{
-    va_list list;
-    va_start(list, format);
-    int length = vsnprintf(why, WHY_ROOM, format, list);
-    va_end(list);
-    if (length < 0 || length >= WHY_ROOM) /* never half a reason */
-        memcpy(why, "the reason does not fit its room", sizeof "the reason does not fit its room");
-    return false;
-}
+#include "ring_image.h"
+#include "why.h"
 
 /* ---- events ---- */
 
@@ -399,13 +387,6 @@ static bool read_all(const char *path, uint8_t *all, size_t most, size_t *length
     return failed ? refuse(why, "it cannot be read: %s", strerror(error)) : true;
 }
 
-/* So many bytes behind the header: a ring, or a ring and the branch sample type. */
-static bool has_branch(size_t behind)
-{
-    size_t length = behind - IMAGE_BRANCH;
-    return behind >= OLLSKUVAN_RING_MIN + IMAGE_BRANCH && length <= OLLSKUVAN_RING_MAX && (length & (length - 1)) == 0;
-}
-
 bool ring_image_load(const char *path, struct ring_image *image, char why[WHY_ROOM])
 {
     enum { MOST = IMAGE_HEADER + OLLSKUVAN_RING_MAX + IMAGE_BRANCH };
@@ -416,24 +397,14 @@ bool ring_image_load(const char *path, struct ring_image *image, char why[WHY_RO
     bool fits = read_all(path, all, MOST + 1, &length, why);
     if (fits && length < IMAGE_HEADER)
         fits = refuse(why, "no ring image: it has fewer than 50 bytes");
-    if (fits && length > IMAGE_HEADER + OLLSKUVAN_RING_MAX && !has_branch(length - IMAGE_HEADER))
+    if (fits && length > IMAGE_HEADER + OLLSKUVAN_RING_MAX && !ring_has_branch(length - IMAGE_HEADER))
         fits = refuse(why, "no ring image: it has a ring of more than 1,048,576 bytes");
     if (!fits) {
         free(all);
         return false;
     }
-    *image = (struct ring_image){
-        .head = little(all, 8), .tail = little(all + 8, 8),
-        .attributes = { .sample_type = little(all + 16, 8), .read_format = little(all + 24, 8), .user_mask = little(all + 32, 8),
-            .interrupt_mask = little(all + 40, 8), .edition = all[48], .sample_id_all = all[49] },
-        .length = length - IMAGE_HEADER,
-    };
-    if (has_branch(image->length)) {
-        image->length -= IMAGE_BRANCH;
-        image->attributes.branch_sample_type = little(all + IMAGE_HEADER + image->length, 8);
-    }
-    memmove(all, all + IMAGE_HEADER, image->length);
-    image->bytes = all;
+    *image = ring_image_of(all, length);
+    image->bytes = memmove(all, image->bytes, image->length); /* so that it can be freed */
     return true;
 }
 

@@ -517,8 +517,9 @@ static void usage(FILE *out)
         own_name());
 }
 
-static bool take_option(struct options *o, int letter)
+static bool take_option(void *options, int letter)
 {
+    struct options *o = options;
     unsigned long long n;
     double number;
     switch (letter) {
@@ -591,14 +592,10 @@ static bool read_options(struct options *o, int argc, char **argv, bool *help)
         { "flight", 1, NULL, 'f' },
         { "late", 1, NULL, 'l' }, { "help", 0, NULL, 'h' }, { NULL, 0, NULL, 0 },
     };
-    int letter;
-    optind = 0; /* a program of several commands has looked at its own arguments before */
-    while ((letter = getopt_long(argc, argv, "+h", names, NULL)) != -1) {
-        if (letter == 'h')
-            return *help = true;
-        if (!take_option(o, letter))
-            return false;
-    }
+    if (!each_option(argc, argv, names, take_option, o, help))
+        return false;
+    if (*help)
+        return true;
     if (!kept_events_go(&o->want))
         return false;
     if (o->report != 0 && (o->save != NULL || o->again)) {

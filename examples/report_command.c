@@ -185,8 +185,9 @@ static int tell_live(struct story *story, const struct options *o)
 
 /* ---- arguments ---- */
 
-static bool take_option(struct options *o, int letter)
+static bool take_option(void *options, int letter)
 {
+    struct options *o = options;
     unsigned long long n;
     double number;
     switch (letter) {
@@ -252,14 +253,10 @@ static bool read_options(struct options *o, int argc, char **argv, bool *help)
         { "svg", 1, NULL, 'v' }, { "short", 0, NULL, 'q' }, { "live", 0, NULL, 'l' }, { "seconds", 1, NULL, 's' },
         { "pages", 1, NULL, 'p' }, { "help", 0, NULL, 'h' }, { NULL, 0, NULL, 0 },
     };
-    int letter;
-    optind = 0; /* a program of several commands has looked at its own arguments before */
-    while ((letter = getopt_long(argc, argv, "+h", names, NULL)) != -1) {
-        if (letter == 'h')
-            return *help = true;
-        if (!take_option(o, letter))
-            return false;
-    }
+    if (!each_option(argc, argv, names, take_option, o, help))
+        return false;
+    if (*help)
+        return true;
     o->images = argv + optind;
     o->image_count = argc - optind;
     return fits_together(o);

@@ -5,7 +5,6 @@
 #include <fcntl.h>
 #include <inttypes.h>
 #include <libgen.h>
-#include <stdarg.h>
 #include <stdio.h>
 #include <stdlib.h>
 #include <string.h>
@@ -13,6 +12,7 @@
 #include <unistd.h>
 
 #include "bytes.h"
+#include "why.h"
 
 /* An entry: a length that covers itself, a kind, a body. */
 enum { LENGTH_BYTES = 4, KIND_BYTES = 2, HEAD = LENGTH_BYTES + KIND_BYTES, PATH_ROOM = 4096 };
@@ -28,19 +28,6 @@ static const struct version {
     { 1, 1, 32 },
 };
 enum { VERSIONS = sizeof versions / sizeof versions[0], WORDS_STORED = 6 };
-
-static bool refuse(char why[WHY_ROOM], const char *format, ...) __attribute__((format(printf, 2, 3)));
-
-static bool refuse(char why[WHY_ROOM], const char *format, ...)
-{
-    va_list list;
-    va_start(list, format);
-    int length = vsnprintf(why, WHY_ROOM, format, list);
-    va_end(list);
-    if (length < 0 || length >= WHY_ROOM) /* never half a reason */
-        memcpy(why, "the reason does not fit its room", sizeof "the reason does not fit its room");
-    return false;
-}
 
 /* ---- what is wrong with a store, in words ---- */
 

@@ -41,6 +41,12 @@ static uint8_t *block(size_t n)
     return bytes;
 }
 
+static uint8_t *block_anew(uint8_t *old, size_t n)
+{
+    free(old);
+    return block(n);
+}
+
 static uint8_t *copied(const uint8_t *from, size_t n)
 {
     uint8_t *bytes = block(n);
@@ -1208,31 +1214,41 @@ static void lay_drain(uint32_t budget)
     lay_entry(OLLSKUVAN_KIND_DRAIN, body, 4);
 }
 
-static struct ollskuvan_replayed replay(uint64_t start, size_t events, uint32_t edition, size_t rooms_of, size_t journal_of)
+/* A table of so many events, 7 and those after it, whose trailer is the identifier alone; and that it stayed so. */
+static struct ollskuvan_event *events_from_7(size_t events)
 {
-    const struct ollskuvan_event one = {7, OLLSKUVAN_BIT_IDENTIFIER, 0, 0, 0, 0, 1};
-    uint8_t *lent = copied(trace, trace_len);
-    struct ollskuvan_event *table = malloc(sizeof one * (events ? events : 1));
-    struct ollskuvan_replayed told;
+    struct ollskuvan_event *table = malloc(sizeof *table * (events ? events : 1));
     size_t i;
     if (!table)
         abort();
     for (i = 0; i < events; i++) {
+        const struct ollskuvan_event one = {7 + i, OLLSKUVAN_BIT_IDENTIFIER, 0, 0, 0, 0, 1};
         table[i] = one;
-        table[i].identifier += i;
     }
-    free(rooms);
-    free(replay_journal);
-    rooms = block(rooms_of);
-    replay_journal = block(journal_of);
+    return table;
+}
+
+static void free_from_7(struct ollskuvan_event *table, size_t events)
+{
+    size_t i;
+    for (i = 0; i < events; i++)
+        OK(table[i].identifier == 7 + i && table[i].sample_type == OLLSKUVAN_BIT_IDENTIFIER && table[i].sample_id_all == 1);
+    free(table);
+}
+
+static struct ollskuvan_replayed replay(uint64_t start, size_t events, uint32_t edition, size_t rooms_of, size_t journal_of)
+{
+    uint8_t *lent = copied(trace, trace_len);
+    struct ollskuvan_event *table = events_from_7(events);
+    struct ollskuvan_replayed told;
+    rooms = block_anew(rooms, rooms_of);
+    replay_journal = block_anew(replay_journal, journal_of);
     rooms_len = rooms_of;
     replay_journal_len = journal_of;
     told = ollskuvan_replay(lent, trace_len, start, table, events, edition, rooms, rooms_of, replay_journal, journal_of);
     OK(memcmp(lent, trace, trace_len) == 0);
-    for (i = 0; i < events; i++)
-        OK(table[i].identifier == 7 + i && table[i].sample_type == one.sample_type && table[i].sample_id_all == 1);
     free(lent);
-    free(table);
+    free_from_7(table, events);
     return told;
 }
 
@@ -1548,29 +1564,17 @@ static size_t kept_len, changes_len;
 static struct ollskuvan_salvaged salvage(const uint8_t *bytes, size_t length, size_t events, uint32_t edition, size_t out,
     size_t list)
 {
-    const struct ollskuvan_event one = {7, OLLSKUVAN_BIT_IDENTIFIER, 0, 0, 0, 0, 1};
     uint8_t *stream = copied(bytes, length);
-    struct ollskuvan_event *table = malloc(sizeof one * (events ? events : 1));
+    struct ollskuvan_event *table = events_from_7(events);
     struct ollskuvan_salvaged told;
-    size_t i;
-    if (!table)
-        abort();
-    for (i = 0; i < events; i++) {
-        table[i] = one;
-        table[i].identifier += i;
-    }
-    free(kept);
-    free(changes);
-    kept = block(out);
-    changes = block(list);
+    kept = block_anew(kept, out);
+    changes = block_anew(changes, list);
     kept_len = out;
     changes_len = list;
     told = ollskuvan_salvage(stream, length, table, events, edition, kept, out, changes, list);
     OK(length == 0 || memcmp(stream, bytes, length) == 0);
-    for (i = 0; i < events; i++)
-        OK(table[i].identifier == 7 + i && table[i].sample_type == one.sample_type && table[i].sample_id_all == 1);
     free(stream);
-    free(table);
+    free_from_7(table, events);
     return told;
 }
 

@@ -122,16 +122,14 @@ static int print_flight(const struct image *image)
     return status;
 }
 
+static int print_any(const struct image *image)
+{
+    if (image_is_none(image))
+        return STATUS_FAILED;
+    return ring_is_backward(image->head, image->tail) ? print_flight(image) : print_records(image);
+}
+
 int dump_command(int argc, char **argv)
 {
-    struct image image;
-    int status;
-    if (take_words(argc, argv, &takes, &status) < 0)
-        return status;
-    if (!image_read(&image, argv[1]))
-        return STATUS_FAILED;
-    status = image_is_none(&image) ? STATUS_FAILED
-        : ring_is_backward(image.head, image.tail) ? print_flight(&image) : print_records(&image);
-    image_free(&image);
-    return finished(status);
+    return image_command(argc, argv, &takes, print_any);
 }

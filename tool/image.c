@@ -6,11 +6,11 @@
 #include <stdlib.h>
 #include <string.h>
 
-#include "bytes.h"
-#include "commands.h"
+#include "command.h"
 #include "messages.h"
+#include "ring_image.h"
 
-enum { MOST = IMAGE_HEADER_BYTES + OLLSKUVAN_RING_MAX + IMAGE_BRANCH_BYTES };
+enum { MOST = IMAGE_HEADER + OLLSKUVAN_RING_MAX + IMAGE_BRANCH };
 
 /* ---- reading ---- */
 
@@ -31,30 +31,23 @@ static bool read_bytes(struct image *image, FILE *file)
     return false;
 }
 
-static bool length_is_allowed(size_t length)
-{
-    return length >= OLLSKUVAN_RING_MIN && length <= OLLSKUVAN_RING_MAX && (length & (length - 1)) == 0;
-}
-
 static void split(struct image *image)
 {
-    const uint8_t *at = image->bytes;
-    if (image->present < IMAGE_HEADER_BYTES)
+    if (image->present < IMAGE_HEADER)
         return;
-    image->head = little(at, 8);
-    image->tail = little(at + 8, 8);
-    image->sample_type = little(at + 16, 8);
-    image->read_format = little(at + 24, 8);
-    image->user_mask = little(at + 32, 8);
-    image->interrupt_mask = little(at + 40, 8);
-    image->edition = at[48];
-    image->sample_id_all = at[49];
-    image->ring = at + IMAGE_HEADER_BYTES;
-    image->length = image->present - IMAGE_HEADER_BYTES;
-    if (image->length >= IMAGE_BRANCH_BYTES && length_is_allowed(image->length - IMAGE_BRANCH_BYTES)) {
-        image->length -= IMAGE_BRANCH_BYTES;
-        image->branch_sample_type = little(image->ring + image->length, 8);
-    }
+    const struct ring_image of = ring_image_of(image->bytes, image->present);
+    const struct ring_attributes *a = &of.attributes;
+    image->head = of.head;
+    image->tail = of.tail;
+    image->sample_type = a->sample_type;
+    image->read_format = a->read_format;
+    image->user_mask = a->user_mask;
+    image->interrupt_mask = a->interrupt_mask;
+    image->branch_sample_type = a->branch_sample_type;
+    image->edition = a->edition;
+    image->sample_id_all = a->sample_id_all;
+    image->ring = of.bytes;
+    image->length = of.length;
 }
 
 static bool read_table(struct image *image, const char *path)
@@ -91,6 +84,19 @@ void image_free(struct image *image)
     image->bytes = NULL;
 }
 
+int image_command(int argc, char **argv, const struct takes *takes, int (*print)(const struct image *image))
+{
+    struct image image;
+    int status;
+    if (take_words(argc, argv, takes, &status) < 0)
+        return status;
+    if (!image_read(&image, argv[1]))
+        return STATUS_FAILED;
+    status = print(&image);
+    image_free(&image);
+    return finished(status);
+}
+
 /* ---- what is wrong with it ---- */
 
 bool image_is_none(const struct image *image)
@@ -100,15 +106,15 @@ bool image_is_none(const struct image *image)
         complain("%s: no ring image: it is empty", image->name);
     else if (image->present >= sizeof perf_data && memcmp(image->bytes, perf_data, sizeof perf_data) == 0)
         complain("%s: no ring image: it is a file of perf record (perf.data)", image->name);
-    else if (image->present < IMAGE_HEADER_BYTES)
+    else if (image->present < IMAGE_HEADER)
         complain("%s: no ring image: it has %zu bytes, and %d stand before the ring", image->name, image->present,
-            IMAGE_HEADER_BYTES);
+            IMAGE_HEADER);
     else if (image->length > OLLSKUVAN_RING_MAX)
         complain("%s: no ring image: more than %u bytes follow the first %d, and no ring is longer", image->name,
-            OLLSKUVAN_RING_MAX, IMAGE_HEADER_BYTES);
-    else if (!length_is_allowed(image->length))
+            OLLSKUVAN_RING_MAX, IMAGE_HEADER);
+    else if (!ring_length_allowed(image->length))
         complain("%s: no ring image: %zu bytes follow the first %d, and a ring's length is a power of two "
-            "from %u to %u", image->name, image->length, IMAGE_HEADER_BYTES, OLLSKUVAN_RING_MIN, OLLSKUVAN_RING_MAX);
+            "from %u to %u", image->name, image->length, IMAGE_HEADER, OLLSKUVAN_RING_MIN, OLLSKUVAN_RING_MAX);
     else
         return false;
     return true;

@@ -20,8 +20,6 @@
 #include "events.h"
 #include "ollskuvan.h"
 
-enum { IMAGE_HEADER_BYTES = 50, IMAGE_BRANCH_BYTES = 8 };
-
 struct image {
     const char *name; /* for messages */
     uint64_t head, tail, sample_type, read_format, user_mask, interrupt_mask, branch_sample_type;
@@ -29,7 +27,7 @@ struct image {
     struct event_table table; /* count 0: the attributes above serve */
     const uint8_t *ring;
     size_t length;  /* of the ring; one more than is allowed stands for any longer one */
-    size_t present; /* bytes of the input; below IMAGE_HEADER_BYTES all numbers above are 0 */
+    size_t present; /* bytes of the input; below IMAGE_HEADER all numbers above are 0 */
     uint8_t *bytes; /* all of it, freed by image_free */
 };
 
@@ -37,6 +35,10 @@ struct image {
  * said. What it holds need not be an image. */
 bool image_read(struct image *image, const char *path);
 void image_free(struct image *image);
+
+/* A command that takes one image: reads it, prints it and gives the exit status. */
+struct takes;
+int image_command(int argc, char **argv, const struct takes *takes, int (*print)(const struct image *image));
 
 /* True if it is no image: too short, or its ring has a length that row 1
  * refuses. It was said what is wrong. */

@@ -17,6 +17,7 @@ static const struct takes takes = {
     NULL, 1, 1,
 };
 
+/* Of fewer than 50 bytes: an empty ring and tail 0, which is 01's stop 1 tail 0. */
 static int print_journal(const struct image *image)
 {
     struct ollskuvan_drained done;
@@ -32,13 +33,5 @@ static int print_journal(const struct image *image)
 
 int journal_command(int argc, char **argv)
 {
-    struct image image;
-    int status;
-    if (take_words(argc, argv, &takes, &status) < 0)
-        return status;
-    if (!image_read(&image, argv[1]))
-        return STATUS_FAILED;
-    status = print_journal(&image); /* below 50 bytes: an empty ring and tail 0, which is 01's stop 1 tail 0 */
-    image_free(&image);
-    return finished(status);
+    return image_command(argc, argv, &takes, print_journal);
 }

@@ -12,6 +12,7 @@
 #include "bytes.h"
 #include "command.h"
 #include "events.h"
+#include "file.h"
 #include "messages.h"
 #include "ollskuvan.h"
 #include "show.h"
@@ -52,56 +53,15 @@ static bool settings_of(struct settings *settings, const char *path)
 
 struct trace {
     const char *path;
-    uint8_t *bytes;
-    size_t length;
+    struct file file;
 };
-
-static bool no_memory(const char *path)
-{
-    complain("%s: no memory", path);
-    return false;
-}
-
-static bool read_all(struct trace *trace, FILE *file)
-{
-    for (size_t room = 0;;) {
-        if (trace->length == room) {
-            room = room != 0 ? 2 * room : 65536;
-            uint8_t *more = realloc(trace->bytes, room);
-            if (more == NULL)
-                return no_memory(trace->path);
-            trace->bytes = more;
-        }
-        errno = 0;
-        size_t got = fread(trace->bytes + trace->length, 1, room - trace->length, file);
-        trace->length += got;
-        if (got == 0)
-            break;
-    }
-    if (ferror(file) == 0)
-        return true;
-    complain("%s: %s", trace->path, errno != 0 ? strerror(errno) : "it cannot be read");
-    return false;
-}
-
-static bool trace_read(struct trace *trace)
-{
-    FILE *file = fopen(trace->path, "rb");
-    if (file == NULL) {
-        complain("%s: %s", trace->path, strerror(errno));
-        return false;
-    }
-    bool done = read_all(trace, file);
-    fclose(file);
-    return done;
-}
 
 /* Where the entry of this number begins: those before it were played, and so are whole. */
 static size_t place_of(const struct trace *trace, uint64_t entry)
 {
     size_t at = 0;
     for (uint64_t i = 0; i < entry; i++)
-        at += (size_t)little(trace->bytes + at, 4);
+        at += (size_t)little(trace->file.bytes + at, 4);
     return at;
 }
 
@@ -139,13 +99,13 @@ static int tell_end(const struct trace *trace, const struct ollskuvan_replayed *
 /* Every record of the journal was offered by an entry of its own. */
 static int play(const struct trace *trace, const struct settings *s)
 {
-    size_t rooms_len = 2 * (size_t)s->ring, journal_len = OLLSKUVAN_JOURNAL_ENTRY * (trace->length / OFFER_LEAST + 1);
+    size_t rooms_len = 2 * (size_t)s->ring, journal_len = OLLSKUVAN_JOURNAL_ENTRY * (trace->file.length / OFFER_LEAST + 1);
     uint8_t *rooms = calloc(rooms_len + 1, 1), *journal = malloc(journal_len);
     int status = STATUS_FAILED;
     if (rooms == NULL || journal == NULL) {
         no_memory(trace->path);
     } else {
-        struct ollskuvan_replayed r = ollskuvan_replay(trace->bytes, trace->length, s->start, s->table.events, s->table.count,
+        struct ollskuvan_replayed r = ollskuvan_replay(trace->file.bytes, trace->file.length, s->start, s->table.events, s->table.count,
             (uint32_t)s->edition, rooms, rooms_len, journal, journal_len);
         for (uint64_t i = 0; i < r.taken && !ferror(stdout); i++)
             show_entry(journal + i * OLLSKUVAN_JOURNAL_ENTRY);
@@ -177,7 +137,7 @@ static bool take_number(const char *option, const char *text, uint64_t most, uin
 int replay_command(int argc, char **argv)
 {
     struct settings settings = { .ring = 16384, .start = 0, .edition = OLLSKUVAN_EDITION_4 };
-    struct trace trace = { NULL, NULL, 0 };
+    struct trace trace;
     const char *ring = NULL, *start = NULL, *edition = NULL;
     int status;
     if (!take_option(&argc, argv, "--ring", &ring, takes.usage, &status) ||
@@ -190,7 +150,7 @@ int replay_command(int argc, char **argv)
         !take_number("--edition", edition, OLLSKUVAN_EDITION_4, &settings.edition))
         return STATUS_USAGE;
     trace.path = argv[1];
-    status = trace_read(&trace) && settings_of(&settings, trace.path) ? play(&trace, &settings) : STATUS_FAILED;
-    free(trace.bytes);
+    status = file_read(&trace.file, trace.path) && settings_of(&settings, trace.path) ? play(&trace, &settings) : STATUS_FAILED;
+    free(trace.file.bytes);
     return finished(status);
 }

@@ -11,6 +11,7 @@
 #include "bytes.h"
 #include "command.h"
 #include "events.h"
+#include "file.h"
 #include "messages.h"
 #include "ollskuvan.h"
 #include "settings.h"
@@ -67,51 +68,6 @@ static bool basis_beside(struct basis *basis, const char *path)
 
 /* ---- files ---- */
 
-struct stream {
-    uint8_t *bytes;
-    size_t length;
-};
-
-static bool no_memory(const char *path)
-{
-    complain("%s: no memory", path);
-    return false;
-}
-
-static bool read_all(struct stream *stream, FILE *file, const char *path)
-{
-    for (size_t room = 0;;) {
-        if (stream->length == room) {
-            room = room != 0 ? 2 * room : 65536;
-            uint8_t *more = realloc(stream->bytes, room);
-            if (more == NULL)
-                return no_memory(path);
-            stream->bytes = more;
-        }
-        errno = 0;
-        size_t got = fread(stream->bytes + stream->length, 1, room - stream->length, file);
-        stream->length += got;
-        if (got == 0)
-            break;
-    }
-    if (ferror(file) == 0)
-        return true;
-    complain("%s: %s", path, errno != 0 ? strerror(errno) : "it cannot be read");
-    return false;
-}
-
-static bool stream_read(struct stream *stream, const char *path)
-{
-    FILE *file = fopen(path, "rb");
-    if (file == NULL) {
-        complain("%s: %s", path, strerror(errno));
-        return false;
-    }
-    bool done = read_all(stream, file, path);
-    fclose(file);
-    return done;
-}
-
 /* A new file: one that is there already is left as it is. */
 static FILE *create(const char *path)
 {
@@ -134,7 +90,7 @@ static bool write_all(FILE *file, const char *path, const uint8_t *bytes, size_t
 struct salvage {
     const char *in, *out, *changes, *store; /* paths; changes is a null pointer if no list is wanted, store if the table stands beside */
     struct basis basis;
-    struct stream stream;
+    struct file stream;
     uint8_t *kept, *list;
     struct ollskuvan_salvaged told;
 };
@@ -234,7 +190,7 @@ int salvage_command(int argc, char **argv)
         return STATUS_USAGE;
     s.in = argv[1];
     s.out = argv[2];
-    bool done = stream_read(&s.stream, s.in) &&
+    bool done = file_read(&s.stream, s.in) &&
         (s.store != NULL ? basis_of_store(&s.basis, s.store) : basis_beside(&s.basis, s.in)) && salvage(&s) && write_files(&s);
     if (done)
         print_told(&s);

@@ -127,6 +127,16 @@ $tool journal $out/not-indexed.img | cmp -s - <(target/bin/ringdump <$out/not-in
 { head -c -8 $out/indexed/indexed.img; head -c 8 /dev/zero; } >$out/indexed-0.img
 $tool dump $out/indexed-0.img | cmp -s - <($tool dump $out/not-indexed.img) || wrong "a branch sample type of 0 behind the ring"
 
+# ---- an event's branch sample type stands in the table: the same records as by the image's own, and not by another event's
+head -c -8 $out/indexed/indexed-event.img >$out/event.img
+table_of() { printf '%s 0x14804 0x0 0x0 0x0 %s 1\n' 1003 "$1" 1054 "$2" >$out/event.table; } # of the SAMPLE's event, of the others'
+table_of 0x20009 0x0
+$tool dump $out/event.img >$out/event.txt || wrong "dump with an event's branch sample type failed"
+cmp -s <(sed -n '/^record 0/,$p' $out/event.txt) <(sed -n '/^record 0/,$p' $out/indexed-event.txt) &&
+  grep -q '^    hardware index      0x401$' $out/event.txt || wrong "dump with an event's branch sample type: other fields than without a table"
+table_of 0x0 0x20009
+$tool dump $out/event.img | grep -q ' 1 refused$' || wrong "dump takes another event's branch sample type"
+
 # ---- rings of several events: with the table beside them no record is refused; without it some are
 for image in rings/events/*.img; do
   name=events-$(basename "$image" .img)

@@ -39,6 +39,7 @@
 #include <unistd.h>
 
 #include "ollskuvan.h"
+#include "reader.h"
 
 enum { CONTROL = 48, BRANCH = 8, HEADER = 50, LONGEST = 65536, FIELDS = OLLSKUVAN_FIELDS };
 enum { TABLED_CALL = 4, STORE_CALL = 5, TRIED = 6 };
@@ -54,37 +55,7 @@ enum {
     FLAG_KEPT = 128    /* write: a name's flag stays as it was read; else it is taken off before the changes */
 };
 
-/* The independent reader, and ringdump with its main, read and write renamed. */
-struct ollskuvan_drained reader_drain(const uint8_t *, size_t, uint64_t, uint64_t, uint64_t, uint64_t, uint32_t,
-    uint64_t, uint64_t, uint64_t, uint32_t, uint64_t, uint8_t *, size_t, uint8_t *, size_t);
-uint32_t reader_check(const uint8_t *, size_t, uint64_t, uint64_t, uint32_t, uint64_t, uint64_t, uint64_t, uint32_t);
-uint32_t reader_misc_meaning(uint64_t, uint64_t);
-struct ollskuvan_published reader_publish(uint64_t, uint64_t, uint64_t, uint64_t);
-uint32_t reader_copy_name(const uint8_t *, size_t, uint64_t, uint64_t, uint8_t *, size_t);
-uint32_t reader_read(const uint8_t *, size_t, uint64_t, uint64_t, uint32_t, uint64_t, uint64_t, uint64_t, uint32_t,
-    uint64_t *, size_t);
-struct ollskuvan_one reader_read_one(const uint8_t *, size_t, uint64_t, uint64_t, uint64_t, uint64_t, uint32_t,
-    uint64_t, uint64_t, uint64_t, uint32_t, uint8_t *, size_t, uint64_t *, size_t);
-uint32_t reader_write(const uint64_t *, size_t, const uint8_t *, size_t, uint64_t, uint64_t, uint32_t, uint64_t,
-    uint64_t, uint64_t, uint32_t, uint8_t *, size_t);
-struct ollskuvan_drained reader_drain_events(const uint8_t *, size_t, uint64_t, uint64_t, const struct ollskuvan_event *,
-    size_t, uint32_t, uint64_t, uint8_t *, size_t, uint8_t *, size_t);
-struct ollskuvan_walked reader_walk_back(const uint8_t *, size_t, uint64_t, uint64_t, uint64_t, uint32_t, uint64_t,
-    uint64_t, uint64_t, uint32_t, uint64_t, uint8_t *, size_t, uint8_t *, size_t);
-struct ollskuvan_walked reader_walk_back_events(const uint8_t *, size_t, uint64_t, const struct ollskuvan_event *, size_t,
-    uint32_t, uint64_t, uint8_t *, size_t, uint8_t *, size_t);
-size_t reader_find_event(const struct ollskuvan_event *, size_t, uint64_t);
-struct ollskuvan_one reader_read_one_events(const uint8_t *, size_t, uint64_t, uint64_t, const struct ollskuvan_event *,
-    size_t, uint32_t, uint8_t *, size_t, uint64_t *, size_t);
-struct ollskuvan_settings reader_read_store(const uint8_t *, size_t, struct ollskuvan_event *, size_t);
-struct ollskuvan_stored reader_write_store(const struct ollskuvan_event *, size_t, uint64_t, uint32_t, uint32_t, uint8_t *,
-    size_t);
-struct ollskuvan_replayed reader_replay(const uint8_t *, size_t, uint64_t, const struct ollskuvan_event *, size_t, uint32_t,
-    uint8_t *, size_t, uint8_t *, size_t);
-struct ollskuvan_salvaged reader_salvage(const uint8_t *, size_t, const struct ollskuvan_event *, size_t, uint32_t,
-    uint8_t *, size_t, uint8_t *, size_t);
-struct ollskuvan_compared reader_compare(const uint8_t *, size_t, uint64_t, uint64_t, uint8_t *, size_t, const uint8_t *,
-    size_t, uint64_t, uint64_t, uint8_t *, size_t, const struct ollskuvan_event *, size_t, uint32_t);
+/* What else the independent reader has, and ringdump with its main, read and write renamed. */
 size_t reader_print(const uint8_t *, size_t, uint8_t *, size_t);
 size_t reader_mutate(uint8_t *, size_t, size_t, uint32_t);
 int ringdump_main(void);

@@ -17,17 +17,6 @@ pub struct CDrained {
 }
 
 #[repr(C)]
-pub struct COne {
-    pub place: u64,
-    pub size: u64,
-    pub tail: u64,
-    pub in_scratch: u32,
-    pub stop: u32,
-    pub answer: u32,
-    pub inspected: u32,
-}
-
-#[repr(C)]
 pub struct CPublished {
     pub tail: u64,
     pub answer: u32,
@@ -87,25 +76,11 @@ extern "C" {
     ) -> CStored;
 }
 
-#[repr(C)]
-pub struct CReplayed {
-    pub entries: u64,
-    pub offered_bytes: u64,
-    pub drained_bytes: u64,
-    pub dropped_bytes: u64,
-    pub held_bytes: u64,
-    pub taken: u64,
-    pub dropped: u64,
-    pub head: u64,
-    pub tail: u64,
-    pub answer: u32,
-}
-
 extern "C" {
     pub fn ollskuvan_replay(
         trace: *const u8, trace_len: usize, start: u64, events: *const Event, event_count: usize, edition: u32,
         rooms: *mut u8, rooms_len: usize, journal: *mut u8, journal_len: usize,
-    ) -> CReplayed;
+    ) -> Replayed;
 }
 
 #[repr(C)]
@@ -138,7 +113,7 @@ extern "C" {
     pub fn ollskuvan_read_one_events(
         ring: *const u8, ring_len: usize, head: u64, tail: u64, events: *const Event, event_count: usize, edition: u32,
         scratch: *mut u8, scratch_len: usize, fields: *mut u64, fields_len: usize,
-    ) -> COne;
+    ) -> One;
     pub fn ollskuvan_drain(
         ring: *const u8, ring_len: usize, head: u64, tail: u64, sample_type: u64, read_format: u64,
         sample_id_all: u32, user_mask: u64, interrupt_mask: u64, branch_sample_type: u64, edition: u32, budget: u64,
@@ -162,7 +137,7 @@ extern "C" {
         ring: *const u8, ring_len: usize, head: u64, tail: u64, sample_type: u64, read_format: u64,
         sample_id_all: u32, user_mask: u64, interrupt_mask: u64, branch_sample_type: u64, edition: u32, scratch: *mut u8,
         scratch_len: usize, fields: *mut u64, fields_len: usize,
-    ) -> COne;
+    ) -> One;
     #[cfg(not(without_values))]
     pub fn ollskuvan_write(
         fields: *const u64, fields_len: usize, source: *const u8, source_len: usize, sample_type: u64,
@@ -249,30 +224,16 @@ pub fn read(record: &[u8], a: &Attributes, edition: u32, fields: &mut [u64]) -> 
 }
 
 #[cfg(not(without_values))]
-fn told_one(o: COne) -> One {
-    One {
-        place: o.place,
-        size: o.size,
-        tail: o.tail,
-        in_scratch: o.in_scratch,
-        stop: o.stop,
-        answer: o.answer,
-        inspected: o.inspected,
-    }
-}
-
-#[cfg(not(without_values))]
 pub fn read_one(
     ring: &[u8], head: u64, tail: u64, a: &Attributes, edition: u32, scratch: &mut [u8], fields: &mut [u64],
 ) -> One {
-    let o = unsafe {
+    unsafe {
         ollskuvan_read_one(
             ring.as_ptr(), ring.len(), head, tail, a.sample_type, a.read_format, a.sample_id_all, a.user_mask,
             a.interrupt_mask, a.branch_sample_type, edition, scratch.as_mut_ptr(), scratch.len(), fields.as_mut_ptr(),
             fields.len(),
         )
-    };
-    told_one(o)
+    }
 }
 
 // With a table: seven words an event, lent as the events that they are.
@@ -306,23 +267,11 @@ pub fn find_event(words: &[u64], identifier: u64) -> usize {
 }
 
 pub fn replay(trace: &[u8], start: u64, words: &[u64], edition: u32, rooms: &mut [u8], journal: &mut [u8]) -> Replayed {
-    let r = unsafe {
+    unsafe {
         ollskuvan_replay(
             trace.as_ptr(), trace.len(), start, words.as_ptr().cast(), words.len() / 7, edition, rooms.as_mut_ptr(),
             rooms.len(), journal.as_mut_ptr(), journal.len(),
         )
-    };
-    Replayed {
-        entries: r.entries,
-        offered_bytes: r.offered_bytes,
-        drained_bytes: r.drained_bytes,
-        dropped_bytes: r.dropped_bytes,
-        held_bytes: r.held_bytes,
-        taken: r.taken,
-        dropped: r.dropped,
-        head: r.head,
-        tail: r.tail,
-        answer: r.answer,
     }
 }
 
@@ -356,13 +305,12 @@ pub fn compare(
 pub fn read_one_events(
     ring: &[u8], head: u64, tail: u64, words: &[u64], edition: u32, scratch: &mut [u8], fields: &mut [u64],
 ) -> One {
-    let o = unsafe {
+    unsafe {
         ollskuvan_read_one_events(
             ring.as_ptr(), ring.len(), head, tail, words.as_ptr().cast(), words.len() / 7, edition,
             scratch.as_mut_ptr(), scratch.len(), fields.as_mut_ptr(), fields.len(),
         )
-    };
-    told_one(o)
+    }
 }
 
 #[cfg(not(without_values))]

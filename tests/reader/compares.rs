@@ -69,16 +69,9 @@ fn both(p: &Pair, r: &mut Random, tally: &mut Tally) -> Result<Compared, Differe
         ("right scratch", &lent_right_scratch, &right_scratch),
     ];
     for (name, lent, due) in lent {
-        if let Some(at) = crate::guard::first_difference(lent.slice(), due) {
-            wrong.push(format!("the {name} differs at byte {at}: library {}, due {}", hex(lent.slice()), hex(due)));
-        }
-        if !lent.intact() {
-            wrong.push(format!("bytes around the {name} were written to"));
-        }
+        lent.told(name, due, &mut wrong);
     }
-    if lent_table.slice() != words || !lent_table.intact() {
-        wrong.push("the table, or words around it, were written to".to_string());
-    }
+    lent_table.told("table", &words, &mut wrong);
     if !wrong.is_empty() {
         return Err(format!("the comparison differs\n{}{}", describe(p), wrong.join("\n")));
     }

@@ -32,28 +32,12 @@ pub fn compare_drain_with(
 
     let lent_table = GuardedWords::new(&table_words(table));
 
+    let (bytes, out_scratch, out_journal) = (lent_ring.slice(), lent_scratch.slice_mut(), lent_journal.slice_mut());
     let theirs = if table.is_some() {
-        abi::drain_events(
-            lent_ring.slice(),
-            case.head,
-            case.tail,
-            lent_table.slice(),
-            case.edition,
-            case.budget,
-            lent_scratch.slice_mut(),
-            lent_journal.slice_mut(),
-        )
+        let words = lent_table.slice();
+        abi::drain_events(bytes, case.head, case.tail, words, case.edition, case.budget, out_scratch, out_journal)
     } else {
-        abi::drain(
-            lent_ring.slice(),
-            case.head,
-            case.tail,
-            a,
-            case.edition,
-            case.budget,
-            lent_scratch.slice_mut(),
-            lent_journal.slice_mut(),
-        )
+        abi::drain(bytes, case.head, case.tail, a, case.edition, case.budget, out_scratch, out_journal)
     };
     let ring = Ring { bytes: &case.ring, head: case.head, edition: case.edition, attributes: *a };
     let ours = ring::drain_with(&ring, case.tail, table, case.budget, &mut scratch, &mut journal);

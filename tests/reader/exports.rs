@@ -5,12 +5,12 @@
 //! and says nothing about the library. Under names of its own (`own_names`: reader_drain and so on) it
 //! stands beside the library in one program: the fuzz target, tests/fuzz.
 
-use crate::abi::{CDrained, COne, CPublished, CSettings, CStored, CReplayed, CWalked, CSalvaged, CCompared};
+use crate::abi::{CDrained, CPublished, CSettings, CStored, CWalked, CSalvaged, CCompared};
 use crate::backward::{self, Walked};
 use crate::compare;
 use crate::events::{self, Event};
 use crate::record;
-use crate::replay;
+use crate::replay::{self, Replayed};
 use crate::ring::{self, One, Ring};
 use crate::rules::{self, Attributes};
 use crate::store::{self, Settings};
@@ -25,18 +25,6 @@ pub unsafe fn lent<'s, T>(pointer: *const T, length: usize) -> &'s [T] {
 
 pub unsafe fn lent_mut<'s, T>(pointer: *mut T, length: usize) -> &'s mut [T] {
     if length == 0 { &mut [] } else { std::slice::from_raw_parts_mut(pointer, length) }
-}
-
-fn one_for_c(o: &One) -> COne {
-    COne {
-        place: o.place,
-        size: o.size,
-        tail: o.tail,
-        in_scratch: o.in_scratch,
-        stop: o.stop,
-        answer: o.answer,
-        inspected: o.inspected,
-    }
 }
 
 #[cfg_attr(own_names, export_name = "reader_drain")]
@@ -99,11 +87,10 @@ pub unsafe extern "C" fn ollskuvan_read_one(
     ring: *const u8, ring_len: usize, head: u64, tail: u64, sample_type: u64, read_format: u64,
     sample_id_all: u32, user_mask: u64, interrupt_mask: u64, branch_sample_type: u64, edition: u32, scratch: *mut u8,
     scratch_len: usize, fields: *mut u64, fields_len: usize,
-) -> COne {
+) -> One {
     let attributes = Attributes { sample_type, read_format, sample_id_all, user_mask, interrupt_mask, branch_sample_type };
     let ring = Ring { bytes: lent(ring, ring_len), head, edition, attributes };
-    let o = ring::read_one(&ring, tail, None, lent_mut(scratch, scratch_len), lent_mut(fields, fields_len));
-    one_for_c(&o)
+    ring::read_one(&ring, tail, None, lent_mut(scratch, scratch_len), lent_mut(fields, fields_len))
 }
 
 #[cfg_attr(own_names, export_name = "reader_drain_events")]
@@ -129,11 +116,10 @@ pub unsafe extern "C" fn ollskuvan_find_event(table: *const Event, event_count: 
 pub unsafe extern "C" fn ollskuvan_read_one_events(
     ring: *const u8, ring_len: usize, head: u64, tail: u64, table: *const Event, event_count: usize, edition: u32,
     scratch: *mut u8, scratch_len: usize, fields: *mut u64, fields_len: usize,
-) -> COne {
+) -> One {
     let ring = Ring { bytes: lent(ring, ring_len), head, edition, attributes: Attributes::EMPTY };
     let table = Some(lent(table, event_count));
-    let o = ring::read_one(&ring, tail, table, lent_mut(scratch, scratch_len), lent_mut(fields, fields_len));
-    one_for_c(&o)
+    ring::read_one(&ring, tail, table, lent_mut(scratch, scratch_len), lent_mut(fields, fields_len))
 }
 
 #[cfg_attr(own_names, export_name = "reader_write")]
@@ -190,21 +176,9 @@ pub unsafe extern "C" fn ollskuvan_write_store(
 pub unsafe extern "C" fn ollskuvan_replay(
     trace: *const u8, trace_len: usize, start: u64, table: *const Event, event_count: usize, edition: u32, rooms: *mut u8,
     rooms_len: usize, journal: *mut u8, journal_len: usize,
-) -> CReplayed {
+) -> Replayed {
     let (trace, table) = (lent(trace, trace_len), lent(table, event_count));
-    let r = replay::replay(trace, start, table, edition, lent_mut(rooms, rooms_len), lent_mut(journal, journal_len));
-    CReplayed {
-        entries: r.entries,
-        offered_bytes: r.offered_bytes,
-        drained_bytes: r.drained_bytes,
-        dropped_bytes: r.dropped_bytes,
-        held_bytes: r.held_bytes,
-        taken: r.taken,
-        dropped: r.dropped,
-        head: r.head,
-        tail: r.tail,
-        answer: r.answer,
-    }
+    replay::replay(trace, start, table, edition, lent_mut(rooms, rooms_len), lent_mut(journal, journal_len))
 }
 
 fn walked_for_c(w: &Walked) -> CWalked {

@@ -32,6 +32,18 @@ impl Guarded {
     }
 }
 
+impl Guarded {
+    /// What is wrong with it where this is due.
+    pub fn told(&self, name: &str, due: &[u8], wrong: &mut Vec<String>) {
+        if let Some(at) = first_difference(self.slice(), due) {
+            wrong.push(format!("the {name} differs at byte {at}: library {}, due {}", hex(self.slice()), hex(due)));
+        }
+        if !self.intact() {
+            wrong.push(format!("bytes around the {name} were written to"));
+        }
+    }
+}
+
 /// The same for words.
 pub struct GuardedWords {
     words: Vec<u64>,
@@ -58,6 +70,14 @@ impl GuardedWords {
     pub fn intact(&self) -> bool {
         let good = |words: &[u64]| words.iter().all(|w| *w == WORD);
         good(&self.words[..2]) && good(&self.words[2 + self.length..])
+    }
+}
+
+impl GuardedWords {
+    pub fn told(&self, name: &str, due: &[u64], wrong: &mut Vec<String>) {
+        if self.slice() != due || !self.intact() {
+            wrong.push(format!("the {name}, or words around it, were written to"));
+        }
     }
 }
 

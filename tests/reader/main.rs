@@ -5,6 +5,7 @@
 
 mod abi;
 mod backward;
+mod by_hand;
 mod cases;
 mod compare;
 mod compares;

@@ -2,13 +2,14 @@
 //! beside the library's own drains over a ring that is filled here.
 
 use crate::abi;
+use crate::by_hand::*;
 use crate::drains::{describe_table, table_words, Difference};
 use crate::events::{self, Event};
 use crate::guard::*;
 use crate::made::*;
 use crate::record::number;
 use crate::replay::{self, ask, trace_entry, Asks, Replayed};
-use crate::rules::{edition, Attributes};
+use crate::rules::edition;
 use crate::tables::{event_record, sound_table, spoil};
 use crate::tally::Tally;
 
@@ -203,16 +204,9 @@ fn compare(c: &Case, r: &mut Random, tally: &mut Tally) -> Result<Came, Differen
         wrong.push(format!("told: library {theirs:?}\n      independent {ours:?}"));
     }
     for (name, lent, due) in [("trace", &lent_trace, &c.trace), ("rooms", &lent_rooms, &rooms), ("journal", &lent_journal, &journal)] {
-        if let Some(at) = first_difference(lent.slice(), due) {
-            wrong.push(format!("the {name} differs at byte {at}: library {}, due {}", hex(lent.slice()), hex(due)));
-        }
-        if !lent.intact() {
-            wrong.push(format!("bytes around the {name} were written to"));
-        }
+        lent.told(name, due, &mut wrong);
     }
-    if lent_table.slice() != words || !lent_table.intact() {
-        wrong.push("the table, or words around it, were written to".to_string());
-    }
+    lent_table.told("table", &words, &mut wrong);
     if !wrong.is_empty() {
         return Err(format!("replay differs\n{}{}", describe(c), wrong.join("\n")));
     }
@@ -346,28 +340,6 @@ pub fn missing_notes(tally: &Tally) -> Vec<String> {
 }
 
 // ---- by hand ----
-
-/// The event of the traces by hand: its records have the identifier 7 and nothing else in the trailer.
-fn event() -> Event {
-    Event::new(7, &Attributes { sample_type: 1 << 16, sample_id_all: 1, ..Attributes::EMPTY })
-}
-
-/// A record of this type with these words behind its header.
-fn laid(kind: u8, words: &[u64]) -> Vec<u8> {
-    let size = 8 + 8 * words.len() as u16;
-    let mut bytes = vec![kind, 0, 0, 0, 0, 0];
-    bytes.extend(size.to_le_bytes());
-    bytes.extend(words.iter().flat_map(|w| w.to_le_bytes()));
-    bytes
-}
-
-fn switch() -> Vec<u8> {
-    laid(14, &[7])
-}
-
-fn lost() -> Vec<u8> {
-    laid(2, &[5, 6, 7])
-}
 
 const BEFORE: u64 = 0u64.wrapping_sub(8);
 

@@ -2,12 +2,13 @@
 //! M-111 promises of the library's own output: the sums, the runs, and that salvaging it again changes nothing.
 
 use crate::abi;
+use crate::by_hand::*;
 use crate::drains::{describe_table, table_words, Difference};
 use crate::events::{self, Event};
 use crate::guard::*;
 use crate::made::*;
 use crate::record::{self, number};
-use crate::rules::{edition, Attributes};
+use crate::rules::edition;
 use crate::salvage::{self, framed, parts, Parts, Salvaged, ENTRY};
 use crate::tables::{event_record, sound_table, spoil};
 use crate::tally::Tally;
@@ -145,16 +146,9 @@ fn compare(s: &Stream, out: usize, changes: usize, r: &mut Random, tally: &mut T
         wrong.push(format!("results: library {theirs:?}, independent {ours:?}"));
     }
     for (name, lent, due) in [("output", &lent_out, &out), ("list", &lent_changes, &changes), ("stream", &lent_stream, &s.bytes)] {
-        if let Some(at) = first_difference(lent.slice(), due) {
-            wrong.push(format!("the {name} differs at byte {at}: library {}, due {}", hex(lent.slice()), hex(due)));
-        }
-        if !lent.intact() {
-            wrong.push(format!("bytes around the {name} were written to"));
-        }
+        lent.told(name, due, &mut wrong);
     }
-    if lent_table.slice() != words || !lent_table.intact() {
-        wrong.push("the table, or words around it, were written to".to_string());
-    }
+    lent_table.told("table", &words, &mut wrong);
     if !wrong.is_empty() {
         return Err(format!("salvage differs\n{}{}", describe(s, out.len(), changes.len()), wrong.join("\n")));
     }
@@ -293,28 +287,6 @@ fn count(s: &Stream, due: &Parts, tally: &mut Tally) {
 }
 
 // ---- by hand ----
-
-/// The event of the streams by hand: its records have the identifier 7 and nothing else in the trailer.
-fn event() -> Event {
-    Event::new(7, &Attributes { sample_type: 1 << 16, sample_id_all: 1, ..Attributes::EMPTY })
-}
-
-/// A record of this type with these words behind its header.
-fn laid(kind: u8, words: &[u64]) -> Vec<u8> {
-    let size = 8 + 8 * words.len() as u16;
-    let mut bytes = vec![kind, 0, 0, 0, 0, 0];
-    bytes.extend(size.to_le_bytes());
-    bytes.extend(words.iter().flat_map(|w| w.to_le_bytes()));
-    bytes
-}
-
-fn switch() -> Vec<u8> {
-    laid(14, &[7])
-}
-
-fn lost() -> Vec<u8> {
-    laid(2, &[5, 6, 7])
-}
 
 /// "kiln", its zero, and three stale bytes.
 fn dirty() -> Vec<u8> {

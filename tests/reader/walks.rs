@@ -142,26 +142,12 @@ pub fn compare_walk(walk: &WalkCase, r: &mut Random, tally: &mut Tally) -> Resul
     let lent_table = GuardedWords::new(&table_words(walk.table()));
     let (before_scratch, before_journal) = (scratch.clone(), journal.clone());
 
+    let (bytes, out_scratch, out_journal) = (lent_ring.slice(), lent_scratch.slice_mut(), lent_journal.slice_mut());
     let theirs = if walk.events.is_some() {
-        abi::walk_back_events(
-            lent_ring.slice(),
-            case.head,
-            lent_table.slice(),
-            case.edition,
-            case.budget,
-            lent_scratch.slice_mut(),
-            lent_journal.slice_mut(),
-        )
+        let words = lent_table.slice();
+        abi::walk_back_events(bytes, case.head, words, case.edition, case.budget, out_scratch, out_journal)
     } else {
-        abi::walk_back(
-            lent_ring.slice(),
-            case.head,
-            &case.attributes,
-            case.edition,
-            case.budget,
-            lent_scratch.slice_mut(),
-            lent_journal.slice_mut(),
-        )
+        abi::walk_back(bytes, case.head, &case.attributes, case.edition, case.budget, out_scratch, out_journal)
     };
     let ring = Ring { bytes: &case.ring, head: case.head, edition: case.edition, attributes: case.attributes };
     let ours = backward::walk(&ring, walk.table(), case.budget, &mut scratch, &mut journal);

@@ -27,10 +27,10 @@ static void change(uint8_t *bytes, size_t length)
 {
     static const uint8_t edges[] = { 0, 1, 4, 7, 8, 9, 20, 21, 64, 127, 128, 248, 254, 255 };
     size_t at = (size_t)some(length);
-    if (at < IMAGE_HEADER_BYTES && some(40) != 0)
-        at += IMAGE_HEADER_BYTES;
+    if (at < IMAGE_HEADER && some(40) != 0)
+        at += IMAGE_HEADER;
     if (some(40) == 0)
-        at = (size_t)some(IMAGE_HEADER_BYTES);
+        at = (size_t)some(IMAGE_HEADER);
     if (at < length)
         bytes[at] = some(2) == 0 ? edges[some(sizeof edges)] : (uint8_t)some(256);
 }
@@ -74,7 +74,7 @@ static bool try_commands(char *path)
 
 int main(int argc, char **argv)
 {
-    static uint8_t bytes[IMAGE_HEADER_BYTES + OLLSKUVAN_RING_MAX + 64];
+    static uint8_t bytes[IMAGE_HEADER + OLLSKUVAN_RING_MAX + 64];
     unsigned long count = argc > 3 ? strtoul(argv[1], NULL, 10) : 0;
     if (count == 0 || freopen("/dev/null", "w", stdout) == NULL)
         return 2;

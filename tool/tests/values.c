@@ -446,8 +446,8 @@ static void write_image(const char *folder, const char *name, const struct image
     uint64_t last, bool stale)
 {
     enum { RING = 8192, START = RING - 200 };
-    static uint8_t bytes[IMAGE_HEADER_BYTES + RING + IMAGE_BRANCH_BYTES];
-    size_t length = sizeof bytes - (a->branch_sample_type == 0 ? IMAGE_BRANCH_BYTES : 0);
+    static uint8_t bytes[IMAGE_HEADER + RING + IMAGE_BRANCH];
+    size_t length = sizeof bytes - (a->branch_sample_type == 0 ? IMAGE_BRANCH : 0);
     struct made made = { .image = *a, .plain = true };
     char path[4096];
     size_t at = START;
@@ -462,7 +462,7 @@ static void write_image(const char *folder, const char *name, const struct image
         if (stale)
             put_stale(&made);
         for (size_t i = 0; i < made.fields[OLLSKUVAN_SIZE]; i++, at++)
-            bytes[IMAGE_HEADER_BYTES + at % RING] = record[i];
+            bytes[IMAGE_HEADER + at % RING] = record[i];
     }
     put_little(bytes, 8, at);
     put_little(bytes + 8, 8, START);
@@ -472,7 +472,7 @@ static void write_image(const char *folder, const char *name, const struct image
     put_little(bytes + 40, 8, a->interrupt_mask);
     bytes[48] = (uint8_t)a->edition;
     bytes[49] = (uint8_t)a->sample_id_all;
-    put_little(bytes + IMAGE_HEADER_BYTES + RING, 8, a->branch_sample_type);
+    put_little(bytes + IMAGE_HEADER + RING, 8, a->branch_sample_type);
     snprintf(path, sizeof path, "%s/%s.img", folder, name);
     FILE *file = fopen(path, "wb");
     if (file == NULL || fwrite(bytes, 1, length, file) != length || fclose(file) != 0) {
@@ -508,6 +508,9 @@ static void write_indexed(const char *folder)
     write_image(folder, "indexed", &a, false, OLLSKUVAN_TYPE_READ, OLLSKUVAN_TYPE_MMAP2, false);
     a.edition = 2;
     write_image(folder, "indexed-edition-2", &a, false, OLLSKUVAN_TYPE_READ, OLLSKUVAN_TYPE_MMAP2, false);
+    a.edition = 3;
+    a.sample_type |= OLLSKUVAN_BIT_IDENTIFIER; /* for a table of events */
+    write_image(folder, "indexed-event", &a, false, OLLSKUVAN_TYPE_READ, OLLSKUVAN_TYPE_MMAP2, false);
 }
 
 /* The five types that have a name, before a trailer. */
