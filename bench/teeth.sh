@@ -37,12 +37,12 @@ plant() { # WORDS SED-EXPRESSION (over the whole file at once) [COMPARISON of be
   fi
   build -o "$out/bench" "$out"/planted/*.c "$out"/*.o "$library"
   # in a shell of its own: some mistakes end in a crash, which is found too
-  if bash -c '"$@"; exit $?' teeth "$out/bench" "$mode" "${RINGS:-20000}" "${SEED:-1}" >"$out/log" 2>&1; then
-    echo "MISSED: $1"
-    missed=$((missed + 1))
-  else
-    found=$((found + 1))
-  fi
+  bash -c '"$@"; exit $?' teeth "$out/bench" "$mode" "${RINGS:-20000}" "${SEED:-1}" >"$out/log" 2>&1
+  case $? in
+    0) echo "MISSED: $1" && missed=$((missed + 1)) ;;
+    2) echo "bench/teeth.sh: no such comparison: $mode" >&2 && exit 2 ;;
+    *) found=$((found + 1)) ;;
+  esac
 }
 
 plant "a build id of 21 bytes" 's/record\[40\] > 20/record[40] > 21/'
