@@ -2,6 +2,7 @@
 //! the journal. Other than ollskuvan_drain it makes a value of each record and does not test all that
 //! document 01 tests (names without a zero, bytes left over, the types it does not know), so times are to be
 //! read as "what a reader from the shelf costs", not as the same work.
+//! The two exports have C's parameters each, since the bench calls them as it calls any drain.
 
 use linux_perf_event_reader::{
     Endianness, PerfEventAttr, RawData, RawEventRecord, RecordParseInfo, RecordType,

@@ -12,6 +12,14 @@ out=target/bench/teeth
 mkdir -p "$out" || exit 2
 found=0 missed=0
 
+# what no mistake is planted in is compiled once
+build() { gcc -std=c11 -O2 -w -DWITHOUT_VALUES -Iinclude "$@" || exit 2; }
+rm -f "$out"/*.o
+for file in bench/*.c; do
+  case $file in bench/careful*.c | bench/count.c) continue ;; esac
+  build -c -o "$out/$(basename "$file" .c).o" "$file"
+done
+
 plant() { # WORDS SED-EXPRESSION (over the whole file at once) [COMPARISON of bench.c: compare [FILE: that of the comparison]]
   local mode=${3:-compare} file=careful.c
   case $mode in
@@ -21,20 +29,20 @@ plant() { # WORDS SED-EXPRESSION (over the whole file at once) [COMPARISON of be
     compare-salvage) file=careful_salvage.c ;;
   esac
   file=${4:-$file}
-  rm -rf "$out"/bench* && mkdir "$out/bench.d" && cp bench/*.[ch] "$out/bench.d" && rm "$out/bench.d/count.c" || exit 2
-  sed -z "$2" "bench/$file" >"$out/bench.d/$file" || exit 2
-  if cmp -s "bench/$file" "$out/bench.d/$file"; then
+  rm -rf "$out/planted" && mkdir "$out/planted" && cp bench/careful*.c bench/*.h "$out/planted" || exit 2
+  sed -z "$2" "bench/$file" >"$out/planted/$file" || exit 2
+  if cmp -s "bench/$file" "$out/planted/$file"; then
     echo "bench/teeth.sh: '$1' changes nothing: $file has moved on" >&2
     exit 2
   fi
-  gcc -std=c11 -O2 -w -DWITHOUT_VALUES -Iinclude -o "$out/bench" "$out"/bench.d/*.c "$library" || exit 2
+  build -o "$out/bench" "$out"/planted/*.c "$out"/*.o "$library"
   # in a shell of its own: some mistakes end in a crash, which is found too
-  if bash -c '"$@"; exit $?' teeth "$out/bench" "$mode" "${RINGS:-20000}" "${SEED:-1}" >"$out/log" 2>&1; then
-    echo "MISSED: $1"
-    missed=$((missed + 1))
-  else
-    found=$((found + 1))
-  fi
+  bash -c '"$@"; exit $?' teeth "$out/bench" "$mode" "${RINGS:-20000}" "${SEED:-1}" >"$out/log" 2>&1
+  case $? in
+    0) echo "MISSED: $1" && missed=$((missed + 1)) ;;
+    2) echo "bench/teeth.sh: no such comparison: $mode" >&2 && exit 2 ;;
+    *) found=$((found + 1)) ;;
+  esac
 }
 
 plant "a build id of 21 bytes" 's/record\[40\] > 20/record[40] > 21/'

@@ -428,13 +428,23 @@ static void heat(uint64_t start, uint64_t period)
     fflush(facts);
 }
 
+/* Both cpus for the heater and its backup; when its first step is due, and the one that will be delayed. */
+static bool kiln_stands(int cpus[2], uint64_t period, uint64_t *start, uint64_t *due)
+{
+    if (!may_have_places(cpus, 50))
+        return false;
+    *start = now_ns() + 10 * MS;
+    *due = *start + DELAYED * period;
+    return true;
+}
+
 static int periodic(void)
 {
     const uint64_t period = 20 * MS;
+    uint64_t start, due;
     int cpus[2];
-    if (!may_have_places(cpus, 50))
+    if (!kiln_stands(cpus, period, &start, &due))
         return NOT_HERE;
-    const uint64_t start = now_ns() + 10 * MS, due = start + DELAYED * period;
     pid_t hog = runner("hog", cpus[1], 1, start, start + STEPS * period);
     pid_t backup = runner("backup", cpus[1], 60, due - 4 * MS, due + 9 * MS);
     call_me("heater");
@@ -467,10 +477,10 @@ static void fire(uint64_t start, uint64_t period)
 static int firing(void)
 {
     const uint64_t period = 10 * MS;
+    uint64_t start, due;
     int cpus[2];
-    if (!may_have_places(cpus, 50))
+    if (!kiln_stands(cpus, period, &start, &due))
         return NOT_HERE;
-    const uint64_t start = now_ns() + 10 * MS, due = start + DELAYED * period;
     pid_t backup = runner("backup", cpus[1], 60, due - 2 * MS, due + 30 * MS);
     call_me("heater");
     fire(start, period);

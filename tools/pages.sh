@@ -1,5 +1,5 @@
 #!/usr/bin/env bash
-# README and docs: lines of at most 120 columns, and that they tell what is there.
+# README and docs: lines of at most 120 columns, and that they tell what is there; each must-fail edit among it.
 set -u
 cd "$(dirname "$0")/.." || exit 2
 export LC_ALL=C.UTF-8
@@ -34,6 +34,14 @@ for path in $(echo "$named" | grep -v NAME | sort -u); do
   [ -e "$path" ] || say "there is no $path, which README or CONTRIBUTING names"
 done
 
+# each must-fail edit has a line in docs/WRONG-READERS.md, and each that it names is there
+edits=$(for f in crates/*/must-fail/*.edit; do crate=${f#crates/} label=${f##*/}; echo "${crate%%/*}/${label%.edit}"; done | sort)
+told=$(grep -oP '(?<![\w/])[a-z0-9_]+/[a-z0-9_]+(?![\w/])' docs/WRONG-READERS.md | sort -u |
+  while IFS=/ read -r crate label; do [ -d "crates/$crate" ] && echo "$crate/$label"; done)
+[ "$(wc -l <<<"$edits")" -ge 100 ] || say "the must-fail edits were not found"
+for edit in $(comm -23 <(echo "$edits") <(echo "$told")); do say "docs/WRONG-READERS.md has no line for $edit"; done
+for edit in $(comm -13 <(echo "$edits") <(echo "$told")); do say "docs/WRONG-READERS.md names $edit, and there is no such edit"; done
+
 tests/format.sh || say 'docs/FORMAT.md is not what the header says'
-[ "$bad" -eq 0 ] && echo "pages: width, lines of README, named files, format: all fine"
+[ "$bad" -eq 0 ] && echo "pages: width, lines of README, named files, $(wc -l <<<"$edits") must-fail edits, format: all fine"
 exit "$bad"

@@ -358,16 +358,6 @@ struct ollskuvan_walked ollskuvan_walk_back_events(const uint8_t *ring, size_t r
     return w;
 }
 
-static uint64_t number_at(const uint8_t *at)
-{
-    uint64_t number = 0;
-    int i;
-
-    for (i = 8; i-- > 0;)
-        number = number << 8 | at[i];
-    return number;
-}
-
 static void put_number(uint8_t *at, uint64_t number)
 {
     int i;
@@ -383,12 +373,12 @@ static uint64_t split_run(uint8_t *changes, uint64_t bytes, size_t room)
 
     for (at = 0; at < bytes && bytes + OLLSKUVAN_CHANGE_ENTRY <= room; at += OLLSKUVAN_CHANGE_ENTRY) {
         uint8_t *entry = changes + at, *next = entry + OLLSKUVAN_CHANGE_ENTRY;
-        uint64_t length = number_at(entry + OLLSKUVAN_CHANGE_BYTES);
+        uint64_t length = get64(entry + OLLSKUVAN_CHANGE_BYTES);
         if (length < 16)
             continue;
         memmove(next, entry, bytes - at);
         put_number(entry + OLLSKUVAN_CHANGE_BYTES, 8);
-        put_number(next + OLLSKUVAN_CHANGE_START, number_at(next + OLLSKUVAN_CHANGE_START) + 8);
+        put_number(next + OLLSKUVAN_CHANGE_START, get64(next + OLLSKUVAN_CHANGE_START) + 8);
         put_number(next + OLLSKUVAN_CHANGE_BYTES, length - 8);
         return bytes + OLLSKUVAN_CHANGE_ENTRY;
     }
@@ -405,9 +395,9 @@ struct ollskuvan_salvaged ollskuvan_salvage(const uint8_t *stream, size_t stream
         edition = 4;
     s = reader_salvage(stream, stream_len, events, event_count, edition, out, out_len, changes, changes_len);
     for (at = 0; fault(63) && at < s.changes; at += OLLSKUVAN_CHANGE_ENTRY) { /* a hole's start counted in the output */
-        uint64_t start = number_at(changes + at + OLLSKUVAN_CHANGE_START);
+        uint64_t start = get64(changes + at + OLLSKUVAN_CHANGE_START);
         put_number(changes + at + OLLSKUVAN_CHANGE_START, start - before);
-        before += number_at(changes + at + OLLSKUVAN_CHANGE_BYTES);
+        before += get64(changes + at + OLLSKUVAN_CHANGE_BYTES);
     }
     if (fault(64)) /* a run split in two */
         s.changes = split_run(changes, s.changes, changes_len);

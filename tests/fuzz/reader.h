@@ -1,4 +1,5 @@
-/* The independent reader's exports (tests/reader/library.rs, by their own names), for the target and for the planted faults. */
+/* What the target and the planted faults share: the independent reader's exports (tests/reader/library.rs, by their own names),
+ * and a number of 8 bytes. */
 #ifndef FUZZ_READER_H
 #define FUZZ_READER_H
 
@@ -36,5 +37,15 @@ struct ollskuvan_salvaged reader_salvage(const uint8_t *, size_t, const struct o
     uint8_t *, size_t, uint8_t *, size_t);
 struct ollskuvan_compared reader_compare(const uint8_t *, size_t, uint64_t, uint64_t, uint8_t *, size_t, const uint8_t *,
     size_t, uint64_t, uint64_t, uint8_t *, size_t, const struct ollskuvan_event *, size_t, uint32_t);
+
+static inline uint64_t get64(const uint8_t *at)
+{
+    uint64_t number = 0;
+    int i;
+
+    for (i = 8; i-- > 0;)
+        number = number << 8 | at[i];
+    return number;
+}
 
 #endif

@@ -1239,16 +1239,6 @@ static void try_store(void)
 
 /* ---- What libFuzzer calls. ---- */
 
-static uint64_t get64(const uint8_t *at)
-{
-    uint64_t number = 0;
-    int i;
-
-    for (i = 8; i-- > 0;)
-        number = number << 8 | at[i];
-    return number;
-}
-
 static void take_table(const uint8_t **data)
 {
     size_t given = in.control[in.control[47] ? 47 : 46] % 40, i;

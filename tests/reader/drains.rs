@@ -46,33 +46,10 @@ pub fn compare_drain_with(
     if theirs != ours {
         wrong.push(format!("results: library {theirs:?}, independent {ours:?}"));
     }
-    if let Some(at) = first_difference(lent_journal.slice(), &journal) {
-        let from = at / 16 * 16;
-        let show = |b: &[u8]| hex(&b[from..b.len().min(from + 16)]);
-        wrong.push(format!(
-            "journal from byte {from}: library {}, independent {}",
-            show(lent_journal.slice()),
-            show(&journal)
-        ));
-    }
-    if let Some(at) = first_difference(lent_scratch.slice(), &scratch) {
-        wrong.push(format!(
-            "scratch differs at byte {at}: library {}, independent {}",
-            hex(lent_scratch.slice()),
-            hex(&scratch)
-        ));
-    }
-    if lent_ring.slice() != case.ring {
-        wrong.push("the ring was written to".to_string());
-    }
-    if lent_table.slice() != table_words(table) || !lent_table.intact() {
-        wrong.push("the table, or words around it, were written to".to_string());
-    }
-    for (name, lent) in [("ring", &lent_ring), ("scratch", &lent_scratch), ("journal", &lent_journal)] {
-        if !lent.intact() {
-            wrong.push(format!("bytes around the {name} were written to"));
-        }
-    }
+    lent_journal.told_journal(&journal, &mut wrong);
+    lent_scratch.told("scratch", &scratch, &mut wrong);
+    lent_ring.told("ring", &case.ring, &mut wrong);
+    lent_table.told("table", &table_words(table), &mut wrong);
     if wrong.is_empty() {
         tally.answer(if table.is_some() { "drain with a table" } else { "drain" }, ours.stop);
         for entry in journal.chunks(16).take(ours.taken as usize) {

@@ -38,6 +38,20 @@ impl Guarded {
         if let Some(at) = first_difference(self.slice(), due) {
             wrong.push(format!("the {name} differs at byte {at}: library {}, due {}", hex(self.slice()), hex(due)));
         }
+        self.told_around(name, wrong);
+    }
+
+    /// The same of a journal, of which the entry that differs is shown.
+    pub fn told_journal(&self, due: &[u8], wrong: &mut Vec<String>) {
+        if let Some(at) = first_difference(self.slice(), due) {
+            let from = at / 16 * 16;
+            let show = |b: &[u8]| hex(&b[from..b.len().min(from + 16)]);
+            wrong.push(format!("journal from byte {from}: library {}, due {}", show(self.slice()), show(due)));
+        }
+        self.told_around("journal", wrong);
+    }
+
+    fn told_around(&self, name: &str, wrong: &mut Vec<String>) {
         if !self.intact() {
             wrong.push(format!("bytes around the {name} were written to"));
         }

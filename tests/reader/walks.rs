@@ -156,23 +156,10 @@ pub fn compare_walk(walk: &WalkCase, r: &mut Random, tally: &mut Tally) -> Resul
     if theirs != ours {
         wrong.push(format!("results: library {theirs:?}, independent {ours:?}"));
     }
-    if let Some(at) = first_difference(lent_journal.slice(), &journal) {
-        let from = at / 16 * 16;
-        let show = |b: &[u8]| hex(&b[from..b.len().min(from + 16)]);
-        let (library, independent) = (show(lent_journal.slice()), show(&journal));
-        wrong.push(format!("journal from byte {from}: library {library}, independent {independent}"));
-    }
-    if let Some(at) = first_difference(lent_scratch.slice(), &scratch) {
-        wrong.push(format!("scratch differs at byte {at}: library {}, independent {}", hex(lent_scratch.slice()), hex(&scratch)));
-    }
-    if lent_ring.slice() != case.ring || lent_table.slice() != table_words(walk.table()) || !lent_table.intact() {
-        wrong.push("the ring or the table, which are only read, or words around it were written to".to_string());
-    }
-    for (name, lent) in [("ring", &lent_ring), ("scratch", &lent_scratch), ("journal", &lent_journal)] {
-        if !lent.intact() {
-            wrong.push(format!("bytes around the {name} were written to"));
-        }
-    }
+    lent_journal.told_journal(&journal, &mut wrong);
+    lent_scratch.told("scratch", &scratch, &mut wrong);
+    lent_ring.told("ring", &case.ring, &mut wrong);
+    lent_table.told("table", &table_words(walk.table()), &mut wrong);
     if ours.taken == 0 && (lent_scratch.slice() != before_scratch || lent_journal.slice() != before_journal) {
         wrong.push("nothing was taken, and scratch or journal were written to".to_string());
     }
