@@ -20,6 +20,7 @@
  *   bench salvage [ROUNDS]         the cost of salvage: sound, torn, and the worst case, headers that claim 65,528 bytes
  *   bench compare-rings [RINGS [SEED]]   ollskuvan_compare on rings and their copies, one byte changed or none
  *   bench rings [ROUNDS]           the cost of comparing two rings that are alike, beside reading both
+ *   bench rings-once WHAT NUMBER   rings of a workload, alike but for ignored bytes, for callgrind: compare, read or drain
  *   bench salvage-once WHOSE STREAM   one salvage, for callgrind; prints the stream's words of 8 bytes
  *   bench check WHOSE NUMBER       record check of each record of a workload, for callgrind: careful or ours
  *   bench once DRAIN WORKLOAD [BUDGET]   one drain, for callgrind; prints the number of records
@@ -169,7 +170,7 @@ static int usage(void)
                     "       bench stores [STORES [SEED]] | store-times [ROUNDS] | store WHOSE CALL EVENTS\n"
                     "       bench compare-replay [TRACES [SEED]] | replay [ROUNDS] | replay-once WHOSE [CALLS]\n"
                     "       bench compare-salvage [STREAMS [SEED]] | salvage [ROUNDS] | salvage-once WHOSE STREAM [CALLS]\n"
-                    "       bench compare-rings [RINGS [SEED]] | rings [ROUNDS]\n");
+                    "       bench compare-rings [RINGS [SEED]] | rings [ROUNDS] | rings-once WHAT NUMBER\n");
     return 2;
 }
 
@@ -194,6 +195,8 @@ int main(int argc, char **argv)
         return compare_salvage(argc > 2 ? number(argv[2], 1, UINT64_MAX) : 5000, argc > 3 ? number(argv[3], 0, UINT64_MAX) : 1);
     if (strcmp(mode, "compare-rings") == 0 && argc <= 4)
         return compare_rings(argc > 2 ? number(argv[2], 1, UINT64_MAX) : 2000, argc > 3 ? number(argv[3], 0, UINT64_MAX) : 1);
+    if (strcmp(mode, "rings-once") == 0 && argc == 4)
+        return run_rings(argv[2], (unsigned)number(argv[3], 0, MADE_WORKLOADS - 1));
     if (strcmp(mode, "salvage-once") == 0 && (argc == 4 || argc == 5))
         return run_salvages(argv[2], argv[3], argc > 4 ? number(argv[4], 1, 1000) : 1);
     if (strcmp(mode, "once") == 0 && (argc == 4 || argc == 5))

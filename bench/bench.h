@@ -75,6 +75,7 @@ int time_salvage(size_t rounds);
 
 /* rings.c: two rings compared */
 int compare_rings(uint64_t rings, uint64_t seed);
+int run_rings(const char *what, unsigned which); /* alike but for ignored bytes: one call, or both rings read */
 int time_rings(size_t rounds);
 
 #endif

@@ -230,6 +230,30 @@ salvages() {
   paste "$out/salvage.ours" "$out/salvage.careful" | awk '{ printf "%20.3f", $1 / $2 } END { print "" }'
 }
 
+# instructions a record of two rings that are alike but for ignored bytes in each record
+alike() {
+  local what which name log=$out/callgrind.log
+  command -v valgrind >/dev/null || { echo "bench: instructions of compare skipped: valgrind is missing"; return 0; }
+  rm -f "$out"/alike.*
+  printf '\ninstructions for a pair of records alike but for ignored bytes, by callgrind (side-band, small, fat)\n'
+  for what in compare read drain; do
+    case "$what" in
+      drain) name=ollskuvan_drain_events ;;
+      *) name=ollskuvan_$what ;;
+    esac
+    printf '%-14s' "$what"
+    for which in 0 1 2; do
+      valgrind --tool=callgrind --toggle-collect="$name" --callgrind-out-file=/dev/null "$program" rings-once "$what" "$which" \
+        >"$log" 2>&1 </dev/null || { cat "$log"; die "callgrind failed"; }
+      awk '/^records/ { n = $2 } /Collected/ { c = $NF } END { printf "%.1f\n", c / n }' "$log" | tee -a "$out/alike.$what" |
+        awk '{ printf "%16.1f", $1 }'
+    done
+    printf '\n'
+  done
+  printf '%-14s' 'compare/read'
+  paste "$out/alike.compare" "$out/alike.read" | awk '{ printf "%16.3f", $1 / $2 } END { print "" }'
+}
+
 # instructions of one record check
 checks() {
   local whose name which log=$out/callgrind.log
@@ -284,7 +308,7 @@ case "$part" in
     case "$part" in all | time | tables) "$program" mixes $rounds || exit 1 ;; esac
     case "$part" in all | replay) "$program" replay $rounds || exit 1; replays || exit 1 ;; esac
     case "$part" in all | salvage) "$program" salvage $rounds || exit 1; salvages || exit 1 ;; esac
-    case "$part" in all | compare) "$program" rings $rounds || exit 1 ;; esac
+    case "$part" in all | compare) "$program" rings $rounds || exit 1; alike || exit 1 ;; esac
     case "$part" in all | sizes) "$program" sizes $rounds || exit 1 ;; esac
     case "$part" in all | values) "$program" values $rounds || exit 1 ;; esac
     case "$part" in all | instructions) instructions && instructions 1 && checks || exit 1 ;; esac

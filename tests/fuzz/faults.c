@@ -417,6 +417,30 @@ static int same_bytes(const uint8_t *left, size_t left_len, uint64_t left_head, 
     return 1;
 }
 
+/* The right side's stop in the place of a difference before it, where that side does stop. */
+static struct ollskuvan_compared stop_first(struct ollskuvan_compared c, const uint8_t *right, size_t right_len,
+    uint64_t right_head, uint64_t right_tail, size_t right_scratch_len, const struct ollskuvan_event *events,
+    size_t event_count, uint32_t edition)
+{
+    size_t journal_len = 2 * right_len + 16;
+    uint8_t *journal = malloc(journal_len), *scratch = malloc(right_scratch_len + 1);
+    struct ollskuvan_drained d;
+
+    if (!journal || !scratch)
+        abort();
+    d = reader_drain_events(right, right_len, right_head, right_tail, events, event_count, edition, UINT64_MAX, scratch,
+        right_scratch_len, journal, journal_len);
+    if (d.stop != 0) {
+        c.what = OLLSKUVAN_COMPARED_RIGHT_STOPPED;
+        c.records = d.taken;
+        c.stop = d.stop;
+        c.field = 0;
+    }
+    free(journal);
+    free(scratch);
+    return c;
+}
+
 struct ollskuvan_compared ollskuvan_compare(const uint8_t *left, size_t left_len, uint64_t left_head, uint64_t left_tail,
     uint8_t *left_scratch, size_t left_scratch_len, const uint8_t *right, size_t right_len, uint64_t right_head,
     uint64_t right_tail, uint8_t *right_scratch, size_t right_scratch_len, const struct ollskuvan_event *events,
@@ -437,5 +461,7 @@ struct ollskuvan_compared ollskuvan_compare(const uint8_t *left, size_t left_len
         c.field = 1;
         c.records = 0;
     }
+    if (fault(80) && c.what == OLLSKUVAN_COMPARED_FIELD) /* the right side's stop told before the left's difference */
+        c = stop_first(c, right, right_len, right_head, right_tail, right_scratch_len, events, event_count, edition);
     return c;
 }

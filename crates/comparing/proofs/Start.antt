@@ -1,7 +1,7 @@
 -- A pair of records before the loop over its fields: what their bytes say of the first five. Assumes nothing.
 use mathlib.Core.Path.{_≡_, refl, sym, ap, ap₂, _∙_}
-use mathlib.Core.Bool.{Bool, true, false, cond, _&&_}
-use mathlib.Core.List.{List, [], map}
+use mathlib.Core.Bool.{Bool, true, false, cond, not, _&&_}
+use mathlib.Core.List.{List, [], _∷_, map}
 use Prim.Native.Nat.{ℕ, _+_, _%_, _<_, _≤_}
 use native.Mathlib.Omega.{arith}
 use lib.ListN.{length, take, drop}
@@ -15,12 +15,13 @@ use Rattle.meaning.specs.declared.Known.{Known}
 use Rattle.meaning.specs.Bytes.{numberAt, bit}
 use Rattle.meaning.specs.Items.{Con}
 use Rattle.meaning.specs.Schema.{schema, trailer}
+use Rattle.meaning.specs.Refusals.{refusal, first as firstOf, orElse}
 use Rattle.meaning.specs.Editions.{isIn, unreadable}
-use Rattle.meaning.specs.Records.{layout, room, kindOf, miscOf, sizeOf, fieldsAnswer, judge, value}
-use Rattle.meaning.specs.Events.{attributesOf, identifiers, eventAt, indexOf, identifierOf, allMarked, hasEvent, judgeEvents}
+use Rattle.meaning.specs.Records.{layout, room, Value, kindOf, miscOf, sizeOf, fieldsAnswer, judge, value}
+use Rattle.meaning.specs.Events.{attributesOf, identifiers, eventAt, indexOf, identifierOf, allMarked, hasEvent, gate, unmatched, judgeEvents}
 use Rattle.laws.specs.Bytes.{and-true}
 use Rattle.laws.specs.Answers.{or-zero, fields-zero}
-use Rattle.laws.specs.Matched.{carried}
+use Rattle.laws.specs.Matched.{carried, judge-matched}
 use Rattle.runs.specs.Cutting.{framed}
 use Rattle.table.specs.declared.Part.{Part}
 use Rattle.table.specs.Rows.{rows, itemOf}
@@ -29,11 +30,12 @@ use Rattle.table.specs.Turns.{rows-next, rows-over}
 use Rattle.events.specs.Match.{matched-has}
 use Rattle.compare.specs.Fields.{first, otherFields, Reads, fields}
 use Rattle.compare.specs.Compared.{sameBytes, alike, agree, eventReads}
-use Rattle.compare.specs.Pairs.{same-bytes}
+use Rattle.compare.specs.Pairs.{same-bytes, same-alike}
 use Rattle.compare.specs.Others.{five}
 use Rattle.comparing.specs.declared.Pos.{Pos}
 use Rattle.comparing.specs.Inner.{Begun, Pair, Stands}
 use Rattle.comparing.specs.Table.{accepted-event}
+use Rattle.comparing.specs.Twins.{Beside, Like}
 use Rattle.comparing.proofs.Fields.{begun-stands}
 
 -- ---- bytes
@@ -130,7 +132,7 @@ module _ (k : Known) (es : List Event) (marked : allMarked es ≡ true) (xs : Li
   accepted-there = carried es xs marked has .there
 
   module _ (a : Attributes) (e : a ≡ attributesOf (eventAt es (indexOf (identifierOf xs) (identifiers es)))) where
-    accepted-fine : fieldsAnswer (schema (kindOf xs) (miscOf xs) a) (room (trailer (kindOf xs) a)) xs ≡ 0
+    pub accepted-fine : fieldsAnswer (schema (kindOf xs) (miscOf xs) a) (room (trailer (kindOf xs) a)) xs ≡ 0
     unfolding judge layout
     accepted-fine =
         or-zero (unreadable k a (kindOf xs) (miscOf xs)) (fieldsAnswer (schema (kindOf xs) (miscOf xs) a) (room (trailer (kindOf xs) a)) xs)
@@ -176,3 +178,51 @@ module _ (k : Known) (es : List Event) (marked : allMarked es ≡ true) (xs ys :
       begun-stands xs ys kind misc a k r (alike (fields R xs) (fields R ys)) (agree (fields R xs) (fields R ys)) (pair-of kind misc p q) b
       (f .1 ∙ ap₂ (λ (c d : Attributes). alike (O xs c) (O ys d)) (sym e) (sym e-right))
       (f .0 ∙ ap₂ (λ (c d : Attributes). 5 + agree (O xs c) (O ys d)) (sym e) (sym e-right))
+
+-- ---- an accepted record, and another one that is the same but for ignored bytes
+
+module _ (k : Known) (es : List Event) (marked : allMarked es ≡ true) (xs ys : List ℕ) (fx : framed xs ≡ true) (fy : framed ys ≡ true)
+    (hx : judgeEvents k es xs ≡ 0) (ek : kindOf xs ≡ kindOf ys) (em : miscOf xs ≡ miscOf ys) (el : length xs ≡ length ys) (ei : identifierOf xs ≡ identifierOf ys)
+    (a : Attributes) (e : a ≡ attributesOf (eventAt es (indexOf (identifierOf xs) (identifiers es)))) where
+  sizes : sizeOf xs ≡ sizeOf ys
+  sizes = framed-size xs fx .0 ∙ el ∙ sym (framed-size ys fy .0)
+
+  pub beside-is : (kind misc : ℕ) → kind ≡ kindOf xs → misc ≡ miscOf xs → Beside xs ys kind misc a
+  beside-is kind misc p q = record {
+    x-kind = p;
+    y-kind = p ∙ ek;
+    x-misc = q;
+    y-misc = q ∙ em;
+    size-is = sym sizes;
+    long = sym el;
+    eights = framed-size xs fx .1;
+    fine = accepted-fine k es marked xs hx a e;
+  }
+
+  module _ (l : Like xs ys a) where
+    own-event : a ≡ attributesOf (eventAt es (indexOf (identifierOf ys) (identifiers es)))
+    own-event = e ∙ ap (λ (i : ℕ). attributesOf (eventAt es (indexOf i (identifiers es)))) ei
+
+    same-match : unmatched k es ys ≡ unmatched k es xs
+    unfolding unmatched
+    same-match = λ j. firstOf (gate k (sym ek j)) (firstOf (refusal (not (leb 16 (sym el j))) 27 ∷ refusal (not (isIn (sym ei j) (identifiers es))) 26 ∷ []) 0)
+
+    own-answer : judge (layout k a) ys ≡ 0
+    unfolding judge layout
+    own-answer =
+        let u = or-zero (unreadable k a (kindOf xs) (miscOf xs)) (fieldsAnswer (schema (kindOf xs) (miscOf xs) a) (room (trailer (kindOf xs) a)) xs)
+        (ap (λ (b : Attributes). judge (layout k b) xs) e ∙ accepted-event k es xs hx .1) .0 in
+        ap₂ (λ (m n : ℕ). orElse m n) (ap₂ (λ (i m : ℕ). unreadable k a i m) (sym ek) (sym em) ∙ u) (l .fine)
+
+    accepted-too : judgeEvents k es ys ≡ 0
+    accepted-too =
+        judge-matched k es ys
+        ∙ ap₂ (λ (m n : ℕ). orElse m n) (same-match ∙ accepted-event k es xs hx .0) (ap (λ (b : Attributes). judge (layout k b) ys) (sym own-event) ∙ own-answer)
+
+    pub like-alike : alike (fields (eventReads k es) xs) (fields (eventReads k es) ys) ≡ true
+    like-alike =
+        let f = five (eventReads k es) xs ys (hx ∙ sym accepted-too) hx ek em sizes ei in
+        let O : List ℕ → Attributes → List Con = λ (zs : List ℕ) (c : Attributes). otherFields (layout k c) (value (layout k c) zs) in
+        f .1 ∙ ap₂ (λ (c d : Attributes). alike (O xs c) (O ys d)) (sym e) (sym own-event)
+        ∙ ap (λ (v : Value). alike (O xs a) (otherFields (layout k a) v)) (l .value-is k)
+        ∙ same-alike (O xs a)

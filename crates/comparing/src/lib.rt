@@ -18,6 +18,8 @@ use meaning::Attributes;
 use meaning::Cursor;
 use meaning::Frame;
 
+mod twins;
+
 // Where the loop over the fields of a pair stands: k of them are equal. `done`: there are no more or, where `same` is false, field
 // k differs. Else both records are accepted, of one type, misc and event, and the rows from `row` up to `to` come next, in the
 // first `end` bytes of both: those of the body or, where `last` is set, those of the trailer. w and x are the numbers of the items
@@ -146,6 +148,50 @@ fn begin(x: &[u8], y: &[u8], e: u64, rows: &[[u64; 7]]) -> Pos
         misc,
         events::attributes_at(rows, events::find(rows, id)),
     )
+}
+
+// Is y the same as x but for ignored bytes? x is judged alone: an accepted record whose other bytes y has makes y accepted too.
+fn like(x: &[u8], y: &[u8], e: u64, rows: &[[u64; 7]]) -> bool
+    requires { ⌜ (framed (now x) ≡ true) × (framed (now y) ≡ true) ⌝ }
+    requires { ⌜ allMarked (eventsOf (now rows)) ≡ true ⌝ }
+    ensures { λ r. ⌜ (r ≡ true → alike (fields (eventReads (known editions e) (eventsOf (now (rows .entry)))) (now (x .entry))) (fields (eventReads (known editions e) (eventsOf (now (rows .entry)))) (now (y .entry))) ≡ true) ⌝ }
+{
+    if x.len() != y.len() {
+        return false;
+    }
+    let kind = wire::u32_at(x, 0);
+    if kind != wire::u32_at(y, 0) {
+        return false;
+    }
+    let misc = wire::u16_at(x, 4);
+    if misc != wire::u16_at(y, 4) {
+        return false;
+    }
+    if events::judge(x, e, rows) != 0 {
+        return false;
+    }
+    let id = events::identifier_of(x, kind);
+    if id != events::identifier_of(y, kind) {
+        return false;
+    }
+    let a = events::attributes_at(rows, events::find(rows, id));
+    twins::record_alike(x, y, kind, misc, a)
+}
+
+// A pair: nothing is left to be looked at where the bytes are equal, or all but ignored ones; only where a field differs are the
+// fields counted.
+fn look(x: &[u8], y: &[u8], e: u64, rows: &[[u64; 7]]) -> Pos
+    requires { ⌜ (framed (now x) ≡ true) × (framed (now y) ≡ true) ⌝ }
+    requires { ⌜ allMarked (eventsOf (now rows)) ≡ true ⌝ }
+    ensures { λ r. ⌜ Stands (alike (fields (eventReads (known editions e) (eventsOf (now (rows .entry)))) (now (x .entry))) (fields (eventReads (known editions e) (eventsOf (now (rows .entry)))) (now (y .entry)))) (agree (fields (eventReads (known editions e) (eventsOf (now (rows .entry)))) (now (x .entry))) (fields (eventReads (known editions e) (eventsOf (now (rows .entry)))) (now (y .entry)))) (now (x .entry)) (now (y .entry)) r ⌝ }
+{
+    if same_record(x, y) {
+        return settled(0, true);
+    }
+    if like(x, y, e, rows) {
+        return settled(0, true);
+    }
+    begin(x, y, e, rows)
 }
 
 // One row further.
@@ -324,7 +370,7 @@ pub fn compare_rings(
         ring::gather(right, rplace, rsize, rscratch);
         let x = ring::shown(left, lscratch, f);
         let y = ring::shown(right, rscratch, g);
-        let mut p = begin(x, y, e, rows);
+        let mut p = look(x, y, e, rows);
         loop {
             if !p.same {
                 k = p.k;

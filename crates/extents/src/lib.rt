@@ -5,6 +5,7 @@ ghost use Prim.Native.Nat.{_+_, _≤_};
 ghost use lib.ListN.{length, take, drop};
 ghost use Rattle.meaning.specs.Items.{shapeStep, step};
 ghost use Rattle.compare.specs.Compared.{sameBytes, alike};
+ghost use Rattle.extents.specs.Common.{common};
 ghost use Rattle.extents.specs.Extent.{extent, Rest, fieldIn, Lies, Passed};
 use meaning::Cursor;
 use meaning::Item;
@@ -49,6 +50,22 @@ pub fn same_bytes(s: &[u8], i: usize, t: &[u8], j: usize, n: usize) -> bool
         k += 1;
     }
     true
+}
+
+// The first place from `at` on where the bytes of two slices of one length differ, or their end.
+pub fn same_until(s: &[u8], t: &[u8], at: usize) -> usize
+    requires { ⌜ (at ≤ length (now s)) × (length (now t) ≡ length (now s)) ⌝ }
+    ensures { λ r. ⌜ r ≡ at + common (drop at (now (s .entry))) (drop at (now (t .entry))) ⌝ }
+{
+    let n = s.len() - at;
+    let mut k = same_words(s, at, t, at, n);
+    while k < n {
+        if s[at + k] != t[at + k] {
+            return at + k;
+        }
+        k += 1;
+    }
+    at + k
 }
 
 // Two fields, each in its own record.

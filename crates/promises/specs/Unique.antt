@@ -622,6 +622,9 @@ told-scratch l x y z u v p q a b = a ∙ ap (λ (c : Compared). scratchThen c l)
 pub extents-same-bytes : Result extents.same_bytes.Kinds.ps extents.same_bytes.Kinds.r extents.same_bytes.Reads.Learnt
 extents-same-bytes κs a x y s t p q = same p q
 
+pub extents-same-until : Result extents.same_until.Kinds.ps extents.same_until.Kinds.r extents.same_until.Reads.Learnt
+extents-same-until κs a x y s t p q = same p q
+
 pub extents-pass-item : Result extents.pass_item.Kinds.ps extents.pass_item.Kinds.r extents.pass_item.Reads.Learnt
 extents-pass-item κs a x y s t p q = passed-one _ _ _ _ _ _ _ x y p q
 

@@ -152,8 +152,8 @@ right-bytes c =
     ∙ shown-record (now (a .right)) ((c .before .before .before .before .before .before .before .before .before .before .before .before .before .before .before .before .before) .records .rscratch) g (both (c .before .before .before .before .before .before .before .before .before .before .before .before) .1) (le-of-lt (w .inside)) (le-trans (w .size-near) (w .near)) (w .fits)
 
 -- a frame that goes on has a sound table, and its record is whole
-begin-requires : tie.Need-begin-requires Inv-loop μ-loop Inv-records μ-records
-begin-requires c κs =
+look-requires : tie.Need-look-requires Inv-loop μ-loop Inv-records μ-records
+look-requires c κs =
     let o = c .before .before .before .before .before .before .before .before .before .before .before .before in
     let a = c .before .before .before .before .before .before .before .before .before .before .before .before .before .before .before .before .before .before .before .before .before .before .before .before .args in
     let f = c .before .before .before .before .before .before .before .before .before .before .before .before .before .before .before .before .next-frame .result in
@@ -164,7 +164,7 @@ begin-requires c κs =
     ((ap (λ (l : List ℕ). framed l) (left-bytes (c .before .before)) ∙ x, ap (λ (l : List ℕ). framed l) (right-bytes c) ∙ y), sound-marked (a .limit) (eventsOf (now (a .rows))) t)
 
 loop-holds : tie.Need-loop-holds Inv-loop μ-loop Inv-records μ-records
-loop-holds c = c .begin .ensures
+loop-holds c = c .look .ensures
 
 next-requires : tie.Need-next-requires Inv-loop μ-loop Inv-records μ-records
 next-requires c κs = (c .before .before .before .loop .inv .ready (c .if3 .left), c .if3 .left)
@@ -243,7 +243,7 @@ compare-rings-spec =
     gather-requires-2
     shown-requires
     shown-requires-2
-    begin-requires
+    look-requires
     loop-holds
     next-requires
     loop-less
