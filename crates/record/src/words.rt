@@ -1,18 +1,19 @@
 // The words of a record that is accepted, item by item.
 ghost use mathlib.Core.Path.{_≡_};
-ghost use Prim.Native.Nat.{_+_, _≤_};
-ghost use lib.ListN.{length};
+ghost use Prim.Native.Nat.{_+_, _<_, _≤_};
+ghost use lib.ListN.{length, getD};
 ghost use Rattle.meaning.specs.Bytes.{put};
 ghost use Rattle.meaning.specs.Schema.{schema, trailer};
 ghost use Rattle.meaning.specs.Records.{kindOf, miscOf};
 ghost use Rattle.meaning.specs.Values.{words, wordsBy};
 ghost use Rattle.fields.specs.Told.{wordsIn};
 ghost use Rattle.record.specs.Into.{Accepted, itemsOf, Fills};
-ghost use Rattle.table.specs.Rows.{allRows};
+ghost use Rattle.table.specs.Rows.{rows, allRows, itemOf};
 use crate::flag;
 use fields::Words;
 use meaning::Attributes;
 use meaning::Cursor;
+use meaning::Item;
 
 // Where the words of the fields and those of the trailer start, after type, misc and size.
 const FIELDS_AT: usize = 3;
@@ -35,6 +36,15 @@ fn place(out: &mut [u64], at: usize, t: Words)
     out[at + 1] = t.second;
 }
 
+// The item of row k of those lent: the rows are copied where they are made, so that is done once for a walk.
+fn item_lent(all: &[u16; table::ROWS], a: Attributes, misc: u64, kind: u64, k: usize) -> Item
+    requires { ⌜ k < allRows ⌝ }
+    requires { ⌜ now all ≡ rows ⌝ }
+    ensures { λ r. ⌜ r ≡ itemOf a misc kind (getD rows k 0) ⌝ }
+{
+    table::item_of(a, misc, kind, table::row_at(all, k))
+}
+
 // The words of the items of rows `from` to `to`, the cursor at `first`, from word `start` on.
 pub fn fill(
     s: &[u8],
@@ -50,11 +60,12 @@ pub fn fill(
     requires { ⌜ (from ≤ to) × (to ≤ allRows) × Fills (itemsOf a misc kind from to) (now s) first (now out) start ⌝ }
     ensures { λ _. ⌜ now (out .exit) ≡ put (now (out .entry)) start (words (now (s .entry)) (itemsOf a misc kind from to) first) ⌝ }
 {
+    let all = table::all_rows();
     let mut c = first;
     let mut k = from;
     let mut at = start;
     while k < to {
-        let i = table::item_at(a, misc, kind, k);
+        let i = item_lent(&all, a, misc, kind, k);
         let t = fields::told(s, i, c);
         place(out, at, t);
         at += t.n;

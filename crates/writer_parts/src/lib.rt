@@ -6,7 +6,7 @@ ghost use lib.ListN.{length};
 ghost use Rattle.meaning.specs.Bytes.{put};
 ghost use Rattle.meaning.specs.Schema.{schema, trailer};
 ghost use Rattle.meaning.specs.Values.{trailWords};
-ghost use Rattle.table.specs.Rows.{allRows};
+ghost use Rattle.table.specs.Rows.{rows, allRows};
 ghost use Rattle.writer_parts.specs.Parts.{itemHere, Lays, beyondPart, triedPart, writtenPart};
 use meaning::Attributes;
 use meaning::Cursor;
@@ -22,12 +22,14 @@ pub struct TypePart {
     pub to: usize,
 }
 
-pub fn item_here(p: TypePart, k: usize) -> Item
+// The item of row k of those lent: a walk takes the rows once, as they are copied where they are made.
+pub fn item_here(all: &[u16; table::ROWS], p: TypePart, k: usize) -> Item
     requires { ⌜ k < allRows ⌝ }
+    requires { ⌜ now all ≡ rows ⌝ }
     ensures { λ r. ⌜ r ≡ itemHere p k ⌝ }
 {
     let a = p.attributes;
-    table::item_at(a, p.misc, p.kind, k)
+    table::item_of(a, p.misc, p.kind, table::row_at(all, k))
 }
 
 pub fn body(attributes: Attributes, kind: u64, misc: u64) -> TypePart
@@ -60,11 +62,12 @@ pub fn any_beyond(ws: &[u64], source: &[u8], p: TypePart, first: Reached) -> boo
     requires { ⌜ (p .from ≤ p .to) × (p .to ≤ allRows) × (first .at ≤ trailWords) ⌝ }
     ensures { λ r. ⌜ r ≡ beyondPart (now (source .entry)) (now (ws .entry)) p first ⌝ }
 {
+    let all = table::all_rows();
     let mut t = first;
     let mut k = p.from;
     let to = p.to;
     while k < to {
-        let i = item_here(p, k);
+        let i = item_here(&all, p, k);
         let s = writer_words::given_by(ws, t, i);
         if writer_items::beyond(source, i, s) {
             return true;
@@ -80,12 +83,13 @@ pub fn try_all(ws: &[u64], source: &[u8], p: TypePart, first: Reached, start: Cu
     requires { ⌜ (p .from ≤ p .to) × (p .to ≤ allRows) × (first .at ≤ trailWords) × (start .at ≤ 65535) × (start .why ≡ 0) ⌝ }
     ensures { λ r. ⌜ r ≡ triedPart (now (source .entry)) (now (ws .entry)) p first start ⌝ }
 {
+    let all = table::all_rows();
     let mut t = first;
     let mut c = start;
     let mut k = p.from;
     let to = p.to;
     while k < to {
-        let i = item_here(p, k);
+        let i = item_here(&all, p, k);
         let s = writer_words::given_by(ws, t, i);
         c = writer_items::try_item(source, i, c, s);
         let why = c.why;
@@ -110,12 +114,13 @@ pub fn put_all(
     requires { ⌜ (p .from ≤ p .to) × (p .to ≤ allRows) × (first .at ≤ trailWords) × (start .at ≤ 65535) × (triedPart (now source) (now ws) p first start .why ≡ 0) × (triedPart (now source) (now ws) p first start .at ≤ length (now buffer)) ⌝ }
     ensures { λ _. ⌜ now (buffer .exit) ≡ put (now (buffer .entry)) (start .at) (writtenPart (now (source .entry)) (now (ws .entry)) p first start) ⌝ }
 {
+    let all = table::all_rows();
     let mut t = first;
     let mut c = start;
     let mut k = p.from;
     let to = p.to;
     while k < to {
-        let i = item_here(p, k);
+        let i = item_here(&all, p, k);
         let s = writer_words::given_by(ws, t, i);
         let f = writer_forms::of_item(i, c, s);
         let at = c.at;

@@ -18,11 +18,12 @@ fn words_end(p: TypePart, first: usize) -> usize
     requires { ⌜ (p .from ≤ p .to) × (p .to ≤ allRows) × (first ≤ trailWords) ⌝ }
     ensures { λ r. ⌜ r ≡ first + width (partItems p) ⌝ }
 {
+    let all = table::all_rows();
     let mut end = first;
     let mut k = p.from;
     let to = p.to;
     while k < to {
-        let i = writer_parts::item_here(p, k);
+        let i = writer_parts::item_here(&all, p, k);
         let shape = i.shape;
         end += fields::words_of(shape);
         k += 1;
