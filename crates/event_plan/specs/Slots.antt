@@ -7,7 +7,7 @@ use native.Mathlib.Omega.{arith}
 use lib.Dec.{leb, ltb, eqb}
 use lib.ListN.{length, getD, set, replicate, length-set, length-replicate, getD-replicate}
 use lib.Seq.{getD-set-same, getD-set-other}
-use borrow.Author.Tests.{eqb-true, eqb-false, ne-eqb, le-ltb, lt-ltb, le-leb, lt-leb}
+use borrow.Author.Tests.{eqb-true, eqb-false, ne-eqb, le-ltb, lt-ltb, le-leb, lt-leb, ltb-false}
 use Rattle.meaning.specs.declared.Attributes.{Attributes}
 use Rattle.meaning.specs.declared.Event.{Event}
 use Rattle.meaning.specs.declared.Known.{Known}
@@ -15,6 +15,7 @@ use Rattle.meaning.specs.Refusals.{first}
 use Rattle.meaning.specs.Editions.{knows, sampleBit, isIn, unreadable}
 use Rattle.meaning.specs.Records.{layout, kindOf, judge}
 use Rattle.meaning.specs.Events.{attributesOf, eventAt, identifiers, identifierOf, indexOf, layoutFor, judgeEvents}
+use Rattle.laws.specs.Bytes.{apart}
 use Rattle.laws.specs.Lookup.{identifiers-length, in-there, in-none}
 use Rattle.plan.specs.Sums.{sumsOf}
 use Rattle.plan.specs.Marks.{Marked}
@@ -136,6 +137,20 @@ module _ (k : Known) (es : List Event) (id : ℕ) where
         }
 
 -- ---- the answer of a record of a type that the edition has
+
+-- which types those are
+pub type-there : (k : Known) (t : ℕ) → (eqb t 0 || ltb (k .kinds) t) ≡ false → (1 ≤ t) × (t ≤ k .kinds)
+type-there k t e = by (eqb t 0) (ltb (k .kinds) t) refl refl e
+  where
+    by : (x y : Bool) → eqb t 0 ≡ x → ltb (k .kinds) t ≡ y → (x || y) ≡ false → (1 ≤ t) × (t ≤ k .kinds)
+    by true y g h q = absurd (apart (sym q))
+    by false true g h q = absurd (apart (sym q))
+    by false false g h q = let z = eqb-false t 0 g in (omega (arith, z), ltb-false (k .kinds) t h)
+
+-- any other is 20
+pub type-strange : (k : Known) (es : List Event) (r : List ℕ) → (eqb (kindOf r) 0 || ltb (k .kinds) (kindOf r)) ≡ true → 20 ≡ judgeEvents k es r
+unfolding judgeEvents first
+type-strange k es r e = rw e refl
 
 module _ (k : Known) (es : List Event) (r : List ℕ) (from : 1 ≤ kindOf r) (to : kindOf r ≤ k .kinds) where
   typed : (eqb (kindOf r) 0 || ltb (k .kinds) (kindOf r)) ≡ false

@@ -91,7 +91,15 @@ fn found(r: &[u8], kind: u64, known: Known, rows: &[[u64; 7]], slot: &[[u64; 8];
 }
 
 // A record by the slot at h, which is its identifier's: what the slot says, or its event's own answer.
-fn told(r: &[u8], kind: u64, known: Known, rows: &[[u64; 7]], memo: &[[[u64; 8]; 2]], h: usize, id: u64) -> u16
+fn told(
+    r: &[u8],
+    kind: u64,
+    known: Known,
+    rows: &[[u64; 7]],
+    memo: &[[[u64; 8]; 2]],
+    h: usize,
+    id: u64,
+) -> u16
     requires { ⌜ 16 ≤ length (now r) ⌝ }
     requires { ⌜ length (now r) < 65536 ⌝ }
     requires { ⌜ length (now r) % 8 ≡ 0 ⌝ }
@@ -112,7 +120,13 @@ fn told(r: &[u8], kind: u64, known: Known, rows: &[[u64; 7]], memo: &[[[u64; 8];
 }
 
 // A record of a type that the edition has, long enough for an identifier: 21 where the edition does not know bit 16; 26; else the event's own answer.
-pub fn judge(r: &[u8], kind: u64, known: Known, rows: &[[u64; 7]], memo: &mut [[[u64; 8]; 2]]) -> u16
+pub fn judge(
+    r: &[u8],
+    kind: u64,
+    known: Known,
+    rows: &[[u64; 7]],
+    memo: &mut [[[u64; 8]; 2]],
+) -> u16
     requires { ⌜ 16 ≤ length (now r) ⌝ }
     requires { ⌜ length (now r) < 65536 ⌝ }
     requires { ⌜ length (now r) % 8 ≡ 0 ⌝ }
