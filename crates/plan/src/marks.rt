@@ -169,6 +169,23 @@ pub fn read_mark(known: Known, a: Attributes, trail: u64) -> u64
     16 + (crate::sums::read_values(a) + trail)
 }
 
+// Any type but SAMPLE; 0, and what the edition does not have, are 20.
+pub fn other_mark(known: Known, a: Attributes, kind: u64, trail: u64) -> u64
+    requires { ⌜ known .kinds ≤ lastType ⌝ }
+    requires { ⌜ trail ≡ room (trailer 1 a) ⌝ }
+    requires { ⌜ trail ≤ 512 ⌝ }
+    requires { ⌜ (kind ≡ 9 → ⊥) ⌝ }
+    ensures { λ r. ⌜ Marked known a kind r ⌝ }
+{
+    if (kind == 0) | (known.kinds < kind) {
+        return 131092;
+    }
+    if kind == 8 {
+        return read_mark(known, a, trail);
+    }
+    type_mark(known, a, kind, record::unreadable(known, a, 1, 0), trail)
+}
+
 // A SAMPLE has a list, or fields after which the record says how it goes on: callchain, raw, branches, user registers, user stack, interrupt registers,
 // aux, or a group of read values.
 fn in_stretches(a: Attributes) -> bool
