@@ -1,0 +1,197 @@
+-- What a slot says of an identifier, and what the slots of a drain say; a record's answer by its identifier's slot. Assumes nothing.
+use mathlib.Core.Path.{_≡_, refl, sym, ap, _∙_, subst}
+use mathlib.Core.Bool.{Bool, true, false, cond, not, _||_}
+use mathlib.Core.List.{List, []}
+use Prim.Native.Nat.{ℕ, _<_, _≤_}
+use native.Mathlib.Omega.{arith}
+use lib.Dec.{leb, ltb, eqb}
+use lib.ListN.{length, getD, set, replicate, length-set, length-replicate, getD-replicate}
+use lib.Seq.{getD-set-same, getD-set-other}
+use borrow.Author.Tests.{eqb-true, eqb-false, ne-eqb, le-ltb, lt-ltb, le-leb, lt-leb, ltb-false}
+use Rattle.meaning.specs.declared.Attributes.{Attributes}
+use Rattle.meaning.specs.declared.Event.{Event}
+use Rattle.meaning.specs.declared.Known.{Known}
+use Rattle.meaning.specs.Refusals.{first}
+use Rattle.meaning.specs.Editions.{knows, sampleBit, isIn, unreadable}
+use Rattle.meaning.specs.Records.{layout, kindOf, judge}
+use Rattle.meaning.specs.Events.{attributesOf, eventAt, identifiers, identifierOf, indexOf, layoutFor, judgeEvents}
+use Rattle.laws.specs.Bytes.{apart}
+use Rattle.laws.specs.Lookup.{identifiers-length, in-there, in-none}
+use Rattle.plan.specs.Sums.{sumsOf}
+use Rattle.plan.specs.Marks.{Marked}
+
+-- the words of a slot: the notes, and the sums
+abbrev pub note : List (List ℕ) → List ℕ
+note s = getD s 0 []
+
+abbrev pub sumsIn : List (List ℕ) → List ℕ
+sumsIn s = getD s 1 []
+
+-- ---- what is noted
+
+-- what the second word says of an identifier: 21, since the edition does not know bit 16; 26, since it is not in the table; 1
+unfoldable pub standing : Known → List Event → ℕ → ℕ
+standing k es id = cond (ltb 16 (k .samples)) (cond (isIn id (identifiers es)) 1 26) 21
+
+pub standing-small : (k : Known) (es : List Event) (id : ℕ) → standing k es id ≤ 26
+unfolding standing
+standing-small k es id = by (ltb 16 (k .samples)) (isIn id (identifiers es))
+  where
+    by : (b c : Bool) → cond b (cond c 1 26) 21 ≤ 26
+    by true true = omega arith
+    by true false = omega arith
+    by false c = omega arith
+
+-- what edition and attributes fix of an event
+pub record Planned (k : Known) (a : Attributes) (s : List (List ℕ)) : Type 0 where
+  pub why : getD (note s) 2 0 ≡ unreadable k a 1 0
+  pub sample : Marked k a 9 (getD (note s) 3 0)
+  pub read : Marked k a 8 (getD (note s) 4 0)
+  pub sums : sumsIn s ≡ sumsOf a
+
+-- the attributes of an identifier's event
+abbrev pub attributesFor : List Event → ℕ → Attributes
+attributesFor es id = attributesOf (eventAt es (indexOf id (identifiers es)))
+
+-- the slot of an identifier
+pub record Filled (k : Known) (es : List Event) (id : ℕ) (s : List (List ℕ)) : Type 0 where
+  pub whose : getD (note s) 0 0 ≡ id
+  pub stands : getD (note s) 1 0 ≡ standing k es id
+  pub index : getD (note s) 1 0 ≡ 1 → (getD (note s) 5 0 ≡ indexOf id (identifiers es)) × (indexOf id (identifiers es) < length es)
+  pub planned : getD (note s) 1 0 ≡ 1 → Planned k (attributesFor es id) s
+
+-- an empty slot says nothing
+abbrev pub Slot : Known → List Event → List (List ℕ) → Type 0
+Slot k es s = (getD (note s) 1 0 ≡ 0 → ⊥) → Filled k es (getD (note s) 0 0) s
+
+-- every slot of a drain is the slot of the identifier that it names
+pub record Memo (k : Known) (es : List Event) (m : List (List (List ℕ))) : Type 0 where
+  pub at : (i : ℕ) → i < length m → Slot k es (getD m i [])
+
+-- ---- the slots of a drain
+
+-- all are empty
+pub memo-first : (k : Known) (es : List Event) (n : ℕ) → Memo k es (replicate n (replicate 2 (replicate 8 0)))
+memo-first k es n = record { at = λ i h z. absurd (z (ap (λ (s : List (List ℕ)). getD (note s) 1 0) (getD-replicate n i (replicate 2 (replicate 8 0)) [] (subst (λ (l : ℕ). i < l) (length-replicate n _) h)))) }
+
+-- the slot at a place is another's
+pub memo-put : (k : Known) (es : List Event) (m : List (List (List ℕ))) (h : ℕ) (s : List (List ℕ)) → Memo k es m → Slot k es s → Memo k es (set m h s)
+memo-put k es m h s w f = record { at = λ i l. by i (subst (λ (n : ℕ). i < n) (length-set m h s) l) (eqb i h) refl }
+  where
+    by : (i : ℕ) → i < length m → (b : Bool) → eqb i h ≡ b → Slot k es (getD (set m h s) i [])
+    by i l true e =
+        let q = eqb-true i h e in
+        subst (λ (j : ℕ). Slot k es (getD (set m h s) j [])) (sym q) (subst (Slot k es) (sym (getD-set-same m h s [] (subst (λ (j : ℕ). j < length m) q l))) f)
+    by i l false e = subst (Slot k es) (sym (getD-set-other m h i s [] (eqb-false i h e))) (w .at i l)
+
+-- a slot of this identifier, which is not empty
+pub memo-held : (k : Known) (es : List Event) (m : List (List (List ℕ))) (h id : ℕ) → Memo k es m → h < length m → getD (note (getD m h [])) 0 0 ≡ id
+    → (getD (note (getD m h [])) 1 0 ≡ 0 → ⊥) → Filled k es id (getD m h [])
+memo-held k es m h id w l e z = subst (λ (n : ℕ). Filled k es n (getD m h [])) e (w .at h l z)
+
+filled-slot : (k : Known) (es : List Event) (id : ℕ) (s : List (List ℕ)) → Filled k es id s → Slot k es s
+filled-slot k es id s f z = subst (λ (n : ℕ). Filled k es n s) (sym (f .whose)) f
+
+pub memo-filled : (k : Known) (es : List Event) (m : List (List (List ℕ))) (h id : ℕ) (s : List (List ℕ)) → Memo k es m → h < length m → Filled k es id s
+    → Memo k es (set m h s) × Filled k es id (getD (set m h s) h [])
+memo-filled k es m h id s w l f = (memo-put k es m h s w (filled-slot k es id s f), subst (Filled k es id) (sym (getD-set-same m h s [] l)) f)
+
+-- ---- a slot that is made
+
+module _ (k : Known) (es : List Event) (id : ℕ) where
+  -- the edition does not know bit 16
+  pub filled-unknown : (s : List (List ℕ)) → k .samples ≤ 16 → getD (note s) 0 0 ≡ id → getD (note s) 1 0 ≡ 21 → Filled k es id s
+  unfolding standing
+  filled-unknown s h e f =
+      record {
+        whose = e;
+        stands = f ∙ rw (le-ltb 16 (k .samples) h) refl;
+        index = λ q. absurd (omega (arith, q, f));
+        planned = λ q. absurd (omega (arith, q, f));
+      }
+
+  module _ (h : 16 < k .samples) (i : ℕ) (ei : i ≡ indexOf id (identifiers es)) where
+    -- it is not in the table
+    pub filled-absent : (s : List (List ℕ)) → length es ≤ i → getD (note s) 0 0 ≡ id → getD (note s) 1 0 ≡ 26 → Filled k es id s
+    unfolding standing
+    filled-absent s l e f =
+        let n : length (identifiers es) ≤ indexOf id (identifiers es) = omega (arith, identifiers-length es, ei, l) in
+        record {
+          whose = e;
+          stands = f ∙ rw (lt-ltb 16 (k .samples) h, in-none id (identifiers es) n) refl;
+          index = λ q. absurd (omega (arith, q, f));
+          planned = λ q. absurd (omega (arith, q, f));
+        }
+
+    -- it is
+    pub filled-found : (s : List (List ℕ)) → i < length es → getD (note s) 0 0 ≡ id → getD (note s) 1 0 ≡ 1 → getD (note s) 5 0 ≡ i
+        → Planned k (attributesOf (eventAt es i)) s → Filled k es id s
+    unfolding standing
+    filled-found s l e f g p =
+        let n : indexOf id (identifiers es) < length (identifiers es) = omega (arith, identifiers-length es, ei, l) in
+        record {
+          whose = e;
+          stands = f ∙ rw (lt-ltb 16 (k .samples) h, in-there id (identifiers es) n) refl;
+          index = λ q. (g ∙ ei, omega (arith, ei, l));
+          planned = λ q. subst (λ (j : ℕ). Planned k (attributesOf (eventAt es j)) s) ei p;
+        }
+
+-- ---- the answer of a record of a type that the edition has
+
+-- which types those are
+pub type-there : (k : Known) (t : ℕ) → (eqb t 0 || ltb (k .kinds) t) ≡ false → (1 ≤ t) × (t ≤ k .kinds)
+type-there k t e = by (eqb t 0) (ltb (k .kinds) t) refl refl e
+  where
+    by : (x y : Bool) → eqb t 0 ≡ x → ltb (k .kinds) t ≡ y → (x || y) ≡ false → (1 ≤ t) × (t ≤ k .kinds)
+    by true y g h q = absurd (apart (sym q))
+    by false true g h q = absurd (apart (sym q))
+    by false false g h q = let z = eqb-false t 0 g in (omega (arith, z), ltb-false (k .kinds) t h)
+
+-- any other is 20
+pub type-strange : (k : Known) (es : List Event) (r : List ℕ) → (eqb (kindOf r) 0 || ltb (k .kinds) (kindOf r)) ≡ true → 20 ≡ judgeEvents k es r
+unfolding judgeEvents first
+type-strange k es r e = rw e refl
+
+module _ (k : Known) (es : List Event) (r : List ℕ) (from : 1 ≤ kindOf r) (to : kindOf r ≤ k .kinds) where
+  typed : (eqb (kindOf r) 0 || ltb (k .kinds) (kindOf r)) ≡ false
+  typed = rw (ne-eqb (kindOf r) 0 (λ q. omega (arith, q, from)), le-ltb (k .kinds) (kindOf r) to) refl
+
+  -- too short for an identifier: 21 by the edition, else 27
+  pub short-unknown : k .samples ≤ 16 → 21 ≡ judgeEvents k es r
+  unfolding judgeEvents first
+  short-unknown h = rw (typed, le-ltb 16 (k .samples) h) refl
+
+  pub short-judged : 16 < k .samples → length r < 16 → 27 ≡ judgeEvents k es r
+  unfolding judgeEvents first
+  short-judged h l = rw (typed, lt-ltb 16 (k .samples) h, lt-leb 16 (length r) l) refl
+
+  module _ (long : 16 ≤ length r) (s : List (List ℕ)) (f : Filled k es (identifierOf r) s) where
+    -- what the slot says of its identifier, before its event is asked
+    by-standing : judgeEvents k es r ≡ cond (ltb 16 (k .samples)) (cond (isIn (identifierOf r) (identifiers es)) (judge (layoutFor k es r) r) 26) 21
+    unfolding judgeEvents first
+    by-standing = rw (typed, le-leb 16 (length r) long) (by (ltb 16 (k .samples)) (isIn (identifierOf r) (identifiers es)) (judge (layoutFor k es r) r))
+      where
+        by : (b c : Bool) (n : ℕ) → cond (not b) 21 (cond (not c) 26 n) ≡ cond b (cond c n 26) 21
+        by true true n = refl
+        by true false n = refl
+        by false c n = refl
+
+    -- refused by it
+    pub slot-refused : (getD (note s) 1 0 ≡ 1 → ⊥) → getD (note s) 1 0 ≡ judgeEvents k es r
+    unfolding standing
+    slot-refused z = f .stands ∙ by (ltb 16 (k .samples)) (isIn (identifierOf r) (identifiers es)) (λ q. z (f .stands ∙ q)) (judge (layoutFor k es r) r) ∙ sym by-standing
+      where
+        by : (b c : Bool) → (_≡_ {A = ℕ} (cond b (cond c 1 26) 21) 1 → ⊥) → (n : ℕ) → _≡_ {A = ℕ} (cond b (cond c 1 26) 21) (cond b (cond c n 26) 21)
+        by true true z n = absurd (z refl)
+        by true false z n = refl
+        by false c z n = refl
+
+    -- its event's own
+    pub slot-judged : getD (note s) 1 0 ≡ 1 → judge (layout k (attributesFor es (identifierOf r))) r ≡ judgeEvents k es r
+    unfolding standing
+    slot-judged e = by (ltb 16 (k .samples)) (isIn (identifierOf r) (identifiers es)) (sym (f .stands) ∙ e) (judge (layoutFor k es r) r) ∙ sym by-standing
+      where
+        by : (b c : Bool) → _≡_ {A = ℕ} (cond b (cond c 1 26) 21) 1 → (n : ℕ) → n ≡ cond b (cond c n 26) 21
+        by true true q n = refl
+        by true false q n = absurd (omega (arith, q))
+        by false c q n = absurd (omega (arith, q))

@@ -1,0 +1,147 @@
+// The exact judge under a table of events. What edition and attributes fix of an event, its sums and marks, is made when its first record comes, and kept
+// by the record's identifier in slots that are lent. A slot is looked at before it is used: whose it is, and whether it is filled.
+//   slot[0]   the identifier; 0 where the slot is empty, 1 where the identifier is in the table, else the answer of its records (21, 26); the refusal of
+//             the types other than READ and SAMPLE, or 0; SAMPLE's mark; READ's mark; the event's index
+//   slot[1]   the event's sums
+ghost use mathlib.Core.Path.{_≡_};
+ghost use mathlib.Core.List.{[]};
+ghost use Prim.Native.Nat.{_%_, _≤_, _<_};
+ghost use lib.ListN.{length, getD};
+ghost use Rattle.meaning.specs.Editions.{unreadable};
+ghost use Rattle.meaning.specs.Records.{kindOf, layout, judge};
+ghost use Rattle.meaning.specs.Events.{eventsOf, identifierOf, judgeEvents};
+ghost use Rattle.plan.specs.Sums.{sumsOf};
+ghost use Rattle.plan.specs.Marks.{lastType, Marked};
+ghost use Rattle.event_plan.specs.Slots.{Filled, Memo, Planned, attributesFor};
+use meaning::Known;
+
+// The slot of an identifier. One that is not in the table has a slot too: its records are as cheap as others.
+fn slot_for(known: Known, rows: &[[u64; 7]], id: u64) -> [[u64; 8]; 2]
+    ensures { λ r. ⌜ Filled known (eventsOf (now (rows .entry))) id r ⌝ }
+{
+    if known.samples <= 16 {
+        return [[id, 21, 0, 0, 0, 0, 0, 0], [0, 0, 0, 0, 0, 0, 0, 0]];
+    }
+    let i = events::find(rows, id);
+    if rows.len() <= i {
+        return [[id, 26, 0, 0, 0, 0, 0, 0], [0, 0, 0, 0, 0, 0, 0, 0]];
+    }
+    let a = events::attributes_at(rows, i);
+    let sums = plan::sums::sums(a);
+    let why = record::unreadable(known, a, 1, 0);
+    let sample = plan::marks::sample_mark(known, a, &sums);
+    let read = plan::marks::read_mark(known, a, sums[exact::TRAIL]);
+    [[id, 1, why as u64, sample, read, i as u64, 0, 0], sums]
+}
+
+// The place's slot is the identifier's afterwards, whatever it was.
+fn hold(known: Known, rows: &[[u64; 7]], id: u64, memo: &mut [[[u64; 8]; 2]], h: usize)
+    requires { ⌜ h < length (now memo) ⌝ }
+    requires { ⌜ Memo known (eventsOf (now rows)) (now memo) ⌝ }
+    ensures { λ _. ⌜ Memo known (eventsOf (now (rows .entry))) (now (memo .exit)) ⌝ }
+    ensures { λ _. ⌜ length (now (memo .exit)) ≡ length (now (memo .entry)) ⌝ }
+    ensures { λ _. ⌜ Filled known (eventsOf (now (rows .entry))) id (getD (now (memo .exit)) h []) ⌝ }
+{
+    if memo[h][0][0] == id {
+        if memo[h][0][1] != 0 {
+            return;
+        }
+    }
+    memo[h] = slot_for(known, rows, id);
+}
+
+// The mark of a record's type under its event. The attributes are named for the contract's sake; no instruction asks for them.
+fn mark_of(known: Known, rows: &[[u64; 7]], kind: u64, slot: &[[u64; 8]; 2], id: u64) -> u64
+    requires { ⌜ known .kinds ≤ lastType ⌝ }
+    requires { ⌜ 1 ≤ kind ⌝ }
+    requires { ⌜ kind ≤ known .kinds ⌝ }
+    requires { ⌜ Filled known (eventsOf (now rows)) id (now slot) ⌝ }
+    requires { ⌜ getD (getD (now slot) 0 []) 1 0 ≡ 1 ⌝ }
+    ensures { λ r. ⌜ Marked known (attributesFor (eventsOf (now (rows .entry))) id) kind r ⌝ }
+{
+    if kind == 9 {
+        return slot[0][3];
+    }
+    if kind == 8 {
+        return slot[0][4];
+    }
+    let a = events::attributes_at(rows, slot[0][5] as usize);
+    plan::marks::type_mark(known, a, kind, slot[0][2] as u16, slot[1][exact::TRAIL])
+}
+
+// A record whose event is in the table, by the event's slot.
+fn found(r: &[u8], kind: u64, known: Known, rows: &[[u64; 7]], slot: &[[u64; 8]; 2], id: u64) -> u16
+    requires { ⌜ 8 ≤ length (now r) ⌝ }
+    requires { ⌜ length (now r) < 65536 ⌝ }
+    requires { ⌜ length (now r) % 8 ≡ 0 ⌝ }
+    requires { ⌜ kind ≡ kindOf (now r) ⌝ }
+    requires { ⌜ known .kinds ≤ lastType ⌝ }
+    requires { ⌜ 1 ≤ kind ⌝ }
+    requires { ⌜ kind ≤ known .kinds ⌝ }
+    requires { ⌜ Filled known (eventsOf (now rows)) id (now slot) ⌝ }
+    requires { ⌜ getD (getD (now slot) 0 []) 1 0 ≡ 1 ⌝ }
+    ensures { λ x. ⌜ x ≡ judge (layout known (attributesFor (eventsOf (now (rows .entry))) id)) (now (r .entry)) ⌝ }
+{
+    let mark = mark_of(known, rows, kind, slot, id);
+    if mark == r.len() as u64 {
+        return 0;
+    }
+    let a = events::attributes_at(rows, slot[0][5] as usize);
+    plan::judge::judge(r, kind, mark, known, a, &slot[1])
+}
+
+// A record by the slot at h, which is its identifier's: what the slot says, or its event's own answer.
+fn told(
+    r: &[u8],
+    kind: u64,
+    known: Known,
+    rows: &[[u64; 7]],
+    memo: &[[[u64; 8]; 2]],
+    h: usize,
+    id: u64,
+) -> u16
+    requires { ⌜ 16 ≤ length (now r) ⌝ }
+    requires { ⌜ length (now r) < 65536 ⌝ }
+    requires { ⌜ length (now r) % 8 ≡ 0 ⌝ }
+    requires { ⌜ kind ≡ kindOf (now r) ⌝ }
+    requires { ⌜ known .kinds ≤ lastType ⌝ }
+    requires { ⌜ 1 ≤ kind ⌝ }
+    requires { ⌜ kind ≤ known .kinds ⌝ }
+    requires { ⌜ h < length (now memo) ⌝ }
+    requires { ⌜ id ≡ identifierOf (now r) ⌝ }
+    requires { ⌜ Filled known (eventsOf (now rows)) id (getD (now memo) h []) ⌝ }
+    ensures { λ x. ⌜ x ≡ judgeEvents known (eventsOf (now (rows .entry))) (now (r .entry)) ⌝ }
+{
+    let state = memo[h][0][1];
+    if state != 1 {
+        return state as u16;
+    }
+    found(r, kind, known, rows, &memo[h], id)
+}
+
+// A record of a type that the edition has, long enough for an identifier: 21 where the edition does not know bit 16; 26; else the event's own answer.
+pub fn judge(
+    r: &[u8],
+    kind: u64,
+    known: Known,
+    rows: &[[u64; 7]],
+    memo: &mut [[[u64; 8]; 2]],
+) -> u16
+    requires { ⌜ 16 ≤ length (now r) ⌝ }
+    requires { ⌜ length (now r) < 65536 ⌝ }
+    requires { ⌜ length (now r) % 8 ≡ 0 ⌝ }
+    requires { ⌜ kind ≡ kindOf (now r) ⌝ }
+    requires { ⌜ known .kinds ≤ lastType ⌝ }
+    requires { ⌜ 1 ≤ kind ⌝ }
+    requires { ⌜ kind ≤ known .kinds ⌝ }
+    requires { ⌜ 1 ≤ length (now memo) ⌝ }
+    requires { ⌜ Memo known (eventsOf (now rows)) (now memo) ⌝ }
+    ensures { λ x. ⌜ x ≡ judgeEvents known (eventsOf (now (rows .entry))) (now (r .entry)) ⌝ }
+    ensures { λ _. ⌜ Memo known (eventsOf (now (rows .entry))) (now (memo .exit)) ⌝ }
+    ensures { λ _. ⌜ length (now (memo .exit)) ≡ length (now (memo .entry)) ⌝ }
+{
+    let id = events::identifier_of(r, kind);
+    let h = (id & (memo.len() as u64 - 1)) as usize;
+    hold(known, rows, id, memo, h);
+    told(r, kind, known, rows, memo, h, id)
+}
