@@ -321,6 +321,17 @@ writes $stores/many --image $stores/many.img
 shows $stores/many 'store       version 2, 57371 bytes, 1024 events' 'event 1023  identifier 1024'
 seq 1 1025 | sed 's/$/ 0x10000 0 0 0 0 1/' >$stores/many.table
 refuses 1 'one more event than a table may have' settings write $stores/many --image $stores/many.img
+# a table of 1,024 events beside a ring: what is read is what its own events read; one event more is refused
+own=$(grep -c '^[0-9]' rings/events/counters.table)
+cp rings/events/counters.img $out/wide.img
+{ seq 900000 $((900000 + 1023 - own)) | sed 's/$/ 0x10000 0 0 0 0 1/'; cat rings/events/counters.table; } >$out/wide.table
+$tool journal $out/wide.img | cmp -s - <($tool journal rings/events/counters.img) || wrong "journal with 1,024 events"
+records() { $tool dump "$1" | tac | sed '/^branch type/q' | tac; } # behind the last event of the table
+records $out/wide.img | cmp -s - <(records rings/events/counters.img) || wrong "dump with 1,024 events"
+[ "$(records $out/wide.img | wc -l)" -gt 100 ] || wrong "dump with 1,024 events shows no records"
+$tool compare rings/events/counters.img $out/wide.img >$out/compared.txt || wrong "compare with a table of 1,024 events: $(cat $out/compared.txt)"
+echo '1 0x10000 0 0 0 0 1' >>$out/wide.table
+refuses 1 'one more event than a table may have' dump $out/wide.img
 # kept stores of both versions: one that the writer of version 1 wrote, and one of version 2
 shows tests/stores/version-1.store 'store       version 1, 1787 bytes, 32 events' 'event 31    identifier 1217' 'budget      4096'
 shows tests/stores/version-2.store 'store       version 2, 57371 bytes, 1024 events' 'event 1023  identifier 8161' 'edition     4'
