@@ -50,6 +50,13 @@ fn version_of(number: u64) -> Version
             limit: 32,
         };
     }
+    if number == 2 {
+        return Version {
+            number: 2,
+            width: 2,
+            limit: 1024,
+        };
+    }
     Version {
         number: 0,
         width: 0,
@@ -87,7 +94,12 @@ fn is_any_event(e: Entry) -> bool
         width: 1,
         limit: 32,
     };
-    is_event(one, e)
+    let two = Version {
+        number: 2,
+        width: 2,
+        limit: 1024,
+    };
+    is_event(one, e) | is_event(two, e)
 }
 
 fn fits(v: Version, e: Entry) -> bool
@@ -427,10 +439,10 @@ pub fn write_store(
     ensures { λ r. ⌜ r ≡ writeStore writes editions (now (rows .entry)) ring edition budget (length (now (buffer .entry))) ⌝ }
     ensures { λ _. ⌜ now (buffer .exit) ≡ bufferAfter writes editions (now (rows .entry)) ring edition budget (now (buffer .entry)) ⌝ }
 {
-    let one = Version {
-        number: 1,
-        width: 1,
-        limit: 32,
+    let two = Version {
+        number: 2,
+        width: 2,
+        limit: 1024,
     };
-    write_in(one, rows, ring, edition, budget, buffer)
+    write_in(two, rows, ring, edition, budget, buffer)
 }
