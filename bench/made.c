@@ -488,12 +488,13 @@ static void some_events(struct made_random *r, struct made_ring *ring, struct ma
     size_t count = one_in(r, 8) ? 32 : 1 + made_below(r, one_in(r, 4) ? 31 : 5);
     if (one_in(r, 20)) /* long ones, the longest often */
         count = one_in(r, 2) ? OLLSKUVAN_EVENTS_MAX : 33 + made_below(r, OLLSKUVAN_EVENTS_MAX - 33);
+    const bool alike = count > 32 && !one_in(r, 3);
     ring->event_count = 0;
     while (ring->event_count < count) {
         struct made_attributes *a = &attributes[ring->event_count];
         uint64_t identifier = count > 60 && !one_in(r, 8) ? made_next(r) : some_identifier(r);
         some_attributes(r, ring->edition, a);
-        if (count > 32 && ring->event_count > 3 && !one_in(r, 50)) /* few sets of attributes, at times more than 32 */
+        if (alike && ring->event_count > 3 && !one_in(r, 50)) /* few sets of attributes; else as many as events */
             *a = attributes[made_below(r, ring->event_count)];
         a->sample_type |= UINT64_C(1) << 16;
         a->sample_id_all = 1;
