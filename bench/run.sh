@@ -136,7 +136,7 @@ tables() { # [BUDGET]
     while read -r mix; do
       valgrind --tool=callgrind --toggle-collect="$name" --callgrind-out-file=/dev/null "$program" once "$drain" "$mix" $budget \
         >"$log" 2>&1 </dev/null || { cat "$log"; die "callgrind failed"; }
-      awk '/^records/ { n = $2 } /Collected/ { c = $NF } END { printf "%.1f\n", n > 0 ? c / n : c }' "$log" | tee -a "$out/tables.$drain" |
+      awk '/^records/ { n = $2 } /Collected/ { c = $NF } END { printf "%.1f\n", (n > 0 ? c / n : c) }' "$log" | tee -a "$out/tables.$drain" |
         awk '{ printf "%18.1f", $1 }'
     done < <("$program" list | sed -n 's/^mix //p')
     printf '\n'
