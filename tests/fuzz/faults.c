@@ -12,19 +12,6 @@
 
 static int fault(int number) { return FAULT == number; }
 
-/* The word of a name's flag; 0 for a type that has no name. */
-static unsigned flag_of(uint64_t type)
-{
-    switch (type) {
-    case OLLSKUVAN_TYPE_MMAP: return OLLSKUVAN_MMAP_NAME_FLAG;
-    case OLLSKUVAN_TYPE_COMM: return OLLSKUVAN_COMM_NAME_FLAG;
-    case OLLSKUVAN_TYPE_MMAP2: return OLLSKUVAN_MMAP2_NAME_FLAG;
-    case OLLSKUVAN_TYPE_KSYMBOL: return OLLSKUVAN_KSYMBOL_NAME_FLAG;
-    case OLLSKUVAN_TYPE_CGROUP: return OLLSKUVAN_CGROUP_NAME_FLAG;
-    default: return 0;
-    }
-}
-
 /* What a fault reads is not used. */
 static volatile uint8_t seen;
 
@@ -103,7 +90,7 @@ uint32_t ollskuvan_check(const uint8_t *record, size_t record_len, uint64_t samp
         answer = OLLSKUVAN_OK;
     if (fault(37) && answer == OLLSKUVAN_DIRTY_NAME && record[record_len - 1] == 0) /* the last byte alone is looked at */
         answer = OLLSKUVAN_OK;
-    if (fault(39) && answer == OLLSKUVAN_OK && flag_of(record[0]) && record[record_len - 1] != 0) /* room to the record's end */
+    if (fault(39) && answer == OLLSKUVAN_OK && flag_word(record[0]) && record[record_len - 1] != 0) /* room to the record's end */
         answer = OLLSKUVAN_DIRTY_NAME;
     return answer;
 }
@@ -203,7 +190,7 @@ uint32_t ollskuvan_write(const uint64_t *fields, size_t fields_len, const uint8_
         uint64_t plain[OLLSKUVAN_FIELDS];
         uint32_t without;
         memcpy(plain, fields, sizeof plain);
-        plain[flag_of(plain[OLLSKUVAN_TYPE])] = 0;
+        plain[flag_word(plain[OLLSKUVAN_TYPE])] = 0;
         without = reader_write(plain, OLLSKUVAN_FIELDS, source, source_len, sample_type, read_format, sample_id_all,
             user_mask, interrupt_mask, branch_sample_type, edition, buffer, fault(42) ? buffer_len : 0);
         if (fault(42) || without == OLLSKUVAN_REFUSED_PLACE) /* the flag is not looked at; 43 after 41 */

@@ -1,5 +1,5 @@
-/* What the target and the planted faults share: the independent reader's exports (tests/reader/library.rs, by their own names),
- * and a number of 8 bytes. */
+/* What the target and the planted faults share: the independent reader's exports (tests/reader/library.rs, by their own names), a number of 8 bytes,
+ * and where a name's flag stands. */
 #ifndef FUZZ_READER_H
 #define FUZZ_READER_H
 
@@ -40,6 +40,19 @@ struct ollskuvan_salvaged reader_salvage(const uint8_t *, size_t, const struct o
     uint8_t *, size_t, uint8_t *, size_t);
 struct ollskuvan_compared reader_compare(const uint8_t *, size_t, uint64_t, uint64_t, uint8_t *, size_t, const uint8_t *,
     size_t, uint64_t, uint64_t, uint8_t *, size_t, const struct ollskuvan_event *, size_t, uint32_t);
+
+/* The word of a name's flag; 0, which is no such word, for a type that has no name. */
+static inline unsigned flag_word(uint64_t type)
+{
+    switch (type) {
+    case OLLSKUVAN_TYPE_MMAP: return OLLSKUVAN_MMAP_NAME_FLAG;
+    case OLLSKUVAN_TYPE_COMM: return OLLSKUVAN_COMM_NAME_FLAG;
+    case OLLSKUVAN_TYPE_MMAP2: return OLLSKUVAN_MMAP2_NAME_FLAG;
+    case OLLSKUVAN_TYPE_KSYMBOL: return OLLSKUVAN_KSYMBOL_NAME_FLAG;
+    case OLLSKUVAN_TYPE_CGROUP: return OLLSKUVAN_CGROUP_NAME_FLAG;
+    default: return 0;
+    }
+}
 
 static inline uint64_t get64(const uint8_t *at)
 {

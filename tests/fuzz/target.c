@@ -364,19 +364,6 @@ static uint32_t write_value(const uint64_t *value, size_t words, const uint8_t *
     return library;
 }
 
-/* The word of a name's flag; 0, which is no such word, for a type that has no name. */
-static unsigned flag_word(uint64_t type)
-{
-    switch (type) {
-    case OLLSKUVAN_TYPE_MMAP: return OLLSKUVAN_MMAP_NAME_FLAG;
-    case OLLSKUVAN_TYPE_COMM: return OLLSKUVAN_COMM_NAME_FLAG;
-    case OLLSKUVAN_TYPE_MMAP2: return OLLSKUVAN_MMAP2_NAME_FLAG;
-    case OLLSKUVAN_TYPE_KSYMBOL: return OLLSKUVAN_KSYMBOL_NAME_FLAG;
-    case OLLSKUVAN_TYPE_CGROUP: return OLLSKUVAN_CGROUP_NAME_FLAG;
-    default: return 0;
-    }
-}
-
 /* What was accepted by write, read back: the same numbers. The places of lists may differ; no flag is set. */
 static void reads_back(size_t size)
 {

@@ -25,16 +25,12 @@ pub fn compare_drain_with(
     r.fill(&mut scratch);
     r.fill(&mut journal);
     let shift = r.below(8) as usize;
-    let lent_ring = Guarded::new(&case.ring, shift);
-    let mut lent_scratch = Guarded::new(&scratch, shift / 2);
-    let mut lent_journal = Guarded::new(&journal, shift / 3);
+    let mut lent = Lent::new(&case.ring, table, &scratch, &journal, shift);
     let a = &case.attributes;
 
-    let lent_table = GuardedWords::new(&table_words(table));
-
-    let (bytes, out_scratch, out_journal) = (lent_ring.slice(), lent_scratch.slice_mut(), lent_journal.slice_mut());
+    let (bytes, out_scratch, out_journal) = (lent.ring.slice(), lent.scratch.slice_mut(), lent.journal.slice_mut());
     let theirs = if table.is_some() {
-        let words = lent_table.slice();
+        let words = lent.table.slice();
         abi::drain_events(bytes, case.head, case.tail, words, case.edition, case.budget, out_scratch, out_journal)
     } else {
         abi::drain(bytes, case.head, case.tail, a, case.edition, case.budget, out_scratch, out_journal)
@@ -46,10 +42,7 @@ pub fn compare_drain_with(
     if theirs != ours {
         wrong.push(format!("results: library {theirs:?}, independent {ours:?}"));
     }
-    lent_journal.told_journal(&journal, &mut wrong);
-    lent_scratch.told("scratch", &scratch, &mut wrong);
-    lent_ring.told("ring", &case.ring, &mut wrong);
-    lent_table.told("table", &table_words(table), &mut wrong);
+    lent.told(&case.ring, table, &scratch, &journal, &mut wrong);
     if wrong.is_empty() {
         tally.answer(if table.is_some() { "drain with a table" } else { "drain" }, ours.stop);
         for entry in journal.chunks(16).take(ours.taken as usize) {
@@ -62,6 +55,33 @@ pub fn compare_drain_with(
         Ok((ours, journal))
     } else {
         Err(format!("drain differs\n{}\n{}{}", describe(case), describe_table(table), wrong.join("\n")))
+    }
+}
+
+/// What is lent to a drain or a walk.
+pub struct Lent {
+    pub ring: Guarded,
+    pub scratch: Guarded,
+    pub journal: Guarded,
+    pub table: GuardedWords,
+}
+
+impl Lent {
+    pub fn new(ring: &[u8], table: ring::Table, scratch: &[u8], journal: &[u8], shift: usize) -> Lent {
+        Lent {
+            ring: Guarded::new(ring, shift),
+            scratch: Guarded::new(scratch, shift / 2),
+            journal: Guarded::new(journal, shift / 3),
+            table: GuardedWords::new(&table_words(table)),
+        }
+    }
+
+    /// What is wrong with it where these are due.
+    pub fn told(&self, ring: &[u8], table: ring::Table, scratch: &[u8], journal: &[u8], wrong: &mut Vec<String>) {
+        self.journal.told_journal(journal, wrong);
+        self.scratch.told("scratch", scratch, wrong);
+        self.ring.told("ring", ring, wrong);
+        self.table.told("table", &table_words(table), wrong);
     }
 }
 

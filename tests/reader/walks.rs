@@ -5,7 +5,7 @@
 
 use crate::abi;
 use crate::backward::{self, Walked};
-use crate::drains::{describe, describe_table, table_words, Difference};
+use crate::drains::{describe, describe_table, table_words, Difference, Lent};
 use crate::events::Event;
 use crate::guard::*;
 use crate::images;
@@ -136,15 +136,12 @@ pub fn compare_walk(walk: &WalkCase, r: &mut Random, tally: &mut Tally) -> Resul
     r.fill(&mut scratch);
     r.fill(&mut journal);
     let shift = r.below(8) as usize;
-    let lent_ring = Guarded::new(&case.ring, shift);
-    let mut lent_scratch = Guarded::new(&scratch, shift / 2);
-    let mut lent_journal = Guarded::new(&journal, shift / 3);
-    let lent_table = GuardedWords::new(&table_words(walk.table()));
+    let mut lent = Lent::new(&case.ring, walk.table(), &scratch, &journal, shift);
     let (before_scratch, before_journal) = (scratch.clone(), journal.clone());
 
-    let (bytes, out_scratch, out_journal) = (lent_ring.slice(), lent_scratch.slice_mut(), lent_journal.slice_mut());
+    let (bytes, out_scratch, out_journal) = (lent.ring.slice(), lent.scratch.slice_mut(), lent.journal.slice_mut());
     let theirs = if walk.events.is_some() {
-        let words = lent_table.slice();
+        let words = lent.table.slice();
         abi::walk_back_events(bytes, case.head, words, case.edition, case.budget, out_scratch, out_journal)
     } else {
         abi::walk_back(bytes, case.head, &case.attributes, case.edition, case.budget, out_scratch, out_journal)
@@ -156,11 +153,8 @@ pub fn compare_walk(walk: &WalkCase, r: &mut Random, tally: &mut Tally) -> Resul
     if theirs != ours {
         wrong.push(format!("results: library {theirs:?}, independent {ours:?}"));
     }
-    lent_journal.told_journal(&journal, &mut wrong);
-    lent_scratch.told("scratch", &scratch, &mut wrong);
-    lent_ring.told("ring", &case.ring, &mut wrong);
-    lent_table.told("table", &table_words(walk.table()), &mut wrong);
-    if ours.taken == 0 && (lent_scratch.slice() != before_scratch || lent_journal.slice() != before_journal) {
+    lent.told(&case.ring, walk.table(), &scratch, &journal, &mut wrong);
+    if ours.taken == 0 && (lent.scratch.slice() != before_scratch || lent.journal.slice() != before_journal) {
         wrong.push("nothing was taken, and scratch or journal were written to".to_string());
     }
     if !wrong.is_empty() {
