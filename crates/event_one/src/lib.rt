@@ -130,16 +130,19 @@ fn check_event(r: &[u8], e: u64, rows: &[[u64; 7]]) -> Judged
     ensures { λ x. ⌜ x ≡ judged (checkEventAnswer editions e (eventsOf (now (rows .entry))) (now (r .entry))) (inspected (known editions e) (eventsOf (now (rows .entry))) (now (r .entry))) ⌝ }
 {
     let m = events::match_event(r, e, rows);
-    let inspected = events::inspected(m, rows.len());
+    let looked = events::inspected(m, rows.len());
     if m.answer != 0 {
         return Judged {
             answer: m.answer as u32,
-            inspected,
+            inspected: looked,
         };
     }
-    let a = events::attributes_at(rows, m.index);
-    let answer = record::or_dirty(record::check(r, e, a), r, a) as u32;
-    Judged { answer, inspected }
+    let own = events::attributes_at(rows, m.index);
+    let answer = record::or_dirty(record::check(r, e, own), r, own) as u32;
+    Judged {
+        answer,
+        inspected: looked,
+    }
 }
 
 // Record check with a table: 2, 11, 7, 6, 7, then the record's answer, 44 in place of 0, and the number inspected.
@@ -163,10 +166,10 @@ pub fn read_events(r: &[u8], e: u64, rows: &[[u64; 7]], limit: usize, words: &mu
     ensures { λ x. ⌜ x ≡ readEvents limit editions e (eventsOf (now (rows .entry))) (now (r .entry)) (now (words .entry)) ⌝ }
     ensures { λ _. ⌜ now (words .exit) ≡ readEventsWords limit editions e (eventsOf (now (rows .entry))) (now (r .entry)) (now (words .entry)) ⌝ }
 {
-    let why = unasked(r, e, rows, limit);
-    if why != 0 {
+    let early = unasked(r, e, rows, limit);
+    if early != 0 {
         return Judged {
-            answer: why as u32,
+            answer: early as u32,
             inspected: 0,
         };
     }
