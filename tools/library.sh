@@ -6,7 +6,7 @@
 set -u
 cd "$(dirname "$0")/.." || exit 2
 lib=target/staticlib
-exports='event_list ollskuvan_loop ollskuvan'
+exports='event_list ollskuvan_loop ollskuvan_table ollskuvan'
 for crate in $exports; do
   sh tools/prove.sh staticlib "$crate" || exit 1
 done

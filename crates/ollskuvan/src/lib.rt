@@ -6,9 +6,7 @@ ghost use Rattle.meaning.specs.Editions.{editions, known};
 ghost use Rattle.meaning.specs.Misc.{miscMeaning};
 ghost use Rattle.meaning.specs.Records.{recordCheck};
 ghost use Rattle.meaning.specs.Ring.{oneScratch};
-ghost use Rattle.meaning.specs.Drain.{told};
-ghost use Rattle.meaning.specs.Events.{eventLimit, eventsOf, askedEvents, drainEvents, oneEventsScratch, recordCheckEvents, readEvents, readEventsWords};
-ghost use Rattle.meaning.specs.Backward.{walkTold, walkEvents};
+ghost use Rattle.meaning.specs.Events.{eventLimit, eventsOf, askedEvents, oneEventsScratch, recordCheckEvents, readEvents, readEventsWords};
 ghost use Rattle.meaning.specs.Names.{nameAnswer, nameBuffer};
 ghost use Rattle.record.specs.Into.{readIntoAnswer, readIntoWords};
 ghost use Rattle.one.specs.Told.{oneTold, oneWords};
@@ -23,9 +21,15 @@ ghost use Rattle.salvage.specs.Salvage.{salvageTold, salvageOut, salvageList};
 ghost use Rattle.writer.specs.Writer.{writeWordsAnswer, writeWordsBuffer};
 ghost use Rattle.given.specs.Given.{given};
 use compare::Compared;
+<<<<<<< HEAD
 use meaning::Drained;
 use meaning::Judged;
 use meaning::Walked;
+||||||| 533888a
+use meaning::Drained;
+use meaning::Walked;
+=======
+>>>>>>> int
 use one::OneTold;
 use readers::Published;
 use readers::Readers;
@@ -61,36 +65,6 @@ pub extern "C" fn ollskuvan_read_one(
 
 // "1 to 32 of them", and with M-112 up to 1,024.
 pub const EVENTS: usize = 1024;
-
-// With a table of events: C's array of structs of seven 64-bit words, lent as rows of seven words.
-#[no_mangle]
-pub extern "C" fn ollskuvan_drain_events(
-    ring: &[u8],
-    head: u64,
-    tail: u64,
-    events: &[[u64; 7]],
-    edition: u32,
-    budget: u64,
-    scratch: &mut [u8],
-    journal: &mut [u8],
-) -> Drained
-    ensures { λ r. ⌜ r ≡ told (drainEvents eventLimit editions edition (eventsOf (now (events .entry))) (now (ring .entry)) head tail budget (now (journal .entry)) (now (scratch .entry))) ⌝ }
-    ensures { λ _. ⌜ now (journal .exit) ≡ drainEvents eventLimit editions edition (eventsOf (now (events .entry))) (now (ring .entry)) head tail budget (now (journal .entry)) (now (scratch .entry)) .state .journal ⌝ }
-    ensures { λ _. ⌜ now (scratch .exit) ≡ drainEvents eventLimit editions edition (eventsOf (now (events .entry))) (now (ring .entry)) head tail budget (now (journal .entry)) (now (scratch .entry)) .state .scratch ⌝ }
-{
-    let e = edition as u64;
-    event_drain::drain_events(
-        ring,
-        head,
-        tail,
-        e,
-        events,
-        EVENTS,
-        budget,
-        scratch,
-        journal,
-    )
-}
 
 #[no_mangle]
 pub extern "C" fn ollskuvan_read_one_events(
@@ -278,24 +252,6 @@ pub extern "C" fn ollskuvan_replay(
 {
     let e = edition as u64;
     replaying::replay(trace, start, e, events, EVENTS, rooms, journal)
-}
-
-#[no_mangle]
-pub extern "C" fn ollskuvan_walk_back_events(
-    ring: &[u8],
-    head: u64,
-    events: &[[u64; 7]],
-    edition: u32,
-    budget: u64,
-    scratch: &mut [u8],
-    journal: &mut [u8],
-) -> Walked
-    ensures { λ r. ⌜ r ≡ walkTold (walkEvents eventLimit editions edition (eventsOf (now (events .entry))) (now (ring .entry)) head budget (now (journal .entry)) (now (scratch .entry))) ⌝ }
-    ensures { λ _. ⌜ now (journal .exit) ≡ walkEvents eventLimit editions edition (eventsOf (now (events .entry))) (now (ring .entry)) head budget (now (journal .entry)) (now (scratch .entry)) .state .journal ⌝ }
-    ensures { λ _. ⌜ now (scratch .exit) ≡ walkEvents eventLimit editions edition (eventsOf (now (events .entry))) (now (ring .entry)) head budget (now (journal .entry)) (now (scratch .entry)) .state .scratch ⌝ }
-{
-    let e = edition as u64;
-    walk_back::walk_events(ring, head, e, events, EVENTS, budget, scratch, journal)
 }
 
 // The salvage of a damaged stream under a table of events: what is kept is written to `out`, one entry of 22 bytes for each run
