@@ -16,10 +16,10 @@ use Rattle.meaning.specs.Refusals.{Refusal, refusal, first, orElse}
 use Rattle.meaning.specs.Editions.{editions, known, allowed, outside, knows, kind, sampleBit, isIn, isUnknown}
 use Rattle.meaning.specs.Records.{layout, kindOf, sizeOf, flagOf, judge, checkBy, check, recordCheck}
 use Rattle.meaning.specs.Values.{valueWords}
-use Rattle.meaning.specs.Events.{attributesOf, identifiers, identifierOf, indexOf, seen, indexFor, eventFor, sound, gate, eventless, layoutFor, unmatched, judgeEvents, inspected, eventDepends, unasked, checkEvents, checkInspected, recordCheckEvents, readEvents, readEventsWords}
+use Rattle.meaning.specs.Events.{attributesOf, identifiers, identifierOf, indexOf, seen, indexFor, eventFor, hasEvent, sound, gate, eventless, layoutFor, unmatched, judgeEvents, inspected, eventDepends, unasked, checkEvents, checkInspected, recordCheckEvents, readEvents, readEventsWords}
 use Rattle.laws.specs.Bytes.{apart, and-true}
 use Rattle.laws.specs.Rows.{or-false, in-more, in-cond, first-in}
-use Rattle.laws.specs.Lookup.{index-is}
+use Rattle.laws.specs.Lookup.{index-most, index-in, index-is, identifiers-length}
 use Rattle.laws.specs.Matched.{judge-matched}
 use Rattle.laws.specs.Inspected.{inspected-is, inspected-most, asked-refused, asked-own}
 use Rattle.runs.specs.Cutting.{framed}
@@ -31,6 +31,7 @@ use Rattle.editions.specs.Outside.{outside-less, known-within}
 use Rattle.editions.specs.EventDrains.{one-event-alike}
 use Rattle.editions.specs.EventPromise.{EventWords}
 use Rattle.editions.specs.EventRecord.{event-in, event-fair}
+use Rattle.events.specs.Match.{matched-has}
 use Rattle.promises.specs.Checked.{recordRows, foremost, first-exactly, judge-rows}
 
 -- ---- the number inspected, of a record that is looked at
@@ -40,6 +41,17 @@ module _ (k : Known) (es : List Event) (r : List ℕ) where
   pub inspected-found : unmatched k es r ≡ 0 → inspected k es r ≡ indexFor es r + 1
   inspected-found h =
       inspected-is k es r ∙ ap (λ (n : ℕ). cond (eqb n 0) (indexFor es r + 1) (cond (eqb n 26) (length es) 0)) h
+
+  -- the entry inspected last is the one that matches; past the table's end nothing is inspected
+  pub found-identifier : unmatched k es r ≡ 0 → getD (identifiers es) (inspected k es r - 1) 0 ≡ identifierOf r
+  unfolding hasEvent
+  found-identifier h =
+      let w = and-true (leb 16 (length r)) (isIn (identifierOf r) (identifiers es)) (matched-has k es r h) in
+      let n : inspected k es r - 1 ≡ indexFor es r = omega (arith, inspected-found h) in
+      ap (λ (i : ℕ). getD (identifiers es) i 0) n ∙ index-is (identifierOf r) (identifiers es) (index-in (identifierOf r) (identifiers es) (w .1))
+
+  pub looked-within : indexFor es r ≤ length es
+  looked-within = subst (λ (n : ℕ). indexFor es r ≤ n) (identifiers-length es) (index-most (identifierOf r) (identifiers es))
 
   -- 26 is given for no other reason than the lookup's: an event's own checks do not give it
   none-26 : judgeEvents k es r ≡ 26 → unmatched k es r ≡ 26
