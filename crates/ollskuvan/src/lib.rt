@@ -21,15 +21,7 @@ ghost use Rattle.salvage.specs.Salvage.{salvageTold, salvageOut, salvageList};
 ghost use Rattle.writer.specs.Writer.{writeWordsAnswer, writeWordsBuffer};
 ghost use Rattle.given.specs.Given.{given};
 use compare::Compared;
-<<<<<<< HEAD
-use meaning::Drained;
 use meaning::Judged;
-use meaning::Walked;
-||||||| 533888a
-use meaning::Drained;
-use meaning::Walked;
-=======
->>>>>>> int
 use one::OneTold;
 use readers::Published;
 use readers::Readers;
