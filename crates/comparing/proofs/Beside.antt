@@ -1,34 +1,31 @@
 -- One walk over two records: an item whose bytes that are looked at are the same is read alike, then all of them, then the whole record. Assumes nothing.
 use mathlib.Core.Path.{_≡_, refl, sym, ap, ap₂, _∙_, subst}
 use mathlib.Core.Bool.{Bool, true, false, cond, _&&_}
-use mathlib.Core.List.{List, [], _∷_, map}
+use mathlib.Core.List.{List, [], _∷_}
 use mathlib.Core.Logic.{⊎-elim}
-use Prim.Native.Nat.{ℕ, suc, _+_, _-_, _%_, _<_, _≤_, min}
+use Prim.Native.Nat.{ℕ, suc, _+_, _-_, _<_, _≤_, min}
 use native.Mathlib.Nat.{add-zero}
 use native.Mathlib.Numerals.{add-one}
 use native.Mathlib.Omega.{arith}
 use lib.ListN.{length, take, drop, getD, length-take, length-drop}
-use lib.Seq.{slice, take-all, take-take, take-add, drop-drop, drop-at, length-take-le}
+use lib.Seq.{take-all, take-take, take-add, drop-drop, drop-at, length-take-le}
 use lib.Dec.{leb, ltb, eqb}
-use borrow.Author.Tests.{eq-eqb, eqb-true, eqb-false, ne-eqb, ltb-true, leb-true}
+use borrow.Author.Tests.{eq-eqb, eqb-true, eqb-false, ne-eqb, ltb-true}
 use Rattle.meaning.specs.declared.Attributes.{Attributes}
 use Rattle.meaning.specs.declared.Cursor.{Cursor}
 use Rattle.meaning.specs.declared.Item.{Item}
-use Rattle.meaning.specs.declared.Known.{Known}
 use Rattle.meaning.specs.declared.Shape.{Shape}
 use Rattle.meaning.specs.declared.Shape.the-variants.{Ignored, Listed, Pad, Name}
 use Rattle.meaning.specs.Bytes.{zeroIn}
 use Rattle.meaning.specs.Items.{Con, con, refuse, span, rule, holds, past, part, settle, shapeStep, step, walk, content, contents}
-use Rattle.meaning.specs.Writing.{dirty}
 use Rattle.meaning.specs.Schema.{schema, trailer}
-use Rattle.meaning.specs.Records.{layout, room, kindOf, miscOf, sizeOf, origin, fieldsOf, fieldsAnswer, bodyOf, tailOf, flagBy, flagOf, value}
-use Rattle.laws.specs.Bytes.{apart, and-true}
+use Rattle.meaning.specs.Records.{layout, room, kindOf, miscOf, origin, fieldsOf, fieldsAnswer, bodyOf, tailOf, flagBy, flagOf, value}
+use Rattle.laws.specs.Bytes.{apart}
 use Rattle.laws.specs.There.{item}
-use Rattle.laws.specs.Again.{fine, fine₁, stepped, Taken, taken, outcome}
+use Rattle.laws.specs.Again.{fine, stepped, Taken, taken, outcome}
 use Rattle.laws.specs.Answers.{fields-zero, fields-pass}
 use Rattle.laws.specs.Every.{trailer-fixed}
 use Rattle.laws.specs.Fixed.{fixed-run}
-use Rattle.table.specs.Rows.{rows, fieldRows, allRows, itemOf}
 use Rattle.record.specs.Into.{orDirty, recordFlag, nameDirty}
 use Rattle.extents.specs.Common.{common, common-most, common-take}
 use Rattle.comparing.specs.Twins.{Abreast, Read, Looked, Onward, Twins, Beside, Like}

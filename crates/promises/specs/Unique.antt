@@ -65,10 +65,13 @@ use Rattle.comparing.proofs as comparing
 use Rattle.compare.specs.declared.Compared.{Compared}
 use Rattle.compare.specs.Compared.{Side, sideOf, scratchThen}
 use Rattle.fast_drain.proofs as fast
+use Rattle.fast_event_drain.proofs as swift
+use Rattle.window.proofs as window
 use Rattle.replaying.proofs as replaying
 use Rattle.given.proofs as given
 use Rattle.fast_check.proofs as checks
 use Rattle.ollskuvan_loop.proofs as loop
+use Rattle.ollskuvan_table.proofs as tabled
 use Rattle.ollskuvan.proofs as ollskuvan
 use Rattle.writer_words.proofs as words
 use Rattle.writer_forms.proofs as forms
@@ -600,6 +603,24 @@ event-drain-journal κs a x y s t p q = same (p .1 .0) (q .1 .0)
 pub event-drain-scratch : Seen eventful.drain_events.Kinds.ps eventful.drain_events.Kinds.r eventful.drain_events.Reads.Learnt (λ κs x s. now (s .1 .1 .1 .1 .1 .1 .1 .0))
 event-drain-scratch κs a x y s t p q = same (p .1 .1) (q .1 .1)
 
+-- the same by slots
+pub fast-event-drain-told : Result swift.drain_events.Kinds.ps swift.drain_events.Kinds.r swift.drain_events.Reads.Learnt
+fast-event-drain-told κs a x y s t p q = same (p .0) (q .0)
+
+pub fast-event-drain-journal : Seen swift.drain_events.Kinds.ps swift.drain_events.Kinds.r swift.drain_events.Reads.Learnt (λ κs x s. now (s .1 .1 .1 .1 .1 .1 .1 .1 .0))
+fast-event-drain-journal κs a x y s t p q = same (p .1 .0) (q .1 .0)
+
+pub fast-event-drain-scratch : Seen swift.drain_events.Kinds.ps swift.drain_events.Kinds.r swift.drain_events.Reads.Learnt (λ κs x s. now (s .1 .1 .1 .1 .1 .1 .1 .0))
+fast-event-drain-scratch κs a x y s t p q = same (p .1 .1) (q .1 .1)
+
+-- the ring's bytes from a place on
+pub fast-ahead : Seen fast.ahead.Kinds.ps fast.ahead.Kinds.r fast.ahead.Reads.Learnt (λ κs x s. now x)
+fast-ahead κs a x y s t p q = same p q
+
+-- the entry of a record in a window
+pub window-enter-journal : Seen window.enter.Kinds.ps window.enter.Kinds.r window.enter.Reads.Learnt (λ κs x s. now (s .0))
+window-enter-journal κs a x y s t p q = same p q
+
 pub event-take-event-scratch : Seen eventful.take_event.Kinds.ps eventful.take_event.Kinds.r eventful.take_event.Reads.Learnt (λ κs x s. now (s .1 .1 .1 .1 .1 .0))
 event-take-event-scratch κs a x y s t p q = same (p .0) (q .0)
 
@@ -767,13 +788,13 @@ ollskuvan-read-one-scratch κs a x y s t p q = same (p .1 .0) (q .1 .0)
 pub ollskuvan-read-one-words : Seen ollskuvan.ollskuvan_read_one.Kinds.ps ollskuvan.ollskuvan_read_one.Kinds.r ollskuvan.ollskuvan_read_one.Reads.Learnt (λ κs x s. now (s .1 .1 .1 .1 .1 .1 .1 .1 .1 .1 .1 .0))
 ollskuvan-read-one-words κs a x y s t p q = same (p .1 .1) (q .1 .1)
 
-pub ollskuvan-drain-events : Result ollskuvan.ollskuvan_drain_events.Kinds.ps ollskuvan.ollskuvan_drain_events.Kinds.r ollskuvan.ollskuvan_drain_events.Reads.Learnt
+pub ollskuvan-drain-events : Result tabled.ollskuvan_drain_events.Kinds.ps tabled.ollskuvan_drain_events.Kinds.r tabled.ollskuvan_drain_events.Reads.Learnt
 ollskuvan-drain-events κs a x y s t p q = same (p .0) (q .0)
 
-pub ollskuvan-drain-events-journal : Seen ollskuvan.ollskuvan_drain_events.Kinds.ps ollskuvan.ollskuvan_drain_events.Kinds.r ollskuvan.ollskuvan_drain_events.Reads.Learnt (λ κs x s. now (s .1 .1 .1 .1 .1 .1 .1 .0))
+pub ollskuvan-drain-events-journal : Seen tabled.ollskuvan_drain_events.Kinds.ps tabled.ollskuvan_drain_events.Kinds.r tabled.ollskuvan_drain_events.Reads.Learnt (λ κs x s. now (s .1 .1 .1 .1 .1 .1 .1 .0))
 ollskuvan-drain-events-journal κs a x y s t p q = same (p .1 .0) (q .1 .0)
 
-pub ollskuvan-drain-events-scratch : Seen ollskuvan.ollskuvan_drain_events.Kinds.ps ollskuvan.ollskuvan_drain_events.Kinds.r ollskuvan.ollskuvan_drain_events.Reads.Learnt (λ κs x s. now (s .1 .1 .1 .1 .1 .1 .0))
+pub ollskuvan-drain-events-scratch : Seen tabled.ollskuvan_drain_events.Kinds.ps tabled.ollskuvan_drain_events.Kinds.r tabled.ollskuvan_drain_events.Reads.Learnt (λ κs x s. now (s .1 .1 .1 .1 .1 .1 .0))
 ollskuvan-drain-events-scratch κs a x y s t p q = same (p .1 .1) (q .1 .1)
 
 pub ollskuvan-compare : Result ollskuvan.ollskuvan_compare.Kinds.ps ollskuvan.ollskuvan_compare.Kinds.r ollskuvan.ollskuvan_compare.Reads.Learnt
@@ -831,13 +852,13 @@ ollskuvan-walk-back-journal κs a x y s t p q = same (p .1 .0) (q .1 .0)
 pub ollskuvan-walk-back-scratch : Seen loop.ollskuvan_walk_back.Kinds.ps loop.ollskuvan_walk_back.Kinds.r loop.ollskuvan_walk_back.Reads.Learnt (λ κs x s. now (s .1 .1 .1 .1 .1 .1 .1 .1 .1 .1 .0))
 ollskuvan-walk-back-scratch κs a x y s t p q = same (p .1 .1) (q .1 .1)
 
-pub ollskuvan-walk-back-events : Result ollskuvan.ollskuvan_walk_back_events.Kinds.ps ollskuvan.ollskuvan_walk_back_events.Kinds.r ollskuvan.ollskuvan_walk_back_events.Reads.Learnt
+pub ollskuvan-walk-back-events : Result tabled.ollskuvan_walk_back_events.Kinds.ps tabled.ollskuvan_walk_back_events.Kinds.r tabled.ollskuvan_walk_back_events.Reads.Learnt
 ollskuvan-walk-back-events κs a x y s t p q = same (p .0) (q .0)
 
-pub ollskuvan-walk-back-events-journal : Seen ollskuvan.ollskuvan_walk_back_events.Kinds.ps ollskuvan.ollskuvan_walk_back_events.Kinds.r ollskuvan.ollskuvan_walk_back_events.Reads.Learnt (λ κs x s. now (s .1 .1 .1 .1 .1 .1 .0))
+pub ollskuvan-walk-back-events-journal : Seen tabled.ollskuvan_walk_back_events.Kinds.ps tabled.ollskuvan_walk_back_events.Kinds.r tabled.ollskuvan_walk_back_events.Reads.Learnt (λ κs x s. now (s .1 .1 .1 .1 .1 .1 .0))
 ollskuvan-walk-back-events-journal κs a x y s t p q = same (p .1 .0) (q .1 .0)
 
-pub ollskuvan-walk-back-events-scratch : Seen ollskuvan.ollskuvan_walk_back_events.Kinds.ps ollskuvan.ollskuvan_walk_back_events.Kinds.r ollskuvan.ollskuvan_walk_back_events.Reads.Learnt (λ κs x s. now (s .1 .1 .1 .1 .1 .0))
+pub ollskuvan-walk-back-events-scratch : Seen tabled.ollskuvan_walk_back_events.Kinds.ps tabled.ollskuvan_walk_back_events.Kinds.r tabled.ollskuvan_walk_back_events.Reads.Learnt (λ κs x s. now (s .1 .1 .1 .1 .1 .0))
 ollskuvan-walk-back-events-scratch κs a x y s t p q = same (p .1 .1) (q .1 .1)
 
 pub ollskuvan-salvage : Result ollskuvan.ollskuvan_salvage.Kinds.ps ollskuvan.ollskuvan_salvage.Kinds.r ollskuvan.ollskuvan_salvage.Reads.Learnt

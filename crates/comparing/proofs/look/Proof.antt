@@ -1,5 +1,5 @@
 -- `comparing::look` meets its contract: equal bytes, or bytes that are the same but for ignored ones, have no field that differs; else the fields are looked at.
-use mathlib.Core.Path.{_≡_, sym, _∙_}
+use mathlib.Core.Path.{sym, _∙_}
 use denote.Ref.{now}
 use borrow.Author.Needs.{needs}
 use Rattle.meaning.specs.Editions.{editions, known}

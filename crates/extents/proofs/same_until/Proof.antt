@@ -1,5 +1,4 @@
 -- `extents::same_until` meets its contract: the bytes passed are equal; one that differs, or the end, is where the two have no more in common.
-use mathlib.Core.Path.{_≡_}
 use Prim.Native.Nat.{_-_}
 use native.Mathlib.Omega.{arith}
 use lib.ListN.{length}

@@ -1,6 +1,5 @@
 -- `comparing::twins::looked` meets its contract: by shape; any item is read alike where all of its bytes are the same.
-use mathlib.Core.Path.{_≡_, ap, _∙_}
-use Prim.Native.Nat.{ℕ, _-_}
+use Prim.Native.Nat.{_-_}
 use native.Mathlib.Omega.{arith}
 use denote.Ref.{now}
 use borrow.Author.Needs.{needs}

@@ -1,6 +1,5 @@
 -- `comparing::twins::pass` meets its contract: the bytes that are looked at are the same, so the item is read alike; what differs behind it is looked for anew.
-use mathlib.Core.Path.{_≡_, sym, ap, _∙_}
-use Prim.Native.Nat.{ℕ, _≤_}
+use Prim.Native.Nat.{_≤_}
 use native.Mathlib.Omega.{arith}
 use lib.ListN.{length}
 use denote.Ref.{now}

@@ -1,10 +1,10 @@
 -- `comparing::twins::record_alike` meets its contract: the body is read alike, so the record is accepted; then its trailer, and the flags are the same.
 use mathlib.Core.Path.{_≡_, refl, sym, ap, ap₂, _∙_, subst}
-use mathlib.Core.List.{List, map}
+use mathlib.Core.List.{List}
 use Prim.Native.Nat.{ℕ, _+_, _-_, _%_, _≤_}
 use native.Mathlib.Omega.{arith}
 use lib.ListN.{length, take}
-use lib.Seq.{slice, length-take-le}
+use lib.Seq.{length-take-le}
 use lib.Dec.{eqb}
 use denote.Ref.{now}
 use borrow.Author.Needs.{needs}
@@ -14,7 +14,6 @@ use Rattle.meaning.specs.Items.{walk}
 use Rattle.meaning.specs.Schema.{schema, trailer}
 use Rattle.meaning.specs.Records.{room, origin}
 use Rattle.laws.specs.Bytes.{apart}
-use Rattle.table.specs.Rows.{rows, itemOf, fieldRows, allRows}
 use Rattle.table.specs.Same.{trailer-rows}
 use Rattle.comparing.specs.Twins.{Twins}
 use Rattle.comparing.proofs.Beside.{room-there, body-fine, body-long, trailer-fine, y-fine, like-is}

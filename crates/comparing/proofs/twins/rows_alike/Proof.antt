@@ -1,9 +1,9 @@
 -- `comparing::twins::rows_alike` meets its contract: what is still to come decides; no byte that differs, or no row, and all items are read alike.
 use mathlib.Core.Path.{_≡_, sym, ap, _∙_, subst}
-use mathlib.Core.List.{List, [], _∷_, map}
-use Prim.Native.Nat.{ℕ, _+_, _-_, _<_, _≤_}
+use mathlib.Core.List.{List, [], map}
+use Prim.Native.Nat.{ℕ, _+_, _-_, _≤_}
 use native.Mathlib.Omega.{arith}
-use lib.ListN.{length, getD}
+use lib.ListN.{getD}
 use lib.Seq.{slice}
 use denote.Ref.{now}
 use borrow.Author.Needs.{needs}
@@ -13,7 +13,7 @@ use Rattle.meaning.specs.declared.Item.{Item}
 use Rattle.meaning.specs.Items.{step, walk}
 use Rattle.meaning.specs.Records.{origin}
 use Rattle.laws.specs.Bytes.{apart}
-use Rattle.table.specs.Rows.{rows, itemOf, allRows}
+use Rattle.table.specs.Rows.{rows, itemOf}
 use Rattle.table.specs.Turns.{rows-next, rows-over, walk-next}
 use Rattle.compare.specs.Inner.{step-fine}
 use Rattle.comparing.specs.Twins.{Abreast, Onward, Twins}
