@@ -34,7 +34,7 @@ static uint32_t entries(const uint8_t *store, size_t length, size_t *events, siz
     uint32_t kind = entry(store, length, 0);
     if (kind != 1)
         return kind == 0 ? 51 : 52;
-    if (load16(store + HEAD) - 1 > 1)
+    if (load16(store + HEAD) - 1u > 1)
         return 50;
     const size_t row = load16(store + HEAD) == 1 ? OLD_ROW : ROW;
     while ((kind = entry(store + at, length - at, row)) == 2) {
