@@ -18,8 +18,9 @@
  * keep a tail each, and ollskuvan_publish tells which one the kernel gets.
  *
  * Stack: no call needs more than 2,560 bytes, but for ollskuvan_read_store, which
- * needs up to 16,640: its return address and what it calls included (measured on a
- * painted stack). Besides its own code a call needs the C library's memcpy and
+ * needs up to 16,640, and ollskuvan_drain_events and ollskuvan_walk_back_events,
+ * which need up to 12,288: a call's return address and what it calls included
+ * (measured on a painted stack). Besides its own code a call needs the C library's memcpy and
  * memset alone. No function calls itself, so no input makes it more.
  *
  * What the caller owes:
