@@ -79,7 +79,6 @@ live_teeth() {
 s/PERF_EVENT_IOC_SET_OUTPUT, r->fds\[0\]\) != 0/PERF_EVENT_IOC_RESET, 0) != 0/
 s/PERF_EVENT_IOC_ID, &r->table\[i\]\.identifier\)/PERF_EVENT_IOC_RESET, 0)/
 s/\.sample_id_all = 1, \.disabled = 1/.disabled = 1/
-s/\.write_backward = backward,/.write_backward = backward \&\& 0,/
 PLANTS
 }
 teeth() {
