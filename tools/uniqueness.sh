@@ -38,7 +38,7 @@ theorems() { # CALL
 
 for lib in crates/*/src/lib.rt; do
   crate=$(basename "$(dirname "$(dirname "$lib")")")
-  alias=$(sed -n "s/^use Rattle\.$crate\.proofs as \([a-z_]*\)$/\1/p" "$unique")
+  alias=$(sed -n "s/^use Rattle\.$crate\.proofs as \([a-z_-]*\)$/\1/p" "$unique")
   while read -r path gives; do
     [ "$path" = nothing ] && continue # a crate has a function; this one says nothing
     name=$crate::${path//./::}
