@@ -7,7 +7,7 @@
  *   bench time [ROUNDS]            the three workloads, interleaved
  *   bench sizes [ROUNDS]           the cost of a record in rings of 64 bytes to 1 MiB
  *   bench values [ROUNDS]          the cost of ollskuvan_read and ollskuvan_write
- *   bench mixes [ROUNDS]           rings of 1, 11 and 32 events with their table
+ *   bench mixes [ROUNDS]           rings of 1 to 1,024 events with their table; and drains of one record and of none
  *   bench kinds [DRAIN]            every kind of ring: that the drains agree; with a name, two drains of each for callgrind
  *   bench table-kinds [DRAIN]      the same with a table of events
  *   bench stores [STORES [SEED]]   careful C and ours on the same stores of settings, sound and damaged
@@ -23,7 +23,7 @@
  *   bench rings-once WHAT NUMBER   rings of a workload, alike but for ignored bytes, for callgrind: compare, read or drain
  *   bench salvage-once WHOSE STREAM   one salvage, for callgrind; prints the stream's words of 8 bytes
  *   bench check WHOSE NUMBER       record check of each record of a workload, for callgrind: careful or ours
- *   bench once DRAIN WORKLOAD [BUDGET]   one drain, for callgrind; prints the number of records
+ *   bench once DRAIN WORKLOAD [BUDGET]   one drain, for callgrind; prints the number of records; 0: of an empty ring
  *   bench list                     the names that `once` takes
  */
 #include "bench.h"
@@ -135,8 +135,9 @@ static int run_once(const char *drain, const char *workload, uint64_t budget)
         free(ring.bytes);
         return 2;
     }
-    if (budget != 0)
-        ring.budget = budget;
+    if (budget == 0)
+        ring.tail = ring.head;
+    ring.budget = budget;
     uint8_t *scratch = grab(ring.scratch_length), *journal = grab(ring.journal_length);
     struct ollskuvan_drained done =
         mixed ? run_events(found->events, &ring, scratch, journal) : run_drain(found->drain, &ring, scratch, journal);
@@ -200,7 +201,7 @@ int main(int argc, char **argv)
     if (strcmp(mode, "salvage-once") == 0 && (argc == 4 || argc == 5))
         return run_salvages(argv[2], argv[3], argc > 4 ? number(argv[4], 1, 1000) : 1);
     if (strcmp(mode, "once") == 0 && (argc == 4 || argc == 5))
-        return run_once(argv[2], argv[3], argc > 4 ? number(argv[4], 1, UINT64_MAX) : 0);
+        return run_once(argv[2], argv[3], argc > 4 ? number(argv[4], 0, UINT64_MAX) : UINT64_MAX);
     if (strcmp(mode, "check") == 0 && argc == 4)
         return run_checks(argv[2], (enum made_workload)number(argv[3], 0, MADE_WORKLOADS - 1));
     if (strcmp(mode, "kinds") == 0 && argc <= 3)

@@ -492,12 +492,17 @@ static bool has_event(const struct made_ring *ring, uint64_t identifier)
 
 static void some_events(struct made_random *r, struct made_ring *ring, struct made_attributes *attributes)
 {
-    size_t count = one_in(r, 8) ? OLLSKUVAN_EVENTS_MAX : 1 + made_below(r, one_in(r, 4) ? 31 : 5);
+    size_t count = one_in(r, 8) ? 32 : 1 + made_below(r, one_in(r, 4) ? 31 : 5);
+    if (one_in(r, 20)) /* long ones, the longest often */
+        count = one_in(r, 2) ? OLLSKUVAN_EVENTS_MAX : 33 + made_below(r, OLLSKUVAN_EVENTS_MAX - 33);
+    const bool alike = count > 32 && !one_in(r, 3);
     ring->event_count = 0;
     while (ring->event_count < count) {
         struct made_attributes *a = &attributes[ring->event_count];
-        uint64_t identifier = some_identifier(r);
+        uint64_t identifier = count > 60 && !one_in(r, 8) ? made_next(r) : some_identifier(r);
         some_attributes(r, ring->edition, a);
+        if (alike && ring->event_count > 3 && !one_in(r, 50)) /* few sets of attributes; else as many as events */
+            *a = attributes[made_below(r, ring->event_count)];
         a->sample_type |= UINT64_C(1) << 16;
         a->sample_id_all = 1;
         if (has_event(ring, identifier))
@@ -576,7 +581,7 @@ static size_t event_record(struct made_random *r, const struct made_ring *ring, 
 void made_table_case(struct made_random *r, struct made_ring *ring)
 {
     uint8_t record[MADE_RECORD_MAX + 64];
-    struct made_attributes attributes[MADE_EVENTS_MAX];
+    static struct made_attributes attributes[MADE_EVENTS_MAX]; /* too long for a stack */
     ring->edition = one_in(r, 4) ? some_edition(r) : 2 + (uint32_t)made_below(r, 3);
     some_events(r, ring, attributes);
     ring->length = some_length(r);
@@ -717,10 +722,15 @@ void made_fill(enum made_workload which, size_t length, struct made_ring *ring)
 /* ---- workloads with a table ---- */
 
 const struct made_mix made_mixes[MADE_MIXES] = {
-    { "1 event", 1, 1 },
-    { "11 events", 11, 11 },
-    { "11 of 32 events", 32, 11 },
-    { "32 events", 32, 32 },
+    { "1 event", 1, 1, false },
+    { "11 events", 11, 11, false },
+    { "11 of 32 events", 32, 11, false },
+    { "32 events", 32, 32, false },
+    { "256 events", 256, 256, false },
+    { "1024 events", 1024, 1024, false },
+    { "32 shuffled", 32, 32, true },
+    { "256 shuffled", 256, 256, true },
+    { "1024 shuffled", 1024, 1024, true },
 };
 
 /* The attributes of the events in turn: the first is side_band's; the others sample. */
@@ -761,7 +771,7 @@ static size_t mix_record(struct made_random *r, const struct made_attributes *a,
 
 void made_table_fill(const struct made_mix *mix, size_t length, struct made_ring *ring)
 {
-    struct made_attributes attributes[OLLSKUVAN_EVENTS_MAX];
+    static struct made_attributes attributes[OLLSKUVAN_EVENTS_MAX];
     struct made_random r = { 40 + mix->busy };
     uint8_t record[MADE_RECORD_MAX];
     memset(ring->bytes, 0, length);
@@ -775,6 +785,12 @@ void made_table_fill(const struct made_mix *mix, size_t length, struct made_ring
     for (size_t i = 0; i < mix->events; i++) {
         mix_attributes(i, &attributes[i]);
         as_event(17 + i, &attributes[i], &ring->events[i]); /* a kernel counts them up */
+    }
+    for (size_t i = mix->events; mix->shuffled && i > 1; i--) { /* the records are those of the same rows */
+        size_t j = (size_t)made_below(&r, i);
+        uint64_t kept = ring->events[i - 1].identifier;
+        ring->events[i - 1].identifier = ring->events[j].identifier;
+        ring->events[j].identifier = kept;
     }
     size_t misses = 0, event = 0;
     for (uint64_t time = UINT64_C(90000000000); misses < 64; time += 1000 + made_below(&r, 5000)) {

@@ -5,6 +5,7 @@
 #ifndef BENCH_MADE_H
 #define BENCH_MADE_H
 
+#include <stdbool.h>
 #include <stddef.h>
 #include <stdint.h>
 
@@ -37,7 +38,7 @@ struct made_ring {
 };
 
 /* Above the greatest table, so that row 11 is met from above too. */
-#define MADE_EVENTS_MAX ((size_t)40)
+#define MADE_EVENTS_MAX ((size_t)OLLSKUVAN_EVENTS_MAX + 8)
 
 /* Above the greatest allowed length, so that row 1 is met from above too. */
 #define MADE_RING_MAX ((size_t)2097152)
@@ -74,12 +75,14 @@ extern const char *const made_workload_names[MADE_WORKLOADS];
 /* A full ring of this length. One record crosses the ring's end where that can be. */
 void made_fill(enum made_workload which, size_t length, struct made_ring *ring);
 
-/* Rings with a table, each of 1 MiB: so many events in it, so many of them with records. */
+/* Rings with a table, each of 1 MiB: so many events in it, so many of them with records; the identifiers rise from row to
+ * row, as a kernel hands them out, or are in no order. */
 struct made_mix {
     const char *name;
     size_t events, busy;
+    bool shuffled;
 };
-enum { MADE_MIXES = 4 };
+enum { MADE_MIXES = 9 };
 extern const struct made_mix made_mixes[MADE_MIXES];
 
 /* As a live board sends them: the first event tells of switches, names and mappings (a third of the records), the

@@ -120,7 +120,8 @@ instructions() { # [BUDGET]
   done
 }
 
-# instructions a record with a table of events, of both; and what the same ring costs where the table has events without records
+# instructions a record with a table of events, of both; and what the same ring costs where the table has events without
+# records. With a budget of 1 the whole call is told, with one of 0 a call on an empty ring
 tables() { # [BUDGET]
   local drain name mix log=$out/callgrind.log budget=${1:-}
   command -v valgrind >/dev/null || { echo "bench: tables skipped: valgrind is missing"; return 0; }
@@ -135,7 +136,7 @@ tables() { # [BUDGET]
     while read -r mix; do
       valgrind --tool=callgrind --toggle-collect="$name" --callgrind-out-file=/dev/null "$program" once "$drain" "$mix" $budget \
         >"$log" 2>&1 </dev/null || { cat "$log"; die "callgrind failed"; }
-      awk '/^records/ { n = $2 } /Collected/ { c = $NF } END { printf "%.1f\n", c / n }' "$log" | tee -a "$out/tables.$drain" |
+      awk '/^records/ { n = $2 } /Collected/ { c = $NF } END { printf "%.1f\n", (n > 0 ? c / n : c) }' "$log" | tee -a "$out/tables.$drain" |
         awk '{ printf "%18.1f", $1 }'
     done < <("$program" list | sed -n 's/^mix //p')
     printf '\n'
@@ -149,11 +150,11 @@ stores() {
   local whose call events log=$out/callgrind.log
   "$program" store-times $rounds || exit 1
   command -v valgrind >/dev/null || { echo "bench: instructions of stores skipped: valgrind is missing"; return 0; }
-  printf '\ninstructions of a store of 1, 11 and 32 events, by callgrind\n'
+  printf '\ninstructions of a store of 1, 11, 32, 256 and 1024 events, by callgrind\n'
   for call in read write; do
     for whose in careful ours; do
       printf '%-6s%-8s' "$call" "$whose"
-      for events in 1 11 32; do
+      for events in 1 11 32 256 1024; do
         valgrind --tool=callgrind --toggle-collect="$([ $whose = ours ] && echo ollskuvan || echo careful)_${call}_store" --callgrind-out-file=/dev/null \
           "$program" store "$whose" "$call" $events >"$log" 2>&1 </dev/null || { cat "$log"; die "callgrind failed"; }
         awk '/Collected/ { printf "%16d", $NF }' "$log"
@@ -313,7 +314,7 @@ case "$part" in
     case "$part" in all | values) "$program" values $rounds || exit 1 ;; esac
     case "$part" in all | instructions) instructions && instructions 1 && checks || exit 1 ;; esac
     case "$part" in all | stores) stores || exit 1 ;; esac
-    case "$part" in all | instructions | tables) tables && tables 1 && tables 32 || exit 1 ;; esac
+    case "$part" in all | instructions | tables) tables && tables 0 && tables 1 && tables 32 || exit 1 ;; esac
     case "$part" in all | instructions | walks) walks || exit 1 ;; esac
     case "$part" in all | kinds) kinds kinds || exit 1; echo; echo "with a table of eleven events"; kinds table-kinds || exit 1 ;; esac ;;
 esac

@@ -78,7 +78,7 @@ static void fill_headers(struct stream *s, bool known)
     for (size_t at = 0; at < s->length; at += 8)
         memcpy(s->bytes + at, &header, 8);
     s->edition = 4;
-    s->event_count = OLLSKUVAN_EVENTS_MAX;
+    s->event_count = 32;
     for (size_t i = 0; i < s->event_count; i++)
         s->events[i] = (struct ollskuvan_event){ .identifier = i + 1, .sample_type = UINT64_C(0x1ffd3cf) & ~UINT64_C(0x1002000),
             .user_mask = UINT64_MAX, .interrupt_mask = UINT64_MAX, .sample_id_all = 1 };

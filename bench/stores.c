@@ -11,7 +11,7 @@
 
 #include "bench.h"
 
-enum { ROWS = 40, ROOM = OLLSKUVAN_STORE_BYTES(ROWS) + 64, ANSWERS = 53, BEHIND = 32 };
+enum { ROWS = OLLSKUVAN_EVENTS_MAX + 6, ROOM = OLLSKUVAN_STORE_BYTES(ROWS) + 64, ANSWERS = 53, BEHIND = 32 };
 
 struct made_store {
     struct ollskuvan_event events[ROWS];
@@ -19,14 +19,17 @@ struct made_store {
     uint64_t ring_length;
     uint32_t edition, budget;
     uint8_t bytes[ROOM];
-    size_t length;
+    size_t length, row; /* row: bytes of an event, by the version */
 };
 
 static void made_settings(struct made_random *r, struct made_store *s)
 {
     bool odd = made_below(r, 4) == 0;
     memset(s, 0, sizeof *s);
-    s->count = made_below(r, 8) == 0 ? made_below(r, ROWS) : 1 + made_below(r, 4);
+    s->row = made_below(r, 2) ? 56 : 55;
+    s->count = made_below(r, 8) == 0 ? made_below(r, 40) : 1 + made_below(r, 4);
+    if (made_below(r, 40) == 0) /* about each limit, and what lies between */
+        s->count = made_below(r, 2) ? made_below(r, ROWS + 1) : ROWS - made_below(r, 9);
     for (size_t i = 0; i < s->count; i++) {
         uint64_t words[7];
         for (size_t k = 0; k < 7; k++)
@@ -45,12 +48,16 @@ static void made_settings(struct made_random *r, struct made_store *s)
 static void lay(struct made_store *s)
 {
     uint8_t *at = s->bytes;
-    memcpy(at, "\10\0\0\0\1\0\1\0", 8);
+    memcpy(at, "\10\0\0\0\1\0", 6);
+    at[6] = (uint8_t)(s->row - 54);
+    at[7] = 0;
     at += 8;
-    for (size_t i = 0; i < s->count; i++, at += 55) {
+    for (size_t i = 0; i < s->count; i++, at += s->row) {
+        const uint64_t index = i;
         memcpy(at, "\67\0\0\0\2\0", 6);
-        at[6] = (uint8_t)i;
-        memcpy(at + 7, &s->events[i], 48);
+        at[0] = (uint8_t)s->row;
+        memcpy(at + 6, &index, s->row - 54);
+        memcpy(at + s->row - 48, &s->events[i], 48);
     }
     memcpy(at, "\23\0\0\0\3\0", 6);
     memcpy(at + 6, &s->ring_length, 8);
@@ -61,7 +68,7 @@ static void lay(struct made_store *s)
 
 static void damage(struct made_random *r, struct made_store *s)
 {
-    size_t at = made_below(r, s->length), row = 8 + 55 * made_below(r, s->count + 1);
+    size_t at = made_below(r, s->length), row = 8 + s->row * made_below(r, s->count + 1);
     switch (made_below(r, 7)) {
     case 0:
         s->bytes[at] = (uint8_t)made_next(r);
@@ -73,7 +80,7 @@ static void damage(struct made_random *r, struct made_store *s)
         s->bytes[row + (made_below(r, 2) ? 0 : 4)] = (uint8_t)made_below(r, 60);
         break;
     case 3: /* the index */
-        s->bytes[row + 6] = (uint8_t)made_below(r, 40);
+        s->bytes[row + 6 + made_below(r, 2)] = (uint8_t)made_below(r, 40);
         break;
     case 4: /* something behind it */
         memcpy(s->bytes + s->length, s->bytes + (made_below(r, 2) ? 0 : s->length - 19), 19);
@@ -83,8 +90,8 @@ static void damage(struct made_random *r, struct made_store *s)
         s->bytes[made_below(r, 2) ? 6 : 7] = (uint8_t)made_below(r, 4);
         break;
     default: /* an event left out */
-        memmove(s->bytes + 8, s->bytes + 63, s->length > 63 ? s->length - 63 : 0);
-        s->length -= s->length > 63 ? 55 : 0;
+        memmove(s->bytes + 8, s->bytes + 8 + s->row, s->length > 8 + s->row ? s->length - 8 - s->row : 0);
+        s->length -= s->length > 8 + s->row ? s->row : 0;
         break;
     }
     if (s->length == 0)
@@ -172,12 +179,13 @@ int compare_stores(uint64_t stores, uint64_t seed)
 
 /* ---- what a call costs ---- */
 
-static const size_t sizes[] = { 1, 11, 32 };
-enum { SIZES = sizeof sizes / sizeof sizes[0], CALLS = 1000 };
+static const size_t sizes[] = { 1, 11, 32, 256, OLLSKUVAN_EVENTS_MAX };
+enum { SIZES = sizeof sizes / sizeof sizes[0], CALLS = 100 };
 
 static void fill(struct made_store *s, size_t count)
 {
     memset(s, 0, sizeof *s);
+    s->row = 56;
     s->count = count;
     for (size_t i = 0; i < count; i++)
         s->events[i] = (struct ollskuvan_event){ 1000 + i, OLLSKUVAN_BIT_IDENTIFIER | 0x86, 0, 0, 0, 0, 1 };
@@ -233,7 +241,7 @@ int time_stores(size_t rounds)
             }
             qsort(times, rounds, sizeof *times, by_size);
             qsort(ratios, rounds, sizeof *ratios, by_size);
-            printf("  %-5s %2zu events %10.1f %8.2f\n", reads ? "read" : "write", sizes[i], times[rounds / 2], ratios[rounds / 2]);
+            printf("  %-5s %4zu events %10.1f %8.2f\n", reads ? "read" : "write", sizes[i], times[rounds / 2], ratios[rounds / 2]);
         }
     free(times);
     free(ratios);

@@ -96,14 +96,24 @@ plant "no 27" 's/if (unlikely(size < 16))\n        return 27;/if (size < 16)\n  
 plant "a hint that is not looked at" 's/if (unlikely(t->events\[i\].identifier != identifier)) {/if (unlikely(i == 0)) {/' tables
 plant "the event after the one that matches" 's/    return &t->plans\[i\];/    return \&t->plans[i + 1 < t->count \&\& (t->made >> (i + 1) \& 1) ? i + 1 : i];/' tables
 plant "equal identifiers" 's/if (events\[j\].identifier == events\[i\].identifier)/if (0)/' tables
-plant "33 events" 's/count > OLLSKUVAN_EVENTS_MAX)/count > OLLSKUVAN_EVENTS_MAX + 1)/' tables
+plant "1,025 events" 's/count > OLLSKUVAN_EVENTS_MAX)/count > OLLSKUVAN_EVENTS_MAX + 1)/' tables
+plant "equal identifiers among many" 's/if (events\[t->slot\[at\] - 1\].identifier == events\[i\].identifier)/if (0)/' tables
+plant "a slot that is not looked at" 's/if (likely(t->events\[i - 1\].identifier == identifier)) {/if (1) {/' tables
+plant "a set by its sample type alone" 's/5 \* sizeof(uint64_t)/sizeof(uint64_t)/' tables
+plant "a plan that went is still used" 's/t->set_of\[j\] == k + 1 ? 0 : t->set_of\[j\]/t->set_of[j]/' tables
+plant "an event of many without bit 16" 's/\(static bool open_many.*\)!bit(events\[i\].sample_type, 16) || /\1/' tables
 plant "no event" 's/if (count < 1 || /if (/' tables
 plant "an event without bit 16" 's/!bit(events\[i\].sample_type, 16) || //' tables
 plant "sample_id_all narrowed" 's/events\[i\].sample_id_all == 0/(uint32_t)events[i].sample_id_all == 0/' tables
 plant "identifiers by their low halves" 's/t->events\[i\].identifier != identifier)\n        i++/(uint32_t)t->events[i].identifier != (uint32_t)identifier)\n        i++/' tables
 plant "the event's branch bits are not looked at" 's/v->branch_sample_type);/0);/' tables
 plant "an index that is not looked at" 's/!= count)/!= count \&\& 0)/' stores
-plant "a version that is not looked at" 's/!= 1)\n        return 50/!= 1 \&\& 0)\n        return 50/' stores
+plant "a version that is not looked at" 's/- 1 > 1)\n        return 50/- 1 > 2)\n        return 50/' stores
+plant "33 events in version 1" 's/OLLSKUVAN_STORE_OLD_EVENTS/OLLSKUVAN_EVENTS_MAX/' stores
+plant "an index of one byte in version 2" 's/row == ROW ? load16(store + at + HEAD) : store/store/' stores
+plant "a row of the other version" 's/row != 0 ? length == row : //' stores
+plant "equal identifiers among many of a store" 's/if (identifiers\[slot\[at\] - 1\] == identifiers\[i\])/if (0)/' stores
+plant "an index written in one byte" 's/at\[HEAD + 1\] = (uint8_t)(i >> 8)/at[HEAD + 1] = 0/' stores
 plant "edition 5 in a store" 's/store\[at + 14\] - 1u > 3/store[at + 14] - 1u > 4/' stores
 plant "52 for a first entry that is none" 's/kind == 0 ? 51 : 52;\n    if (load16/52;\n    if (load16/' stores
 plant "a row too few" 's/if (events_room < count)/if (events_room + 1 < count)/' stores

@@ -189,6 +189,42 @@ static void time_mix(const struct made_mix *mix, size_t rounds)
     free(ring.bytes);
 }
 
+/* What a drain costs before its records: ns of a call on an empty ring, and of one that takes one record. */
+static double time_calls(events_function *drain, const struct made_ring *ring, struct buffers *b)
+{
+    enum { CALLS = 20 };
+    run_events(drain, ring, b->scratch, b->journal);
+    uint64_t begin = thread_ns();
+    for (int i = 0; i < CALLS; i++)
+        run_events(drain, ring, b->scratch, b->journal);
+    return (double)(thread_ns() - begin) / CALLS;
+}
+
+static void time_fixed(const struct made_mix *mix, size_t rounds)
+{
+    struct made_ring ring = { .bytes = grab(MADE_RING_MAX), .events = grab(MADE_EVENTS_MAX * sizeof *ring.events) };
+    made_table_fill(mix, MIB, &ring);
+    struct buffers b = lend(&ring);
+    double *theirs = grab(rounds * sizeof *theirs), *mine = grab(rounds * sizeof *mine);
+    const uint64_t tail = ring.tail;
+    printf("  %-18s", mix->name);
+    for (int one = 0; one < 2; one++) {
+        ring.tail = one ? tail : ring.head;
+        ring.budget = 1;
+        for (size_t round = 0; round < rounds; round++) {
+            theirs[round] = time_calls(careful_drain_events, &ring, &b);
+            mine[round] = time_calls(ollskuvan_drain_events, &ring, &b);
+        }
+        printf(" %14.0f %14.0f", median(theirs, rounds), median(mine, rounds));
+    }
+    printf("\n");
+    free(theirs);
+    free(mine);
+    give_back(&b);
+    free(ring.events);
+    free(ring.bytes);
+}
+
 int time_tables(size_t rounds)
 {
     stay_on_one_cpu();
@@ -196,6 +232,10 @@ int time_tables(size_t rounds)
     printf("  %-18s %16s %11s %11s %8s %18s\n", "", "", "careful: ns", "ours: ns", "ratio", "(middle half)");
     for (unsigned which = 0; which < MADE_MIXES; which++)
         time_mix(&made_mixes[which], rounds);
+    printf("\nthe same tables, ns a call: a drain of an empty ring, and of one record\n");
+    printf("  %-18s %14s %14s %14s %14s\n", "", "careful: empty", "ours: empty", "careful: one", "ours: one");
+    for (unsigned which = 0; which < MADE_MIXES; which++)
+        time_fixed(&made_mixes[which], rounds);
     return 0;
 }
 

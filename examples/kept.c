@@ -25,7 +25,7 @@ static void wanted_table(const struct live_want *want, struct event_table *table
 
 void kept_settings(const struct live_want *want, uint64_t budget, struct settings *settings)
 {
-    struct event_table table;
+    static struct event_table table; /* too long for a stack */
     wanted_table(want, &table);
     memset(settings, 0, sizeof *settings);
     memcpy(settings->events, table.events, table.count * sizeof table.events[0]);
@@ -39,7 +39,7 @@ void kept_settings(const struct live_want *want, uint64_t budget, struct setting
 static bool start_events(const struct settings *settings, struct live_want *want, char why[WHY_ROOM])
 {
     const struct ollskuvan_event *first = &settings->events[0];
-    struct event_table table;
+    static struct event_table table;
     bool branches = (first->sample_type & OLLSKUVAN_BIT_BRANCHES) != 0;
     want->branch = branches ? first->branch_sample_type : 0;
     want->clock = !branches && (first->sample_type & OLLSKUVAN_BIT_PERIOD) != 0;

@@ -413,7 +413,7 @@ cmp -s "$kept" "$kept.first" || wrong "settings that the kernel does not open ar
 grep -q "^kept in $kept: 3 events, .*, edition 3, a budget of 6\$" "$work/kept3.txt" || wrong "what is given at a start is not kept, or the rest is lost"
 head -c 100 "$kept" >"$kept.cut" && cp "$kept.cut" "$kept.before"
 "$programs/controller" --seconds 0.1 --settings "$kept.cut" >/dev/null 2>"$work/kept.err" && wrong "controller starts from a store that is cut short"
-grep -q 'refused with 51 at byte 63' "$work/kept.err" || wrong "a store that is cut short: $(cat "$work/kept.err")"
+grep -q 'refused with 51 at byte 64' "$work/kept.err" || wrong "a store that is cut short: $(cat "$work/kept.err")"
 cmp -s "$kept.cut" "$kept.before" || wrong "controller writes over a store that it cannot read"
 
 # ---- flight recorders: rings that run over themselves until they are paused

@@ -82,7 +82,7 @@ static int tell_names(struct story *story, const char *path)
 static int tell_image(struct story *story, const char *path)
 {
     struct ring_image image;
-    struct event_table table;
+    static struct event_table table; /* too long for a stack */
     char why[WHY_ROOM];
     if (!event_table_load(&table, path, why) || !ring_image_load(path, &image, why)) {
         complain("%s: %s", path, why);

@@ -25,7 +25,8 @@ static const struct version {
     size_t index; /* bytes of an event's index */
     size_t most;  /* events */
 } versions[] = {
-    { 1, 1, 32 },
+    { OLLSKUVAN_STORE_OLD_VERSION, 1, OLLSKUVAN_STORE_OLD_EVENTS },
+    { OLLSKUVAN_STORE_VERSION, 2, OLLSKUVAN_EVENTS_MAX },
 };
 enum { VERSIONS = sizeof versions / sizeof versions[0], WORDS_STORED = 6 };
 

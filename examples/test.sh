@@ -131,8 +131,8 @@ told too-great 1 'no table of events: line 3'
 alter eventless '2,$d'
 told eventless 1 'no table of events'
 alter many '2,$d'
-seq 1 33 | sed 's/$/ 0x10000 0 0 0 0 1/' >>"$out/many.table"
-told many 1 'line 34 has one more event than a table may have'
+seq 1 1025 | sed 's/$/ 0x10000 0 0 0 0 1/' >>"$out/many.table"
+told many 1 'line 1026 has one more event than a table may have'
 
 # ---- scenes: rings that are made of what is written down
 tell() { sed -n "s/^# $2: //p" "examples/scenes/$1.txt"; }

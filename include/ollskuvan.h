@@ -17,10 +17,11 @@
  * that drain a ring from one tail take the same records; two readers of one ring
  * keep a tail each, and ollskuvan_publish tells which one the kernel gets.
  *
- * Stack: no call needs more than 2,560 bytes, but for ollskuvan_read_store, which
- * needs up to 16,640, and ollskuvan_drain_events and ollskuvan_walk_back_events,
- * which need up to 12,288: a call's return address and what it calls included
- * (measured on a painted stack). Besides its own code a call needs the C library's memcpy and
+ * Stack: a call that is lent no table of events and no store needs at most 2,560
+ * bytes, any other at most 11,264, but for ollskuvan_read_store (16,640), and
+ * ollskuvan_drain_events and ollskuvan_walk_back_events (163,840, whatever the
+ * table's length): a call's return address and what it calls included (measured on
+ * a painted stack). Besides its own code a call needs the C library's memcpy and
  * memset alone. No function calls itself, so no input makes it more.
  *
  * What the caller owes:
@@ -89,19 +90,22 @@ extern "C" {
 #define OLLSKUVAN_RECORD_MAX 65528u
 
 /* The most events of a table; the fewest is 1. */
-#define OLLSKUVAN_EVENTS_MAX 32u
+#define OLLSKUVAN_EVENTS_MAX 1024u
 
 /* The store of settings (ollskuvan_write_store): the version that is written, the
- * kinds of its entries, and the bytes that a store of so many events takes, by
- * version: 8 for the version, 55 an event, 19 for the rest. Version 1 holds 1 to 32
- * events. OLLSKUVAN_STORE_BYTES is for the version that is written: a buffer of so
- * many bytes is long enough. */
-#define OLLSKUVAN_STORE_VERSION 1u
+ * one before it, which is read too, the most events that one has, the kinds of the
+ * entries, and the bytes that a store of so many events takes, by version: 8 for
+ * the version, 55 or 56 an event, 19 for the rest. OLLSKUVAN_STORE_BYTES is for the
+ * version that is written: a buffer of so many bytes is long enough. */
+#define OLLSKUVAN_STORE_VERSION 2u   /* an index of two bytes; 1 to OLLSKUVAN_EVENTS_MAX events */
+#define OLLSKUVAN_STORE_OLD_VERSION 1u /* an index of one byte; 1 to OLLSKUVAN_STORE_OLD_EVENTS events */
+#define OLLSKUVAN_STORE_OLD_EVENTS 32u
 #define OLLSKUVAN_KIND_VERSION 1u /* the first entry: the store's version */
 #define OLLSKUVAN_KIND_EVENT 2u   /* an event: its index, identifier and attributes */
 #define OLLSKUVAN_KIND_RING 3u    /* the last entry: ring length, edition, budget */
 #define OLLSKUVAN_STORE_BYTES_1(events) (27u + 55u * (events))
-#define OLLSKUVAN_STORE_BYTES(events) OLLSKUVAN_STORE_BYTES_1(events)
+#define OLLSKUVAN_STORE_BYTES_2(events) (27u + 56u * (events))
+#define OLLSKUVAN_STORE_BYTES(events) OLLSKUVAN_STORE_BYTES_2(events)
 
 /* The bytes of one journal entry. */
 #define OLLSKUVAN_JOURNAL_ENTRY 16u
@@ -157,7 +161,7 @@ extern "C" {
 #define OLLSKUVAN_REFUSED_EDITION 2u /* check, read, write, write_store: the edition is not 1, 2, 3 or 4 */
 #define OLLSKUVAN_REFUSED_SIZE 6u    /* check, read: as OLLSKUVAN_STOP_SIZE */
 #define OLLSKUVAN_REFUSED_LENGTH 7u  /* check, read: the slice is shorter than 8 bytes, or the size is not its length */
-#define OLLSKUVAN_REFUSED_TABLE 11u  /* read_store, write_store: the table of events is not allowed */
+#define OLLSKUVAN_REFUSED_TABLE 11u  /* check_events, read_events, read_store, write_store: the table of events is not allowed */
 
 /* Name copy alone: the name and one zero do not fit the buffer. */
 #define OLLSKUVAN_REFUSED_NAME_ROOM 12u
@@ -186,7 +190,7 @@ extern "C" {
 #define OLLSKUVAN_REFUSED_DIRTY_VALUE 43u /* write: the value has a name's flag set: its word is not 0 */
 /* Record check alone, in place of 0: the record is sound, and its name has stale
  * bytes. Every other call takes it as accepted. */
-#define OLLSKUVAN_DIRTY_NAME 44u /* check: a byte after the name's zero, within its room, is not zero */
+#define OLLSKUVAN_DIRTY_NAME 44u /* check, check_events: a byte after the name's zero, within its room, is not zero */
 
 /* Refusals of a store (ollskuvan_read_store), at its first faulty entry, tested
  * there in this order; and of a trace's entry (ollskuvan_replay), at which the
@@ -599,7 +603,9 @@ struct ollskuvan_drained ollskuvan_drain(const uint8_t *ring, size_t ring_len, u
  * A table is a lent slice of 1 to OLLSKUVAN_EVENTS_MAX events, aligned to 8
  * bytes. It is refused with 11 if it has none or more, if two identifiers are
  * equal (0 is an identifier too), or if an event lacks sample bit 16
- * (OLLSKUVAN_BIT_IDENTIFIER) or sample_id_all; nothing else is asked of it.
+ * (OLLSKUVAN_BIT_IDENTIFIER) or sample_id_all; nothing else is asked of it. This is
+ * asked once a call, and is cheap where the identifiers rise, as a kernel hands
+ * them out: a table in that order is the one to lend.
  *
  * Do not put the same software counter into one table twice. Where two events
  * of one ring share a software counter, a kernel hands one sample buffer to
@@ -653,6 +659,29 @@ uint32_t ollskuvan_check(const uint8_t *record, size_t record_len, uint64_t samp
     uint32_t sample_id_all, uint64_t user_mask, uint64_t interrupt_mask, uint64_t branch_sample_type,
     uint32_t edition);
 
+struct ollskuvan_judged {
+    uint32_t answer;    /* 0: accepted; or the refusal; or 44 */
+    uint32_t inspected; /* how many events were looked at until one matched */
+};
+
+/*
+ * ollskuvan_check_events is ollskuvan_check with a table of events. The answer, in
+ * this order: 2; 11 if the table is not allowed; 7 if the slice is shorter than 8
+ * bytes; 6; 7 if the record's size is not the slice's length; then as
+ * ollskuvan_drain_events answers a record: 20; 21 in edition 1; 27; 26; 21 to 25,
+ * 30 to 33 by the attributes of its event; 44 if the record has a name whose flag
+ * is set; otherwise 0.
+ *
+ * inspected: the events of the table are looked at from index 0 upward until one
+ * has the record's identifier. It is that event's index plus one, also where the
+ * event's own rules refuse the record; event_count for 26; and 0 where nothing is
+ * looked up: 2, 11, 6, 7, 20, edition 1's 21, 27. So an event was found exactly
+ * where inspected is not 0 and the answer is not 26, and it is then
+ * events[inspected - 1]. The number is what is promised, and not how it is found.
+ */
+struct ollskuvan_judged ollskuvan_check_events(const uint8_t *record, size_t record_len,
+    const struct ollskuvan_event *events, size_t event_count, uint32_t edition);
+
 /*
  * ollskuvan_misc_meaning tells what a record's misc means, by its type: the CPU
  * mode in the low three bits, and OLLSKUVAN_MEANS_... for bits 13 and 14. The
@@ -683,6 +712,17 @@ uint32_t ollskuvan_read(const uint8_t *record, size_t record_len, uint64_t sampl
     uint32_t sample_id_all, uint64_t user_mask, uint64_t interrupt_mask, uint64_t branch_sample_type,
     uint32_t edition, uint64_t *fields, size_t fields_len);
 
+/*
+ * ollskuvan_read_events is ollskuvan_read with a table of events. It answers as
+ * ollskuvan_check_events does, but for 44, where it says 0 (and the flag's word is
+ * 1); where that is 0, it is 40 if fields_len is below OLLSKUVAN_FIELDS. inspected
+ * is as there; with 40 it is the event's index plus one. Refused: the words are
+ * unchanged. Accepted (0): words 0 to OLLSKUVAN_FIELDS - 1 are the value, with the
+ * words that the record's event selects, and further words are unchanged.
+ */
+struct ollskuvan_judged ollskuvan_read_events(const uint8_t *record, size_t record_len,
+    const struct ollskuvan_event *events, size_t event_count, uint32_t edition, uint64_t *fields, size_t fields_len);
+
 struct ollskuvan_one {
     uint64_t place;      /* where the record begins, in the ring or in the scratch */
     uint64_t size;       /* its bytes; 0: no record was taken, and stop says why */
@@ -690,7 +730,7 @@ struct ollskuvan_one {
     uint32_t in_scratch; /* 1: the record lies in the scratch, 0: in the ring */
     uint32_t stop;       /* why no record was taken: OLLSKUVAN_STOP_... */
     uint32_t answer;     /* 0: accepted; or the refusal */
-    uint32_t inspected;  /* 0 */
+    uint32_t inspected;  /* with a table: as ollskuvan_check_events tells it; else 0 */
 };
 
 /*
@@ -716,7 +756,7 @@ struct ollskuvan_one {
  * words 0 to OLLSKUVAN_FIELDS - 1 are the value, further words are unchanged.
  * Refused, 40 too: the words are unchanged.
  *
- * inspected is 0. It is kept for a later version.
+ * inspected is 0: there is no table.
  */
 struct ollskuvan_one ollskuvan_read_one(const uint8_t *ring, size_t ring_len, uint64_t head, uint64_t tail,
     uint64_t sample_type, uint64_t read_format, uint32_t sample_id_all, uint64_t user_mask, uint64_t interrupt_mask,
@@ -727,9 +767,12 @@ struct ollskuvan_one ollskuvan_read_one(const uint8_t *ring, size_t ring_len, ui
  * ollskuvan_read_one_events is ollskuvan_read_one with a table of events: it
  * gives the record of an entry of ollskuvan_drain_events. Its stops are 1, 2, 4,
  * 5, 11, 0, 6, 7, 3; answer is that of ollskuvan_drain_events, then 40. The
- * value has the words that the record's event selects; ollskuvan_find_event
- * tells the event by word OLLSKUVAN_SAMPLE_IDENTIFIER of a SAMPLE, and
- * OLLSKUVAN_TRAILER_IDENTIFIER of any other record.
+ * value has the words that the record's event selects.
+ *
+ * inspected is that of ollskuvan_check_events for this record: the index of its
+ * event plus one, with 40 too; event_count for 26; 0 for 20, edition 1's 21 and 27,
+ * and for every stop. So the event of an accepted record is
+ * events[one.inspected - 1].
  */
 struct ollskuvan_one ollskuvan_read_one_events(const uint8_t *ring, size_t ring_len, uint64_t head, uint64_t tail,
     const struct ollskuvan_event *events, size_t event_count, uint32_t edition, uint8_t *scratch, size_t scratch_len,
@@ -799,10 +842,13 @@ struct ollskuvan_published ollskuvan_publish(uint64_t ring_length, uint64_t head
  * A store is entries end to end, without a gap. An entry is a length of 4 bytes
  * that covers itself, a kind of 2 bytes, then the body. Little-endian:
  *
- *     kind 1, length 8      the store's version, 2 bytes: 1
- *     kind 2, length 55     for each event its index in one byte, from 0 upward, then identifier, sample type,
+ *     kind 1, length 8      the store's version, 2 bytes: 2
+ *     kind 2, length 56     for each event its index in two bytes, from 0 upward, then identifier, sample type,
  *                           read format, user mask, interrupt mask and branch sample type, 8 bytes each
  *     kind 3, length 19     ring length (8 bytes), edition (1), budget (4)
+ *
+ * A store of version 1 shows 1, has an index of one byte, so that kind 2 has length
+ * 55, and 1 to 32 events. It is read as it ever was, and no longer written.
  *
  * sample_id_all is not stored, since every event of a table has it. Identifiers
  * are stored as they are given; mind that a kernel hands out new ones to events
@@ -822,18 +868,19 @@ struct ollskuvan_settings {
  * ollskuvan_read_store reads a store, which is the whole slice. In this order,
  * at the first entry that is faulty:
  *   50 if it is the store's first, has length 8 and kind 1, and shows a version
- *      that is not 1;
+ *      that is neither 1 nor 2;
  *   51 if it is cut short (fewer than 4 bytes are left, or fewer than its length
  *      says), its length is below 6, its kind is not 1, 2 or 3, or its length is
- *      not that of its kind. A store that ends before kind 3, the empty one too,
- *      is 51;
+ *      not that of its kind in this version (at the store's start: in any version).
+ *      A store that ends before kind 3, the empty one too, is 51;
  *   52 otherwise: the first entry is of kind 2 or 3, or a later one of kind 1; an
- *      index is not the number of events before it (so that a 257th event is 52);
+ *      index is not the number of events before it (so that the 257th event of
+ *      version 1 is 52, and the 65,537th of version 2);
  *      a ring length or an edition is not allowed; something follows kind 3 (51, if
  *      it is no entry that fits a known kind).
  * Where no entry is faulty:
- *   11 if there is no event or more than 32, two identifiers are equal, or an
- *      event lacks sample bit 16;
+ *   11 if there is no event or more than 1,024 (version 1: 32), two identifiers are
+ *      equal, or an event lacks sample bit 16;
  *   40 if events_room is below the number of events;
  *   otherwise 0.
  * Refused: the lent table is unchanged. Accepted: its first rows are the events,
@@ -861,7 +908,8 @@ struct ollskuvan_stored {
  * Refused: the buffer is unchanged. Accepted: it begins with the store, its other
  * bytes are unchanged. What is written reads back as the same settings, with
  * sample_id_all 1. A store that reads is the only one of its version that reads
- * as its settings: written again, it has the same bytes.
+ * as its settings: one of version 2, written again, has the same bytes. Version 2
+ * is what is written; a build that knows version 1 alone answers 50 to it.
  */
 struct ollskuvan_stored ollskuvan_write_store(const struct ollskuvan_event *events, size_t event_count,
     uint64_t ring_length, uint32_t edition, uint32_t budget, uint8_t *buffer, size_t buffer_len);
@@ -905,7 +953,7 @@ struct ollskuvan_replayed {
  * At the first faulty entry the replay ends with all as it stood before it:
  *   51: it is cut short, its length is below 6, or it fits no known kind;
  *   52: it is one of a store of settings (kind 1 of length 8, kind 2 of length
- *     55, kind 3 of length 19), which have no place in a trace;
+ *     55 or 56, kind 3 of length 19), which have no place in a trace;
  *   53: it offers fewer than 8 bytes, or a record whose size is below 8, no
  *     multiple of 8, or not the length of what is offered.
  *

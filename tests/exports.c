@@ -827,18 +827,21 @@ static void is_stop(int line, struct ollskuvan_one one, uint32_t stop, uint64_t 
     is(line, "words and scratch kept", words_kept(0) && untouched(one_scratch, 32), 1);
 }
 
-static void is_taken(int line, struct ollskuvan_one one, uint64_t place, uint64_t tail, uint32_t answer)
+static void is_taken(int line, struct ollskuvan_one one, uint64_t place, uint64_t tail, uint32_t answer, uint32_t inspected)
 {
     is(line, "place", one.place, place);
     is(line, "size", one.size, 24);
     is(line, "tail", one.tail, tail);
     is(line, "answer", one.answer, answer);
-    is(line, "stop and inspected", one.stop | one.inspected, 0);
+    is(line, "stop", one.stop, 0);
+    is(line, "inspected", one.inspected, inspected);
     is(line, "words kept", words_kept(answer ? 0 : OLLSKUVAN_FIELDS), 1);
 }
 
 #define STOPS(one, stop, tail) is_stop(__LINE__, one, stop, tail)
-#define TAKES(one, place, tail, answer) is_taken(__LINE__, one, place, tail, answer)
+#define TAKES(one, place, tail, answer) is_taken(__LINE__, one, place, tail, answer, 0)
+/* with a table: how many of its events were inspected */
+#define TAKES_BY(one, place, tail, answer, inspected) is_taken(__LINE__, one, place, tail, answer, inspected)
 
 static void test_read_one(void)
 {
@@ -952,18 +955,21 @@ static void test_read_one_events(void)
     put16(one_ring + 30, 24);
 
     /* each with its own event's words; 26 and 27 come before 40, and the tail moves all the same */
-    TAKES(read_one_events(64, 0, two, 2, 3, 0, 56), 0, 24, OLLSKUVAN_OK);
+    TAKES_BY(read_one_events(64, 0, two, 2, 3, 0, 56), 0, 24, OLLSKUVAN_OK, 1);
     IS(one_words[OLLSKUVAN_TRAILER_IDENTIFIER], 5);
     IS(one_words[OLLSKUVAN_TRAILER_TIME], 0);
     put16(one_ring + 40, 77);
-    TAKES(read_one_events(64, 24, two, 2, 3, 0, 57), 24, 48, OLLSKUVAN_OK);
+    TAKES_BY(read_one_events(64, 24, two, 2, 3, 0, 57), 24, 48, OLLSKUVAN_OK, 1);
     IS(one_words[OLLSKUVAN_SAMPLE_IDENTIFIER], 5);
     IS(one_words[OLLSKUVAN_SAMPLE_TIME], 77);
-    TAKES(read_one_events(64, 24, two, 2, 3, 0, 55), 24, 48, OLLSKUVAN_REFUSED_ROOM);
-    TAKES(read_one_events(64, 24, two + 1, 1, 3, 0, 0), 24, 48, OLLSKUVAN_REFUSED_IDENTIFIER);
+    TAKES_BY(read_one_events(64, 24, two, 2, 3, 0, 55), 24, 48, OLLSKUVAN_REFUSED_ROOM, 1);
+    TAKES_BY(read_one_events(64, 24, two + 1, 1, 3, 0, 0), 24, 48, OLLSKUVAN_REFUSED_IDENTIFIER, 1);
+    /* the second event: two were inspected; without it one for 26 */
+    IS(read_one_events(64, 48, two, 2, 3, 0, 56).inspected, 2);
+    IS(read_one_events(64, 48, two, 1, 3, 0, 56).inspected, 1);
     two[0].sample_type |= OLLSKUVAN_BIT_BRANCHES;
     two[0].branch_sample_type = UINT64_C(1) << 63;
-    TAKES(read_one_events(64, 24, two, 2, 3, 0, 0), 24, 48, OLLSKUVAN_REFUSED_BRANCH_TYPE);
+    TAKES_BY(read_one_events(64, 24, two, 2, 3, 0, 0), 24, 48, OLLSKUVAN_REFUSED_BRANCH_TYPE, 1);
     two[0] = EVENTS[0];
     TAKES(read_one_events(64, 24, two, 2, 1, 0, 56), 24, 48, OLLSKUVAN_REFUSED_SAMPLE_TYPE);
     one = read_one_events(64, 48, two, 2, 3, 0, 56);
@@ -972,6 +978,7 @@ static void test_read_one_events(void)
     put16(one_ring + 54, 8);
     one = read_one_events(64, 48, two, 2, 3, 0, 0);
     IS(one.answer, OLLSKUVAN_REFUSED_NO_IDENTIFIER);
+    IS(one.inspected, 0);
     IS(one.size, 8);
 
     /* across the end */
@@ -981,7 +988,7 @@ static void test_read_one_events(void)
     put16(one_ring + 8, 5);
     STOPS(read_one_events(16, UINT64_MAX - 7, two, 2, 3, 23, 56), OLLSKUVAN_STOP_SCRATCH, UINT64_MAX - 7);
     one = read_one_events(16, UINT64_MAX - 7, two, 2, 3, 24, 56);
-    TAKES(one, 0, 16, OLLSKUVAN_OK);
+    TAKES_BY(one, 0, 16, OLLSKUVAN_OK, 1);
     IS(one.in_scratch, 1);
     OK(memcmp(one_scratch + 8, one_ring, 16) == 0 && untouched(one_scratch + 24, 8));
 
@@ -995,7 +1002,8 @@ static void test_read_one_events(void)
 static void test_drain_events(void)
 {
     uint8_t *ring = block(64), *journal = block(48), *scratch = block(24), *before = block(64);
-    struct ollskuvan_event *one = events(1), *two = events(2), *most = events(32), *more = events(33);
+    enum { MOST = OLLSKUVAN_EVENTS_MAX };
+    struct ollskuvan_event *one = events(1), *two = events(2), *most = events(MOST), *more = events(MOST + 1);
     struct ollskuvan_drained d;
 
     two[1] = EVENTS[1];
@@ -1016,16 +1024,17 @@ static void test_drain_events(void)
     IS(ollskuvan_drain_events(ring, 64, 8, 0, one, 1, 3, 0, NULL, 0, NULL, 0).stop, OLLSKUVAN_STOP_BUDGET);
     IS(ollskuvan_drain_events(ring, 64, 8, 0, one, 1, 3, 1, NULL, 0, NULL, 0).stop, OLLSKUVAN_STOP_JOURNAL);
 
-    /* 32 events and 33; equal identifiers; no bit 16; no sample_id_all, which is any of its 64 bits */
-    IS(ollskuvan_drain_events(ring, 64, 8, 8, most, 32, 3, 1, NULL, 0, NULL, 0).stop, OLLSKUVAN_STOP_NOTHING);
-    IS(ollskuvan_drain_events(ring, 64, 8, 8, more, 33, 3, 1, NULL, 0, NULL, 0).stop, OLLSKUVAN_STOP_TABLE);
-    IS(ollskuvan_drain_events(ring, 64, 8, 8, more, 32, 3, 1, NULL, 0, NULL, 0).stop, OLLSKUVAN_STOP_NOTHING);
-    most[31].identifier = 5;
-    d = ollskuvan_drain_events(ring, 64, 64, 0, most, 32, 3, 9, scratch, 24, journal, 48);
+    /* 1,024 events and 1,025; equal identifiers; no bit 16; no sample_id_all, which is any of its 64 bits */
+    IS(ollskuvan_drain_events(ring, 64, 8, 8, most, 33, 3, 1, NULL, 0, NULL, 0).stop, OLLSKUVAN_STOP_NOTHING);
+    IS(ollskuvan_drain_events(ring, 64, 8, 8, most, MOST, 3, 1, NULL, 0, NULL, 0).stop, OLLSKUVAN_STOP_NOTHING);
+    IS(ollskuvan_drain_events(ring, 64, 8, 8, more, MOST + 1, 3, 1, NULL, 0, NULL, 0).stop, OLLSKUVAN_STOP_TABLE);
+    IS(ollskuvan_drain_events(ring, 64, 8, 8, more, MOST, 3, 1, NULL, 0, NULL, 0).stop, OLLSKUVAN_STOP_NOTHING);
+    most[MOST - 1].identifier = 5;
+    d = ollskuvan_drain_events(ring, 64, 64, 0, most, MOST, 3, 9, scratch, 24, journal, 48);
     IS(d.stop, OLLSKUVAN_STOP_TABLE);
     IS(d.taken | d.bytes | d.tail, 0);
     OK(untouched(journal, 48) && untouched(scratch, 24));
-    IS(ollskuvan_drain_events(ring, 64, 8, 8, most, 31, 3, 1, NULL, 0, NULL, 0).stop, OLLSKUVAN_STOP_NOTHING);
+    IS(ollskuvan_drain_events(ring, 64, 8, 8, most, MOST - 1, 3, 1, NULL, 0, NULL, 0).stop, OLLSKUVAN_STOP_NOTHING);
     one[0].sample_type = ~OLLSKUVAN_BIT_IDENTIFIER;
     IS(ollskuvan_drain_events(ring, 64, 8, 8, one, 1, 1, 1, NULL, 0, NULL, 0).stop, OLLSKUVAN_STOP_TABLE);
     one[0] = EVENTS[0];
@@ -1362,7 +1371,7 @@ static void test_replay(void)
         unsigned kind;
         for (kind = 0; kind < 40; kind++) {
             uint32_t due = OLLSKUVAN_REFUSED_ENTRY;
-            if ((kind == 1 && i == 2) || (kind == 2 && i == 49) || (kind == 3 && i == 13))
+            if ((kind == 1 && i == 2) || (kind == 2 && (i == 49 || i == 50)) || (kind == 3 && i == 13))
                 due = OLLSKUVAN_REFUSED_DEPARTURE;
             if (kind == OLLSKUVAN_KIND_OFFER)
                 due = OLLSKUVAN_REFUSED_OFFER; /* zeros: a size of 0 */
@@ -1514,7 +1523,8 @@ static void test_walk_round(void)
 static void test_walk_calls(void)
 {
     uint8_t *ring = block(64), *journal = block(48);
-    struct ollskuvan_event *one = events(1), *two = events(2), *most = events(32), *more = events(33);
+    enum { MOST = OLLSKUVAN_EVENTS_MAX };
+    struct ollskuvan_event *one = events(1), *two = events(2), *most = events(MOST), *more = events(MOST + 1);
 
     two[1] = EVENTS[1];
     lay_events(ring); /* three records, 64 bytes */
@@ -1526,11 +1536,11 @@ static void test_walk_calls(void)
     WALKED(ollskuvan_walk_back_events(ring, 64, 3, NULL, 0, 0, 0, NULL, 0, NULL, 0), 0, 0, OLLSKUVAN_STOP_EDITION);
     WALKED(ollskuvan_walk_back_events(ring, 64, 3, NULL, 0, 4, 0, NULL, 0, NULL, 0), 0, 0, OLLSKUVAN_STOP_ALIGNMENT);
     WALKED(ollskuvan_walk_back_events(ring, 64, 0, NULL, 0, 4, 0, NULL, 0, NULL, 0), 0, 0, OLLSKUVAN_STOP_TABLE);
-    WALKED(ollskuvan_walk_back_events(ring, 64, 0, more, 33, 4, 9, NULL, 0, journal, 48), 0, 0, OLLSKUVAN_STOP_TABLE);
+    WALKED(ollskuvan_walk_back_events(ring, 64, 0, more, MOST + 1, 4, 9, NULL, 0, journal, 48), 0, 0, OLLSKUVAN_STOP_TABLE);
     OK(untouched(journal, 48));
-    WALKED(ollskuvan_walk_back_events(ring, 64, 0, most, 32, 4, 0, NULL, 0, NULL, 0), 0, 0, OLLSKUVAN_STOP_BUDGET);
-    most[31].identifier = most[0].identifier;
-    WALKED(ollskuvan_walk_back_events(ring, 64, 0, most, 32, 4, 0, NULL, 0, NULL, 0), 0, 0, OLLSKUVAN_STOP_TABLE);
+    WALKED(ollskuvan_walk_back_events(ring, 64, 0, most, MOST, 4, 0, NULL, 0, NULL, 0), 0, 0, OLLSKUVAN_STOP_BUDGET);
+    most[MOST - 1].identifier = most[0].identifier;
+    WALKED(ollskuvan_walk_back_events(ring, 64, 0, most, MOST, 4, 0, NULL, 0, NULL, 0), 0, 0, OLLSKUVAN_STOP_TABLE);
     one[0].sample_id_all = 0;
     WALKED(ollskuvan_walk_back_events(ring, 64, 0, one, 1, 4, 0, NULL, 0, NULL, 0), 0, 0, OLLSKUVAN_STOP_TABLE);
     /* each record with its event; without the second event two of the three are 26, as in a drain; edition 1 reads none */
@@ -1796,6 +1806,176 @@ static void test_compare(void)
     free(right.scratch);
 }
 
+static void is_judged(int line, struct ollskuvan_judged told, uint32_t answer, uint32_t inspected)
+{
+    is(line, "answer", told.answer, answer);
+    is(line, "inspected", told.inspected, inspected);
+}
+#define JUDGED(told, answer, inspected) is_judged(__LINE__, told, answer, inspected)
+
+/* Record check with a table: the answers in their order, and the number inspected with each. */
+static void test_check_events(void)
+{
+    enum { MOST = OLLSKUVAN_EVENTS_MAX };
+    struct ollskuvan_event *most = events(MOST), *more = events(MOST + 1);
+    uint8_t *record = copied(DIRTY_OF_7, 32), *eight = copied(SWITCH, 8);
+
+    IS(sizeof(struct ollskuvan_judged), 8);
+    most[2].sample_type = OLLSKUVAN_BIT_IDENTIFIER; /* the third is event 7, whose trailer is the identifier alone */
+    JUDGED(ollskuvan_check_events(NULL, 0, NULL, 0, 257), OLLSKUVAN_REFUSED_EDITION, 0);
+    JUDGED(ollskuvan_check_events(NULL, 0, NULL, 0, 4), OLLSKUVAN_REFUSED_TABLE, 0);
+    JUDGED(ollskuvan_check_events(record, 32, more, MOST + 1, 4), OLLSKUVAN_REFUSED_TABLE, 0);
+    JUDGED(ollskuvan_check_events(NULL, 0, most, MOST, 4), OLLSKUVAN_REFUSED_LENGTH, 0);
+    JUDGED(ollskuvan_check_events(record, 7, most, MOST, 4), OLLSKUVAN_REFUSED_LENGTH, 0);
+    JUDGED(ollskuvan_check_events(record, 24, most, MOST, 4), OLLSKUVAN_REFUSED_LENGTH, 0);
+    put16(record + 6, 12);
+    JUDGED(ollskuvan_check_events(record, 32, most, MOST, 4), OLLSKUVAN_REFUSED_SIZE, 0);
+    put16(record + 6, 32);
+    JUDGED(ollskuvan_check_events(record, 32, most, MOST, 1), OLLSKUVAN_REFUSED_SAMPLE_TYPE, 0);
+    JUDGED(ollskuvan_check_events(record, 32, most, MOST, 4), OLLSKUVAN_DIRTY_NAME, 3);
+    JUDGED(ollskuvan_check_events(record, 32, most + 2, 1, 2), OLLSKUVAN_DIRTY_NAME, 1);
+    JUDGED(ollskuvan_check_events(record, 32, most, 2, 4), OLLSKUVAN_REFUSED_IDENTIFIER, 2);
+    JUDGED(ollskuvan_check_events(record, 32, most + 3, MOST - 3, 4), OLLSKUVAN_REFUSED_IDENTIFIER, MOST - 3);
+    JUDGED(ollskuvan_check_events(eight, 8, most, MOST, 4), OLLSKUVAN_REFUSED_NO_IDENTIFIER, 0);
+    memset(record + 21, 0, 3);
+    JUDGED(ollskuvan_check_events(record, 32, most, MOST, 4), OLLSKUVAN_OK, 3);
+    most[2].sample_type |= UINT64_C(1) << 25; /* the event's own 21, behind the lookup */
+    JUDGED(ollskuvan_check_events(record, 32, most, MOST, 4), OLLSKUVAN_REFUSED_SAMPLE_TYPE, 3);
+    put16(record, 22);
+    JUDGED(ollskuvan_check_events(record, 32, most, MOST, 4), OLLSKUVAN_REFUSED_TYPE, 0);
+    /* the last of as many as there may be; one behind it */
+    put16(record, OLLSKUVAN_TYPE_COMM);
+    most[MOST - 1].sample_type = OLLSKUVAN_BIT_IDENTIFIER;
+    put16(record + 24, 5 + MOST - 1);
+    JUDGED(ollskuvan_check_events(record, 32, most, MOST, 4), OLLSKUVAN_OK, MOST);
+    put16(record + 24, 5 + MOST);
+    JUDGED(ollskuvan_check_events(record, 32, most, MOST, 4), OLLSKUVAN_REFUSED_IDENTIFIER, MOST);
+    /* two equal identifiers, far from each other */
+    most[MOST - 1].identifier = most[1].identifier;
+    JUDGED(ollskuvan_check_events(record, 32, most, MOST, 4), OLLSKUVAN_REFUSED_TABLE, 0);
+
+    free(most);
+    free(more);
+    free(record);
+    free(eight);
+}
+
+/* Stores of both versions, laid out by hand; written, version 2; into exactly their room and one byte less. */
+static size_t lay_store(uint8_t *store, unsigned version, unsigned count)
+{
+    static const uint8_t rest[19] = {19, 0, 0, 0, 3, 0, 0, 1, 0, 0, 0, 0, 0, 0, 4, 7};
+    size_t at = 8, i;
+
+    memset(store, 0, 8);
+    store[0] = 8;
+    store[4] = 1;
+    store[6] = (uint8_t)version;
+    for (i = 0; i < count; i++, at += 54 + version) {
+        uint8_t *words = store + at + 6 + version;
+        memset(store + at, 0, 54 + version);
+        store[at] = (uint8_t)(54 + version);
+        store[at + 4] = 2;
+        store[at + 6] = (uint8_t)i;
+        if (version == 2)
+            store[at + 7] = (uint8_t)(i >> 8);
+        put16(words, 5 + (unsigned)i);
+        words[8] = 4;  /* sample bit 2 */
+        words[10] = 1; /* sample bit 16 */
+    }
+    memcpy(store + at, rest, 19);
+    return at + 19;
+}
+
+static void test_stores(void)
+{
+    enum { MOST = OLLSKUVAN_EVENTS_MAX, OLD = OLLSKUVAN_STORE_OLD_EVENTS };
+    uint8_t *store = block(OLLSKUVAN_STORE_BYTES(MOST + 1)), *written = block(OLLSKUVAN_STORE_BYTES(MOST) + 8);
+    struct ollskuvan_event *table = events(MOST + 1), *rows = events(MOST);
+    struct ollskuvan_settings s;
+    struct ollskuvan_stored w;
+    const unsigned counts[] = {1, OLD, OLD + 1, 256, 257, MOST};
+    size_t i, length;
+
+    for (i = 0; i < sizeof counts / sizeof *counts; i++) {
+        const unsigned count = counts[i];
+        const uint32_t old = count <= OLD ? OLLSKUVAN_OK : count <= 256 ? OLLSKUVAN_REFUSED_TABLE : OLLSKUVAN_REFUSED_DEPARTURE;
+        length = lay_store(store, 1, count);
+        IS(length, OLLSKUVAN_STORE_BYTES_1(count));
+        s = ollskuvan_read_store(store, length, rows, MOST);
+        IS(s.answer, old);
+        IS(s.events, old ? 0 : count);
+        length = lay_store(store, 2, count);
+        IS(length, OLLSKUVAN_STORE_BYTES(count));
+        memset(rows, 0xc3, MOST * sizeof *rows);
+        IS(ollskuvan_read_store(store, length, rows, count - 1).answer, OLLSKUVAN_REFUSED_ROOM);
+        OK(untouched((const uint8_t *)rows, MOST * sizeof *rows));
+        s = ollskuvan_read_store(store, length, rows, count);
+        IS(s.answer, OLLSKUVAN_OK);
+        IS(s.events, count);
+        IS(s.ring_length, 256);
+        IS(s.edition, 4);
+        IS(s.budget, 7);
+        OK(memcmp(rows, table, count * sizeof *rows) == 0);
+        memset(written, 0xc3, OLLSKUVAN_STORE_BYTES(MOST) + 8);
+        w = ollskuvan_write_store(table, count, 256, 4, 7, written, length - 1);
+        IS(w.answer, OLLSKUVAN_REFUSED_ROOM);
+        OK(untouched(written, length));
+        w = ollskuvan_write_store(table, count, 256, 4, 7, written, length);
+        IS(w.answer, OLLSKUVAN_OK);
+        IS(w.bytes, length);
+        OK(memcmp(written, store, length) == 0 && untouched(written + length, 8));
+    }
+    /* one event too many; a version that is not known; a row of the other version's length */
+    length = lay_store(store, 2, MOST + 1);
+    IS(ollskuvan_read_store(store, length, rows, MOST).answer, OLLSKUVAN_REFUSED_TABLE);
+    IS(ollskuvan_write_store(table, MOST + 1, 256, 4, 7, written, length).answer, OLLSKUVAN_REFUSED_TABLE);
+    store[6] = 3;
+    IS(ollskuvan_read_store(store, length, rows, MOST).answer, OLLSKUVAN_REFUSED_VERSION);
+    store[6] = 1;
+    IS(ollskuvan_read_store(store, length, rows, MOST).answer, OLLSKUVAN_REFUSED_ENTRY);
+
+    free(store);
+    free(written);
+    free(table);
+    free(rows);
+}
+
+#ifndef WITHOUT_VALUES
+/* The reader with a table: as record check but for 44, and 40 with the number all the same. */
+static void test_read_events(void)
+{
+    struct ollskuvan_event *table = events(4);
+    uint8_t *record = copied(DIRTY_OF_7, 32);
+    uint64_t *words = malloc(57 * sizeof *words);
+    size_t i;
+
+    if (!words)
+        abort();
+    for (i = 0; i < 57; i++)
+        words[i] = 99;
+    table[2].sample_type = OLLSKUVAN_BIT_IDENTIFIER;
+    JUDGED(ollskuvan_read_events(NULL, 0, NULL, 0, 257, NULL, 0), OLLSKUVAN_REFUSED_EDITION, 0);
+    JUDGED(ollskuvan_read_events(NULL, 0, NULL, 0, 4, NULL, 0), OLLSKUVAN_REFUSED_TABLE, 0);
+    JUDGED(ollskuvan_read_events(NULL, 0, table, 4, 4, NULL, 0), OLLSKUVAN_REFUSED_LENGTH, 0);
+    JUDGED(ollskuvan_read_events(record, 32, table, 2, 4, NULL, 0), OLLSKUVAN_REFUSED_IDENTIFIER, 2);
+    JUDGED(ollskuvan_read_events(record, 32, table, 4, 4, NULL, 0), OLLSKUVAN_REFUSED_ROOM, 3);
+    JUDGED(ollskuvan_read_events(record, 32, table, 4, 4, words, 55), OLLSKUVAN_REFUSED_ROOM, 3);
+    JUDGED(ollskuvan_read_events(record, 32, table, 4, 1, words, 57), OLLSKUVAN_REFUSED_SAMPLE_TYPE, 0);
+    for (i = 0; i < 57; i++)
+        IS(words[i], 99);
+    JUDGED(ollskuvan_read_events(record, 32, table, 4, 4, words, 57), OLLSKUVAN_OK, 3);
+    IS(words[OLLSKUVAN_COMM_PID], 1);
+    IS(words[OLLSKUVAN_COMM_NAME_FLAG], 1);
+    IS(words[OLLSKUVAN_TRAILER_IDENTIFIER], 7);
+    IS(words[OLLSKUVAN_TRAILER_TIME], 0);
+    IS(words[56], 99);
+
+    free(table);
+    free(record);
+    free(words);
+}
+#endif
+
 int main(void)
 {
     IS(OLLSKUVAN_TRAILER_BITS, 66246);
@@ -1807,6 +1987,8 @@ int main(void)
     test_drain();
     test_drain_events();
     test_find_event();
+    test_check_events();
+    test_stores();
     test_check();
     test_branches();
     test_misc_meaning();
@@ -1826,6 +2008,7 @@ int main(void)
     test_index_word();
     test_read_one();
     test_read_one_events();
+    test_read_events();
 #endif
     printf("exports from C: %d calls and bytes as due, %d not\n", passed, failed);
     return failed ? 1 : 0;

@@ -58,7 +58,7 @@ enum kind {
     ENTRY_BYTES, ENTRY_OFFSET, ENTRY_KIND_GIVEN,
     MEANING_GIVEN, STOP_GIVEN, CHECK_GIVEN, COPY_GIVEN, WRITE_GIVEN, DIRTY_CHECK_GIVEN, DIRTY_WRITE_GIVEN,
     EVENTS_MOST, TABLE_STOP_GIVEN, EVENT_ANSWER_GIVEN, WALK_STOP_GIVEN, STORE_BYTE_WRITTEN, STORE_READ_GIVEN,
-    STORE_WRITE_GIVEN, KIND_OFFERS, KIND_DRAINS, REPLAY_GIVEN, CHANGE_BYTES, CHANGE_OFFSET, CHANGE_KIND_GIVEN,
+    STORE_WRITE_GIVEN, STORE_VERSION_OLD, STORE_EVENTS_OLD, KIND_OFFERS, KIND_DRAINS, REPLAY_GIVEN, CHANGE_BYTES, CHANGE_OFFSET, CHANGE_KIND_GIVEN,
     SALVAGE_GIVEN, COMPARED_GIVEN
 };
 
@@ -113,6 +113,8 @@ struct row {
 #define STORE_BYTE(w, place) ROW(STORE_BYTE_WRITTEN, #w, w, NULL, place)
 #define STORE_READ(w, ...) ROW(STORE_READ_GIVEN, #w, w, NULL, __VA_ARGS__)
 #define STORE_WRITTEN(w, ...) ROW(STORE_WRITE_GIVEN, #w, w, NULL, __VA_ARGS__)
+#define OLD_VERSION(w) ROW(STORE_VERSION_OLD, #w, w, NULL, 0)
+#define OLD_MOST(w) ROW(STORE_EVENTS_OLD, #w, w, NULL, 0)
 #define OFFERS(w) ROW(KIND_OFFERS, #w, w, NULL, 0)
 #define DRAINS(w) ROW(KIND_DRAINS, #w, w, NULL, 0)
 #define REPLAYED(w, ...) ROW(REPLAY_GIVEN, #w, w, NULL, __VA_ARGS__)
@@ -250,7 +252,7 @@ static uint64_t ended(uint64_t head, uint64_t size)
 
 /* A table of so many events, identifiers 1, 2 and so on, with sample bit 16 and sample_id_all; over a ring whose one
  * record has this type, this size and then zeros up to its last word. */
-enum { EVENTS = 99 };
+enum { EVENTS = 1030 };
 static uint64_t answered(uint64_t events, uint64_t type, uint64_t size, uint64_t last, uint8_t entry[16])
 {
     static struct ollskuvan_event table[EVENTS];
@@ -300,6 +302,43 @@ static uint64_t store_byte(uint64_t place)
 {
     uint8_t store[128] = {0};
     return stored(64, 3, store, sizeof store) ? 999 : (uint64_t)store[place];
+}
+
+/* The version that such a store shows where it reads. */
+static uint64_t old_version(void)
+{
+    uint64_t version = 0;
+    while (version < 256 && read_changed(6, version, 82, 1) != 0)
+        version++;
+    return version;
+}
+
+/* The most events of 55 bytes that are read in that version. */
+static uint64_t old_most(void)
+{
+    static struct ollskuvan_event rows[64];
+    static uint8_t store[27 + 55 * 64];
+    uint64_t count, i;
+    for (count = 64; count > 0; count--) {
+        memset(store, 0, sizeof store);
+        store[0] = 8;
+        store[4] = 1;
+        store[6] = (uint8_t)old_version();
+        for (i = 0; i < count; i++) {
+            uint8_t *row = store + 8 + 55 * i;
+            row[0] = 55;
+            row[4] = 2;
+            row[6] = row[7] = (uint8_t)i; /* index and identifier */
+            row[17] = 1;                  /* sample bit 16 */
+        }
+        store[8 + 55 * count] = 19;
+        store[8 + 55 * count + 4] = 3;
+        store[8 + 55 * count + 6] = 64;
+        store[8 + 55 * count + 14] = 3;
+        if (ollskuvan_read_store(store, (size_t)(27 + 55 * count), rows, 64).answer == 0)
+            break;
+    }
+    return count;
 }
 
 /* A trace of one entry, of this length and kind; its body begins with a switch of size 8. What is told. */
@@ -414,6 +453,8 @@ static uint64_t shown(const struct row *row)
     case STORE_BYTE_WRITTEN: return store_byte(n[0]);
     case STORE_READ_GIVEN: return read_changed(n[0], n[1], n[2], n[3]);
     case STORE_WRITE_GIVEN: return stored(n[0], n[1], buffer, n[2]);
+    case STORE_VERSION_OLD: return old_version();
+    case STORE_EVENTS_OLD: return old_most();
     case KIND_OFFERS: return first_kind(14, 8);
     case KIND_DRAINS: return first_kind(10, 0);
     case REPLAY_GIVEN: return replayed(n[0], n[1]).answer;

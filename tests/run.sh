@@ -128,12 +128,14 @@ part "drains, checks and name copies: $drains cases, seed $seed" \
     "$out/reader" drains --count "$drains" --seed "$seed"
 part "tables of events: $((drains / 2)) drains and their records, seed $seed" \
     "$out/reader" tables --count $((drains / 2)) --seed "$seed"
+part "one record with a table: $values records, seed $seed" "$out/reader" judged --count "$values" --seed "$seed"
 part "drains cut anywhere: $((drains / 10)) series, seed $seed" \
     "$out/reader" series --count $((drains / 10)) --seed "$seed" --rings rings
 part "two readers of one ring: $values pairs of tails, seed $seed" \
     "$out/reader" readers --count "$values" --seed "$seed"
 part "stores of settings: $((values / 2)) made ones, seed $seed" \
     "$out/reader" stores --count $((values / 2)) --seed "$seed"
+part "kept stores of both versions" "$out/reader" kept-stores tests/stores
 part "replay of traces: $((values / 5)) traces, seed $seed" \
     "$out/reader" replays --count $((values / 5)) --seed "$seed"
 part "backward rings: $((drains / 4)) walks, seed $seed" \

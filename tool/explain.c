@@ -38,7 +38,7 @@ static const struct {
     { OLLSKUVAN_STOP_BUDGET, "The next call goes on from the new tail." },
     { OLLSKUVAN_STOP_JOURNAL, "Fewer than 16 bytes are left. The next call goes on from the new tail." },
     { OLLSKUVAN_STOP_TABLE,
-        "It has 1 to 32 events, no two with the same identifier, each with sample bit 16 and\n"
+        "It has 1 to 1,024 events, no two with the same identifier, each with sample bit 16 and\n"
         "    sample_id_all." },
     { OLLSKUVAN_STOP_OVERWRITTEN,
         "A walk of a backward ring ends so where the ring has gone round: newer records took the place of\n"
@@ -79,7 +79,7 @@ static const struct {
     { OLLSKUVAN_DIRTY_NAME,
         "Of record check alone, in place of 0: the record is sound, and a byte after its name's zero, before the\n"
         "    trailer or the record's end, is not zero. A drain and the readers answer 0." },
-    { OLLSKUVAN_REFUSED_VERSION, "This build reads version 1. A newer program wrote the store." },
+    { OLLSKUVAN_REFUSED_VERSION, "This build reads versions 1 and 2. A newer program wrote the store." },
     { OLLSKUVAN_REFUSED_ENTRY,
         "The store is damaged: a length is below 6, passes the end or is not that of its kind, or the last\n"
         "    entry, which has the ring's length, is missing. In a trace: the same of an entry; kind 16 offers a\n"

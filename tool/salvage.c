@@ -36,7 +36,7 @@ struct basis {
 
 static bool basis_of_store(struct basis *basis, const char *path)
 {
-    struct settings settings;
+    static struct settings settings; /* too long for a stack */
     char why[WHY_ROOM];
     if (settings_load(path, &settings, why) != SETTINGS_READ) {
         complain("%s: %s", path, why);
@@ -51,7 +51,7 @@ static bool basis_of_store(struct basis *basis, const char *path)
 
 static bool basis_beside(struct basis *basis, const char *path)
 {
-    struct event_table table;
+    static struct event_table table;
     char why[WHY_ROOM];
     if (!event_table_load(&table, path, why)) {
         complain("%s: %s", path, why);

@@ -295,10 +295,10 @@ shows() { # FILE WORDS..: a line each
   tried=$((tried + 1))
 }
 writes $stores/one
-shows $stores/one 'store       version 1, 82 bytes, 1 event' 'edition     4' 'budget      32' 'event 0     identifier 1'
-[ "$(wc -c <$stores/one)" -eq 82 ] || wrong "a store of one event has other than 82 bytes"
+shows $stores/one 'store       version 2, 83 bytes, 1 event' 'edition     4' 'budget      32' 'event 0     identifier 1'
+[ "$(wc -c <$stores/one)" -eq 83 ] || wrong "a store of one event has other than 83 bytes"
 writes $stores/three --events page-faults,cpu-clock --edition 3 --budget 7 --pages 1
-shows $stores/three 'store       version 1, 192 bytes, 3 events' 'budget      7' 'event 2     identifier 3'
+shows $stores/three 'store       version 2, 195 bytes, 3 events' 'budget      7' 'event 2     identifier 3'
 writes $stores/branch --branch 0x20009
 shows $stores/branch 'branch type 0x20009.*' 'sample type 0x10987 .*'
 cp $stores/three $stores/again
@@ -320,17 +320,42 @@ else
 fi
 # of a saved ring with its table: the identifiers that its records have
 writes $stores/image --image rings/events/counters.img --budget 5
-shows $stores/image 'store       version 1, 247 bytes, 4 events' 'budget      5' 'edition     3'
+shows $stores/image 'store       version 2, 251 bytes, 4 events' 'budget      5' 'edition     3'
 for id in $(sed -n 's/^\([0-9][0-9]*\) .*/\1/p' rings/events/counters.table); do
   grep -q "^event .* identifier $id\$" $out/shown.txt || wrong "settings write --image: no event $id"
 done
-# a store of 32 events, and a table of 33
+# a store of 1,024 events, and a table of 1,025
 cp rings/events/counters.img $stores/many.img
-seq 1 32 | sed 's/$/ 0x10000 0 0 0 0 1/' >$stores/many.table
+seq 1 1024 | sed 's/$/ 0x10000 0 0 0 0 1/' >$stores/many.table
 writes $stores/many --image $stores/many.img
-shows $stores/many 'store       version 1, 1787 bytes, 32 events' 'event 31    identifier 32'
-seq 1 33 | sed 's/$/ 0x10000 0 0 0 0 1/' >$stores/many.table
+shows $stores/many 'store       version 2, 57371 bytes, 1024 events' 'event 1023  identifier 1024'
+seq 1 1025 | sed 's/$/ 0x10000 0 0 0 0 1/' >$stores/many.table
 refuses 1 'one more event than a table may have' settings write $stores/many --image $stores/many.img
+# a table of 1,024 events beside a ring: what is read is what its own events read; one event more is refused
+own=$(grep -c '^[0-9]' rings/events/counters.table)
+cp rings/events/counters.img $out/wide.img
+{ seq 900000 $((900000 + 1023 - own)) | sed 's/$/ 0x10000 0 0 0 0 1/'; cat rings/events/counters.table; } >$out/wide.table
+$tool journal $out/wide.img | cmp -s - <($tool journal rings/events/counters.img) || wrong "journal with 1,024 events"
+records() { $tool dump "$1" | tac | sed '/^branch type/q' | tac; } # behind the last event of the table
+records $out/wide.img | cmp -s - <(records rings/events/counters.img) || wrong "dump with 1,024 events"
+[ "$(records $out/wide.img | wc -l)" -gt 100 ] || wrong "dump with 1,024 events shows no records"
+$tool compare rings/events/counters.img $out/wide.img >$out/compared.txt || wrong "compare with a table of 1,024 events: $(cat $out/compared.txt)"
+echo '1 0x10000 0 0 0 0 1' >>$out/wide.table
+refuses 1 'one more event than a table may have' dump $out/wide.img
+# kept stores of both versions: one that the writer of version 1 wrote, and one of version 2
+shows tests/stores/version-1.store 'store       version 1, 1787 bytes, 32 events' 'event 31    identifier 1217' 'budget      4096'
+shows tests/stores/version-2.store 'store       version 2, 57371 bytes, 1024 events' 'event 1023  identifier 8161' 'edition     4'
+# faults of version 1 by their numbers and places: a row of version 2's length, an index of another event, one event more
+refused_as() { # FILE WORDS: it is no store, and these words say why
+  refuses 1 "$1: no settings: refused with $2" settings show "$1"
+}
+{ printf '\010\0\0\0\001\0\001\0'; tail -c +9 $stores/three; } >$out/old-rows
+refused_as $out/old-rows '51 at byte 8: an entry of kind 2 and 56 bytes, which fits no known kind'
+{ printf '\010\0\0\0\001\0\002\0'; tail -c +9 tests/stores/version-1.store; } >$out/new-rows
+refused_as $out/new-rows '51 at byte 8: an entry of kind 2 and 55 bytes, which fits no known kind'
+{ head -c 1768 tests/stores/version-1.store; printf '\067\0\0\0\002\0\040'; head -c 63 tests/stores/version-1.store | tail -c 48
+  tail -c 19 tests/stores/version-1.store; } >$out/old-33
+refused_as $out/old-33 '11 at byte 1842: 33 events, where 1 to 32 are allowed'
 # what cannot be kept replaces nothing
 seq 1 3 | sed 's/$/ 0x86 0 0 0 0 1/' >$stores/many.table
 cp $stores/many $out/kept
@@ -352,34 +377,35 @@ fault() { # NAME OFFSET OCTAL-BYTES WORDS: store three with other bytes
 }
 fault version 6 '\011' '50 at byte 0: version 9'
 fault kind 4 '\002' '51 at byte 0: an entry of kind 2 and 8 bytes, which fits no known kind'
-fault length 8 '\005' '51 at byte 8: an entry of 5 bytes, where 6 to 184 are possible'
-fault long 11 '\001' '51 at byte 8: an entry of 16777271 bytes'
-fault index 69 '\005' '52 at byte 63: index 5, where 1 is due'
-fault ring 180 '\003' '52 at byte 173: a ring of 768 bytes, which is not allowed'
-fault edition 187 '\005' '52 at byte 173: edition 5, which this build does not know'
-fault twins 70 '\001' '11 at byte 63: events 0 and 1 have the identifier 1'
-fault unmarked 80 '\000' '11 at byte 63: event 1 lacks sample bit 16'
-head -c 191 $stores/three >$stores/cut-191
-refuses 1 'refused with 51 at byte 173: an entry of 19 bytes, where 6 to 18 are possible' settings show $stores/cut-191
-head -c 173 $stores/three >$stores/cut-173
-refuses 1 "refused with 51 at byte 173: it ends before the ring's length" settings show $stores/cut-173
-head -c 64 $stores/three >$stores/cut-64
-refuses 1 'refused with 51 at byte 63: 1 byte is left' settings show $stores/cut-64
+fault length 8 '\005' '51 at byte 8: an entry of 5 bytes, where 6 to 187 are possible'
+fault long 11 '\001' '51 at byte 8: an entry of 16777272 bytes'
+fault index 70 '\005' '52 at byte 64: index 5, where 1 is due'
+fault high-index 71 '\001' '52 at byte 64: index 257, where 1 is due'
+fault ring 183 '\003' '52 at byte 176: a ring of 768 bytes, which is not allowed'
+fault edition 190 '\005' '52 at byte 176: edition 5, which this build does not know'
+fault twins 72 '\001' '11 at byte 64: events 0 and 1 have the identifier 1'
+fault unmarked 82 '\000' '11 at byte 64: event 1 lacks sample bit 16'
+head -c 194 $stores/three >$stores/cut-194
+refuses 1 'refused with 51 at byte 176: an entry of 19 bytes, where 6 to 18 are possible' settings show $stores/cut-194
+head -c 176 $stores/three >$stores/cut-176
+refuses 1 "refused with 51 at byte 176: it ends before the ring's length" settings show $stores/cut-176
+head -c 65 $stores/three >$stores/cut-65
+refuses 1 'refused with 51 at byte 64: 1 byte is left' settings show $stores/cut-65
 : >$stores/empty
 refuses 1 'refused with 51 at byte 0: it is empty' settings show $stores/empty
 cat $stores/three $stores/three >$stores/doubled
-refuses 1 'refused with 52 at byte 192: an entry behind the last one' settings show $stores/doubled
+refuses 1 'refused with 52 at byte 195: an entry behind the last one' settings show $stores/doubled
 { head -c 8 $stores/three; cat $stores/three; } >$stores/second
 refuses 1 'refused with 52 at byte 8: a version for the second time' settings show $stores/second
 tail -c +9 $stores/three >$stores/headless
 refuses 1 'refused with 52 at byte 0: the first entry does not tell the version' settings show $stores/headless
 { head -c 8 $stores/three; tail -c 19 $stores/three; } >$stores/eventless
-refuses 1 'refused with 11 at byte 27: 0 events, where 1 to 32 are allowed' settings show $stores/eventless
+refuses 1 'refused with 11 at byte 27: 0 events, where 1 to 1024 are allowed' settings show $stores/eventless
 refuses 1 'refused with 51 at byte 0' settings show rings/tasks.img
 refuses 1 'No such file' settings show $stores/none
 refuses 1 'Is a directory' settings show $stores
 says 1 'refused with 50 at byte 0' settings show $stores/version $stores/one
-grep -q '^store       version 1, 82 bytes' $out/printed.txt || wrong "after a store that is none, the next is not shown"
+grep -q '^store       version 2, 83 bytes' $out/printed.txt || wrong "after a store that is none, the next is not shown"
 refuses 2 'show or write?' settings
 refuses 2 'show or write is wanted, not read' settings read
 refuses 2 'which FILE?' settings show
@@ -402,7 +428,7 @@ if [ -x target/tests/reader ]; then
     -e 's/: (refused with 11 at byte) .*/: \1 .*/' $out/said.txt >$out/told.txt
   grep ': refused with' $out/due.txt | cmp -s - $out/told.txt ||
     { wrong "settings show tells other numbers or places than the independent reader"; grep ': refused with' $out/due.txt | diff - $out/told.txt | head -n 6; }
-  [ "$(grep -c ': version 1, ' $out/due.txt)" -eq "$(grep -c '^store ' $out/shown.txt)" ] || wrong "settings show reads other stores than the independent reader"
+  [ "$(grep -c ': version [12], ' $out/due.txt)" -eq "$(grep -c '^store ' $out/shown.txt)" ] || wrong "settings show reads other stores than the independent reader"
   for number in 11 50 51 52; do grep -q "refused with $number at" $out/told.txt || wrong "no damaged store was refused with $number"; done
   $out/stores-checked show $stores/changed/*.store $stores/[a-z]* >$out/checked.txt 2>&1 ||
     wrong "a damaged store under the sanitizers: $(head -n 5 $out/checked.txt)"
@@ -731,16 +757,16 @@ starts() { # FILE WORDS
   refuses 1 "$2" record --seconds 0.1 --settings "$1"
   cmp -s "$1" $out/kept || wrong "record --settings $1 changes a store that it does not start from"
 }
-starts $stores/edition "$stores/edition: no settings: refused with 52 at byte 173: edition 5"
-starts $stores/cut-191 'refused with 51 at byte 173'
+starts $stores/edition "$stores/edition: no settings: refused with 52 at byte 176: edition 5"
+starts $stores/cut-194 'refused with 51 at byte 176'
 starts $stores/empty 'refused with 51 at byte 0: it is empty'
 starts $stores/image 'is none that this program opens'
 other() { cp $stores/three "$stores/$1" && printf "$3" | dd of="$stores/$1" bs=1 seek="$2" conv=notrunc status=none; }
-other budget-0 188 '\000'
+other budget-0 191 '\000'
 starts $stores/budget-0 'a budget of 0 records: 1 to 4096 are taken here'
-other ring-64 179 '\100\000'
+other ring-64 182 '\100\000'
 starts $stores/ring-64 'a ring of 64 bytes: a live one has at least a page'
-other sampled 70 '\011'
+other sampled 72 '\011'
 starts $stores/sampled 'event 1, number 9, is none that this program opens'
 refuses 2 "--settings: a file is wanted, not '-'" record --settings -
 

@@ -203,7 +203,7 @@ struct ollskuvan_drained ollskuvan_drain_events(const uint8_t *ring, size_t ring
     const struct ollskuvan_event *events, size_t event_count, uint32_t edition, uint64_t budget,
     uint8_t *scratch, size_t scratch_len, uint8_t *journal, size_t journal_len)
 {
-    struct ollskuvan_event marked[40];
+    static struct ollskuvan_event marked[2 * OLLSKUVAN_EVENTS_MAX];
     struct ollskuvan_drained d;
     uint64_t i;
 
@@ -246,9 +246,32 @@ struct ollskuvan_one ollskuvan_read_one_events(const uint8_t *ring, size_t ring_
     struct ollskuvan_one one = reader_read_one_events(ring, ring_len, head, tail, events, event_count, edition, scratch,
         scratch_len, fields, fields_len);
 
+    if (fault(75) && one.inspected && one.answer != OLLSKUVAN_REFUSED_IDENTIFIER) /* the index told as the number inspected */
+        one.inspected--;
     if (fault(51) && one.answer == OLLSKUVAN_REFUSED_IDENTIFIER && fields_len) /* a word changed although refused */
         fields[0] = 0;
     return one;
+}
+
+struct ollskuvan_judged ollskuvan_check_events(const uint8_t *record, size_t record_len,
+    const struct ollskuvan_event *events, size_t event_count, uint32_t edition)
+{
+    struct ollskuvan_judged j = reader_check_events(record, record_len, events, event_count, edition);
+
+    if (fault(76) && j.answer == OLLSKUVAN_REFUSED_IDENTIFIER) /* one more than the table has */
+        j.inspected++;
+    return j;
+}
+
+struct ollskuvan_judged ollskuvan_read_events(const uint8_t *record, size_t record_len,
+    const struct ollskuvan_event *events, size_t event_count, uint32_t edition, uint64_t *fields, size_t fields_len)
+{
+    struct ollskuvan_judged j = reader_read_events(record, record_len, events, event_count, edition, fields, fields_len);
+
+    if (fault(79) && j.answer == OLLSKUVAN_OK
+        && reader_check_events(record, record_len, events, event_count, edition).answer == OLLSKUVAN_DIRTY_NAME)
+        j.answer = OLLSKUVAN_DIRTY_NAME; /* the reader says 44 */
+    return j;
 }
 
 struct ollskuvan_settings ollskuvan_read_store(const uint8_t *store, size_t store_len, struct ollskuvan_event *events,
@@ -259,6 +282,11 @@ struct ollskuvan_settings ollskuvan_read_store(const uint8_t *store, size_t stor
     if (fault(55) && store_len > 20 && store[store_len - 20] == 19 && store[store_len - 16] == OLLSKUVAN_KIND_RING)
         store_len--; /* a byte behind kind 3 is not looked at */
     s = reader_read_store(store, store_len, events, events_room);
+    if (fault(77) && s.answer == OLLSKUVAN_REFUSED_TABLE && store[6] == OLLSKUVAN_STORE_OLD_VERSION
+        && store_len == OLLSKUVAN_STORE_BYTES_1(OLLSKUVAN_STORE_OLD_EVENTS + 1)) {
+        s.answer = OLLSKUVAN_OK; /* version 1 with 33 events is taken */
+        s.events = OLLSKUVAN_STORE_OLD_EVENTS + 1;
+    }
     if (fault(56) && s.answer == OLLSKUVAN_REFUSED_DEPARTURE && events_room) /* a row is written though the store is refused */
         events[0].sample_id_all = 1;
     return s;
@@ -273,7 +301,9 @@ struct ollskuvan_stored ollskuvan_write_store(const struct ollskuvan_event *even
         && reader_write_store(events, event_count ? 1 : 0, ring_length, edition, budget, NULL, 0).answer == OLLSKUVAN_REFUSED_RING_LENGTH)
         w.answer = OLLSKUVAN_REFUSED_RING_LENGTH; /* 1 before 11 */
     if (fault(58) && w.answer == OLLSKUVAN_OK && event_count > 1) /* one index for all events */
-        buffer[8 + 55 + 6] = 0;
+        buffer[8 + 56 + 6] = 0;
+    if (fault(78) && w.answer == OLLSKUVAN_OK && event_count > 256) /* an index of one byte, the other one 0 */
+        buffer[8 + 56 * 256 + 7] = 0;
     return w;
 }
 

@@ -28,6 +28,9 @@ struct ollskuvan_walked reader_walk_back(const uint8_t *, size_t, uint64_t, uint
     uint64_t, uint64_t, uint32_t, uint64_t, uint8_t *, size_t, uint8_t *, size_t);
 struct ollskuvan_walked reader_walk_back_events(const uint8_t *, size_t, uint64_t, const struct ollskuvan_event *, size_t,
     uint32_t, uint64_t, uint8_t *, size_t, uint8_t *, size_t);
+struct ollskuvan_judged reader_check_events(const uint8_t *, size_t, const struct ollskuvan_event *, size_t, uint32_t);
+struct ollskuvan_judged reader_read_events(const uint8_t *, size_t, const struct ollskuvan_event *, size_t, uint32_t,
+    uint64_t *, size_t);
 struct ollskuvan_settings reader_read_store(const uint8_t *, size_t, struct ollskuvan_event *, size_t);
 struct ollskuvan_stored reader_write_store(const struct ollskuvan_event *, size_t, uint64_t, uint32_t, uint32_t, uint8_t *,
     size_t);

@@ -14,8 +14,9 @@
  * What is missing is zero. The control block:
  *   0  the call, modulo TRIED: drain (and read one, and the walk of the ring as a backward one), ringdump, record (check, misc,
  *      name copy, read, write again), write, drain with a table of events (and the same with it, the lookup,
- *      replay, salvage of the bytes, and the ring compared with a copy at other counts, a byte changed), store of settings (read, written again; written
- *      of the table, with the head's ring length or LAID's, the edition and the tail's budget, and read back)
+ *      record check and read of one record with it, replay, salvage of the bytes, and the ring compared with a copy
+ *      at other counts, a byte changed), store of settings (read, written again; written of the table, with the
+ *      head's ring length or LAID's, the edition and the tail's budget, and read back; the table in the old version)
  *   1  flags, see below            2  LAID: the ring's length is 64 << (this modulo 9)
  *   3  what buffers hold before    4, 5  scratch: choice and number; ringdump: 4 cuts the input below 50; salvage: out
  *   6, 7  journal; salvage: list   8  budget: 0 is without end, else this minus 1
@@ -25,8 +26,9 @@
  *   14  room for a written record or store    15  room for a name
  *   16 to 45  three changes of ten bytes: word, what to do, number
  *   16 to 31  replay: what stands before each record of the trace, in turn: nothing, a drain, or another entry
- *   46, 47  with a table: its events, modulo 40, and how many of them are given (0: all): these are the first of the
- *      bytes, 56 each, and the others copies of the last, with identifiers that count up
+ *   46, 47  with a table: its events, modulo 40 (from 200 on: one of MANY), and how many of them are given, modulo 40
+ *      (0: all): these are the first of the bytes, 56 each, and the others copies of the last, with identifiers that
+ *      count up
  * tests/reader/fuzz.rs makes seeds and mutations in this layout.
  */
 #include <inttypes.h>
@@ -43,6 +45,10 @@
 
 enum { CONTROL = 48, BRANCH = 8, HEADER = 50, LONGEST = 65536, FIELDS = OLLSKUVAN_FIELDS };
 enum { TABLED_CALL = 4, STORE_CALL = 5, TRIED = 6 };
+
+/* Numbers of events about the limits of a table, of both versions of a store, and of an index of one byte. */
+static const uint16_t MANY[] = { 31, 32, 33, 34, 255, 256, 257, 258, 300, 500, 1000, 1022, 1023, 1024, 1025, 1026 };
+enum { MANY_EVENTS = 1026, MANIES = sizeof MANY / sizeof MANY[0] };
 
 enum {
     LAID = 1,          /* the bytes are records, laid into a ring from the tail on; else they are the ring */
@@ -75,7 +81,7 @@ static struct {
     uint8_t bytes[LONGEST];
     size_t count;
     int tabled; /* this call has a table */
-    struct ollskuvan_event events[40];
+    struct ollskuvan_event events[MANY_EVENTS];
     size_t event_count;
 } in;
 
@@ -85,11 +91,11 @@ static struct {
 /* ---- What was reached: told to libFuzzer as if it were coverage, and counted for the end's report. ---- */
 
 enum call { DRAIN, PROGRAM, CHECK, COPY, READ, WRITE, MEANING, ONE_STOP, ONE, TABLED, TABLED_RECORD, STORE_READ,
-    STORE_WRITTEN, REPLAY, WALK, TABLED_WALK, SALVAGE, COMPARE, COMPARE_STOP, CALLS };
+    STORE_WRITTEN, REPLAY, WALK, TABLED_WALK, SALVAGE, COMPARE, COMPARE_STOP, TABLED_CHECK, TABLED_READ, CALLS };
 static const char *const call_names[CALLS] = { "drain", "ringdump", "check", "name copy", "read", "write",
     "misc meaning, without the CPU mode,", "read one, its stops:", "read one", "drain with a table", "records under a table",
     "read store", "write store", "replay",
-    "walk", "walk with a table", "salvage", "compare", "compare, its stops:" };
+    "walk", "walk with a table", "salvage", "compare", "compare, its stops:", "check with a table", "read with a table" };
 
 /* by call, type (0, or 22 for every other) and answer */
 enum { TYPES = 23, ANSWERS = 64 };
@@ -465,6 +471,50 @@ static void find_event(uint64_t identifier)
         differs("find event %#" PRIx64 ": library %zu, independent %zu", identifier, library, independent);
 }
 
+static int same_judged(const char *call, struct ollskuvan_judged a, struct ollskuvan_judged b, const uint8_t *record,
+    size_t count)
+{
+    if (a.answer == b.answer && a.inspected == b.inspected)
+        return 1;
+    print_hex("record", record, count);
+    differs("%s with a table: library %" PRIu32 ", %" PRIu32 " inspected; independent %" PRIu32 ", %" PRIu32, call, a.answer,
+        a.inspected, b.answer, b.inspected);
+    return 0;
+}
+
+/* One record with the table: check, and read into so many words. */
+static struct ollskuvan_judged judged(const uint8_t *record, size_t count, size_t words)
+{
+    const struct ollskuvan_event *table = lend_table();
+    const uint8_t *lent = lend(RECORD, record, count);
+    struct ollskuvan_judged library = ollskuvan_check_events(lent, count, table, in.event_count, in.edition);
+
+    same_judged("check", library, reader_check_events(record, count, in.events, in.event_count, in.edition), record, count);
+    reach(TABLED_CHECK, type_of(record, count), library.answer);
+#ifndef WITHOUT_VALUES
+    {
+        uint64_t value[FIELDS + 4];
+        uint8_t *lent_words;
+        struct ollskuvan_judged read;
+        size_t i;
+
+        for (i = 0; i < words; i++)
+            value[i] = UINT64_C(0x0123456789abcdef);
+        lent_words = lend(VALUE, value, 8 * words);
+        read = ollskuvan_read_events(lent, count, table, in.event_count, in.edition, (uint64_t *)(void *)lent_words, words);
+        same_judged("read", read, reader_read_events(record, count, in.events, in.event_count, in.edition, value, words),
+            record, count);
+        is_as(VALUE, lent_words, value, 8 * words, "read with a table: the words of the value");
+        reach(TABLED_READ, type_of(record, count), read.answer);
+    }
+#else
+    (void)words;
+#endif
+    table_is_kept(table);
+    is_kept(RECORD, lent, record, count);
+    return library;
+}
+
 #ifndef WITHOUT_VALUES
 static void print_one(const char *who, const struct ollskuvan_one *one)
 {
@@ -557,6 +607,9 @@ static void take_apart(const struct ring *ring, const uint8_t *journal, uint64_t
             record[k] = ring->bytes[(at + k) % ring->length];
         whole = in.tabled ? answer : check(record, size);
         if (in.tabled) {
+            whole = judged(record, size, FIELDS).answer;
+            if ((whole == OLLSKUVAN_DIRTY_NAME ? OLLSKUVAN_OK : whole) != answer)
+                differs("check with a table does not answer as the journal does: %" PRIu32, answer);
             reach(TABLED_RECORD, type_of(record, size), answer);
         } else if ((whole == OLLSKUVAN_DIRTY_NAME ? OLLSKUVAN_OK : whole) != answer) {
             print_hex("record", record, size);
@@ -566,6 +619,8 @@ static void take_apart(const struct ring *ring, const uint8_t *journal, uint64_t
         struct ollskuvan_one one = read_one(ring, tail, size, FIELDS);
         uint64_t value[FIELDS];
 
+        if (in.tabled && one.inspected != judged(record, size, 0).inspected)
+            differs("read one inspects %" PRIu32 " events, and check others", one.inspected);
         if (one.answer != answer || one.size != size || one.in_scratch != (at + size > ring->length))
             differs("read one gives another record than the journal, whose answer is %" PRIu32, answer);
         if (answer == 0 && !in.tabled)
@@ -764,7 +819,7 @@ static size_t put_between(uint8_t *at, uint8_t choice)
     switch (choice % 8) {
     case 1:
     case 2: return put_entry(at, OLLSKUVAN_KIND_DRAIN, budget, 4);
-    case 3: return choice < 128 ? 0 : put_entry(at, 1 + (choice >> 3) % 3, zeros, (size_t[]){ 2, 49, 13 }[(choice >> 3) % 3]);
+    case 3: return choice < 128 ? 0 : put_entry(at, 1 + (choice >> 3) % 3, zeros, (size_t[]){ 2, 49 + (choice >> 6 & 1), 13 }[(choice >> 3) % 3]);
     case 4: return choice < 192 ? 0 : put_entry(at, choice & 31, zeros, choice & 15);
     default: return 0;
     }
@@ -945,6 +1000,8 @@ static void try_events(void)
     try_replay();
     try_salvage();
     try_compare();
+    judged(in.bytes, in.count, some_words(in.control[11]));
+    judged(in.bytes, in.count < in.control[5] ? in.count : in.control[5], FIELDS);
     for (i = 0; i < in.event_count && i < 4; i++)
         find_event(in.events[i].identifier);
     find_event(in.head);
@@ -1123,7 +1180,7 @@ static void try_write(void)
 
 /* ---- The store of settings. ---- */
 
-enum { ROWS_MOST = 300 };
+enum { ROWS_MOST = MANY_EVENTS };
 static struct ollskuvan_event rows[ROWS_MOST];
 static const size_t ROW = sizeof(struct ollskuvan_event);
 
@@ -1193,27 +1250,67 @@ static size_t store_room(size_t bytes)
     }
 }
 
-/* The input's bytes as a store; what reads is written again by the same bytes. Then its table, written and read back. */
-static void try_store(void)
+static uint8_t back[OLLSKUVAN_STORE_BYTES(ROWS_MOST)];
+
+/* What was read is written again: by the same bytes, if they are of the newest version, else by bytes that read as the same. */
+static void store_again(const struct ollskuvan_settings *s)
 {
     static struct ollskuvan_event kept[ROWS_MOST];
-    size_t room = in.control[11] ? in.control[11] - 1u : ROWS_MOST, bytes = OLLSKUVAN_STORE_BYTES(in.event_count);
+    const int newest = in.bytes[6] == OLLSKUVAN_STORE_VERSION;
+    struct ollskuvan_settings again;
+    struct ollskuvan_stored w;
+
+    memcpy(kept, rows, s->events * ROW);
+    w = write_store(kept, s->events, s->ring_length, s->edition, s->budget, OLLSKUVAN_STORE_BYTES(s->events));
+    if (w.answer != 0 || (newest && (w.bytes != in.count || memcmp(stored, in.bytes, in.count)))) {
+        print_hex("store", in.bytes, in.count);
+        differs("a store that reads is not what is written of it");
+    }
+    memcpy(back, stored, w.bytes);
+    again = read_store(back, w.bytes, s->events);
+    if (!same_settings(&again, s) || memcmp(rows, kept, s->events * ROW)) {
+        print_hex("store", in.bytes, in.count);
+        differs("a store that was read and written reads otherwise");
+    }
+}
+
+/* The table as a store of the version before, laid out here: an index of one byte. */
+static void try_old_store(uint64_t length)
+{
+    const size_t count = in.event_count < 300 ? in.event_count : 300, row = 55;
+    size_t i;
+
+    memset(back, 0, 8 + row * count + 19);
+    back[0] = 8;
+    back[4] = OLLSKUVAN_KIND_VERSION;
+    back[6] = OLLSKUVAN_STORE_OLD_VERSION;
+    for (i = 0; i < count; i++) {
+        back[8 + row * i] = (uint8_t)row;
+        back[8 + row * i + 4] = OLLSKUVAN_KIND_EVENT;
+        back[8 + row * i + 6] = (uint8_t)i;
+        memcpy(back + 8 + row * i + 7, &in.events[i], 48);
+    }
+    back[8 + row * count] = 19;
+    back[8 + row * count + 4] = OLLSKUVAN_KIND_RING;
+    put64(back + 8 + row * count + 6, length);
+    back[8 + row * count + 14] = (uint8_t)in.edition;
+    put64(back + 8 + row * count + 15, in.tail & UINT32_MAX); /* its upper bytes lie behind the store, and are 0 */
+    read_store(back, 8 + row * count + 19, in.control[11] ? in.control[11] - 1u : 300);
+}
+
+/* The input's bytes as a store; what reads is written again. Then its table, written and read back, in either version. */
+static void try_store(void)
+{
+    size_t room = in.control[11] ? in.control[11] - 1u : 300, bytes = OLLSKUVAN_STORE_BYTES(in.event_count);
     uint64_t length = in.control[1] & LAID ? UINT64_C(64) << in.control[2] % 16 : in.head;
     struct ollskuvan_settings s = read_store(in.bytes, in.count, room);
     struct ollskuvan_stored w;
 
-    if (s.answer == 0) {
-        memcpy(kept, rows, s.events * ROW);
-        w = write_store(kept, s.events, s.ring_length, s.edition, s.budget, in.count);
-        if (w.answer != 0 || w.bytes != in.count || memcmp(stored, in.bytes, in.count)) {
-            print_hex("store", in.bytes, in.count);
-            differs("a store that reads is not what is written of it");
-        }
-    }
+    if (s.answer == 0)
+        store_again(&s);
+    try_old_store(length);
     w = write_store(in.events, in.event_count, length, in.edition, (uint32_t)in.tail, store_room(bytes));
     if (w.answer == 0) {
-        uint8_t back[OLLSKUVAN_STORE_BYTES(40)];
-
         memcpy(back, stored, w.bytes);
         s = read_store(back, w.bytes, in.event_count);
         if (s.answer != 0 || s.events != in.event_count || s.ring_length != length || s.edition != in.edition
@@ -1237,7 +1334,9 @@ static void take_table(const uint8_t **data)
     memcpy(in.events, *data, given * sizeof in.events[0]);
     *data += given * sizeof in.events[0];
     in.count -= given * sizeof in.events[0];
-    in.event_count = in.control[47] && given ? in.control[46] % 40 : given;
+    in.event_count = given;
+    if (in.control[47] && given)
+        in.event_count = in.control[46] < 200 ? in.control[46] % 40 : MANY[(in.control[46] - 200) % MANIES];
     for (i = given; i < in.event_count; i++) {
         in.events[i] = in.events[i - 1];
         in.events[i].identifier++;

@@ -2,7 +2,7 @@
 
 use crate::backward::Walked;
 use crate::compare::Compared;
-use crate::events::Event;
+use crate::events::{Event, Judged};
 use crate::replay::Replayed;
 use crate::ring::{Drained, One, Published};
 use crate::rules::Attributes;
@@ -20,6 +20,12 @@ pub struct CDrained {
 pub struct CPublished {
     pub tail: u64,
     pub answer: u32,
+}
+
+#[repr(C)]
+pub struct CJudged {
+    pub answer: u32,
+    pub inspected: u32,
 }
 
 #[repr(C)]
@@ -109,6 +115,14 @@ extern "C" {
         budget: u64, scratch: *mut u8, scratch_len: usize, journal: *mut u8, journal_len: usize,
     ) -> CDrained;
     pub fn ollskuvan_find_event(events: *const Event, event_count: usize, identifier: u64) -> usize;
+    pub fn ollskuvan_check_events(
+        record: *const u8, record_len: usize, events: *const Event, event_count: usize, edition: u32,
+    ) -> CJudged;
+    #[cfg(not(without_values))]
+    pub fn ollskuvan_read_events(
+        record: *const u8, record_len: usize, events: *const Event, event_count: usize, edition: u32, fields: *mut u64,
+        fields_len: usize,
+    ) -> CJudged;
     #[cfg(not(without_values))]
     pub fn ollskuvan_read_one_events(
         ring: *const u8, ring_len: usize, head: u64, tail: u64, events: *const Event, event_count: usize, edition: u32,
@@ -266,6 +280,24 @@ pub fn find_event(words: &[u64], identifier: u64) -> usize {
     unsafe { ollskuvan_find_event(words.as_ptr().cast(), words.len() / 7, identifier) }
 }
 
+pub fn check_events(record: &[u8], words: &[u64], edition: u32) -> Judged {
+    let j = unsafe {
+        ollskuvan_check_events(record.as_ptr(), record.len(), words.as_ptr().cast(), words.len() / 7, edition)
+    };
+    Judged { answer: j.answer, inspected: j.inspected }
+}
+
+#[cfg(not(without_values))]
+pub fn read_events(record: &[u8], words: &[u64], edition: u32, fields: &mut [u64]) -> Judged {
+    let j = unsafe {
+        ollskuvan_read_events(
+            record.as_ptr(), record.len(), words.as_ptr().cast(), words.len() / 7, edition, fields.as_mut_ptr(),
+            fields.len(),
+        )
+    };
+    Judged { answer: j.answer, inspected: j.inspected }
+}
+
 pub fn replay(trace: &[u8], start: u64, words: &[u64], edition: u32, rooms: &mut [u8], journal: &mut [u8]) -> Replayed {
     unsafe {
         ollskuvan_replay(
@@ -333,6 +365,11 @@ pub fn read(_: &[u8], _: &Attributes, _: u32, _: &mut [u64]) -> u32 {
 #[cfg(without_values)]
 pub fn read_one(_: &[u8], _: u64, _: u64, _: &Attributes, _: u32, _: &mut [u8], _: &mut [u64]) -> One {
     panic!("built without ollskuvan_read_one");
+}
+
+#[cfg(without_values)]
+pub fn read_events(_: &[u8], _: &[u64], _: u32, _: &mut [u64]) -> Judged {
+    panic!("built without ollskuvan_read_events");
 }
 
 #[cfg(without_values)]

@@ -5,7 +5,7 @@
 //! and says nothing about the library. Under names of its own (`own_names`: reader_drain and so on) it
 //! stands beside the library in one program: the fuzz target, tests/fuzz.
 
-use crate::abi::{CDrained, CPublished, CSettings, CStored, CWalked, CSalvaged, CCompared};
+use crate::abi::{CDrained, CJudged, CPublished, CSettings, CStored, CWalked, CSalvaged, CCompared};
 use crate::backward::{self, Walked};
 use crate::compare;
 use crate::events::{self, Event};
@@ -109,6 +109,26 @@ pub unsafe extern "C" fn ollskuvan_drain_events(
 #[cfg_attr(not(own_names), no_mangle)]
 pub unsafe extern "C" fn ollskuvan_find_event(table: *const Event, event_count: usize, identifier: u64) -> usize {
     events::find(lent(table, event_count), identifier)
+}
+
+#[cfg_attr(own_names, export_name = "reader_check_events")]
+#[cfg_attr(not(own_names), no_mangle)]
+pub unsafe extern "C" fn ollskuvan_check_events(
+    record: *const u8, record_len: usize, table: *const Event, event_count: usize, edition: u32,
+) -> CJudged {
+    let j = events::check(lent(record, record_len), edition, lent(table, event_count));
+    CJudged { answer: j.answer, inspected: j.inspected }
+}
+
+#[cfg_attr(own_names, export_name = "reader_read_events")]
+#[cfg_attr(not(own_names), no_mangle)]
+pub unsafe extern "C" fn ollskuvan_read_events(
+    record: *const u8, record_len: usize, table: *const Event, event_count: usize, edition: u32, fields: *mut u64,
+    fields_len: usize,
+) -> CJudged {
+    let (record, table) = (lent(record, record_len), lent(table, event_count));
+    let j = events::read(record, edition, table, lent_mut(fields, fields_len));
+    CJudged { answer: j.answer, inspected: j.inspected }
 }
 
 #[cfg_attr(own_names, export_name = "reader_read_one_events")]

@@ -212,7 +212,9 @@ fn mutate_events(r: &mut Random, input: &mut Input) {
     }
     if r.one_in(8) {
         input.control[GIVEN] = r.pick(&[0, 1]);
-        input.control[EVENTS] = r.pick(&[2, 11, 31, 32, 33, 34, 39]);
+        // from 200 on: the target's own choice of many, about 32, 256 and 1,024
+        let many = 200 + r.below(16) as u8;
+        input.control[EVENTS] = r.pick(&[2, 11, 31, 32, 33, 34, 39, many, many]);
         return;
     }
     let at = r.below(count) as usize;

@@ -1,4 +1,4 @@
-//! The seeded generator of stores (document 02, M-103): settings, sound and not, and damage to their bytes.
+//! The seeded generator of stores (document 02, M-103, M-112): settings, sound and not, and damage to their bytes.
 
 use crate::events::Event;
 use crate::made::{some_edition, Random};
@@ -36,19 +36,20 @@ pub fn some_stored_length(r: &mut Random) -> u64 {
 }
 
 fn some_event_count(r: &mut Random, most: usize) -> usize {
-    match r.below(40) {
+    match r.below(80) {
         0 => 0,
         1 => most,
         2 => most + 1,
-        3 => r.pick(&[33, 64, 255, 256, 257, 258, 300]),
-        4 | 5 => 1 + r.below(most as u64) as usize,
+        3 | 4 => r.pick(&[31, 32, 33, 64, 255, 256, 257, 258, 300]),
+        5 => 1 + r.below(most as u64) as usize,
+        6..=9 => 1 + r.below(40) as usize,
         _ => 1 + r.below(4) as usize,
     }
 }
 
-/// Mostly such as can be stored; at times one thing in them, or two, cannot.
-pub fn some_settings(r: &mut Random) -> Settings {
-    let count = some_event_count(r, store::WRITTEN.most);
+/// Mostly such as can be stored in this version; at times one thing in them, or two, cannot.
+pub fn some_settings(r: &mut Random, version: &Version) -> Settings {
+    let count = some_event_count(r, version.most);
     let mut events: Vec<Event> = Vec::new();
     let start = r.next();
     while events.len() < count {
@@ -56,7 +57,7 @@ pub fn some_settings(r: &mut Random) -> Settings {
         if count > 8 {
             event.identifier = start.wrapping_add(events.len() as u64);
         }
-        if events.iter().all(|v| v.identifier != event.identifier) {
+        if count > 8 || events.iter().all(|v| v.identifier != event.identifier) {
             events.push(event);
         }
     }
@@ -162,7 +163,7 @@ fn damage_field(r: &mut Random, bytes: &mut [u8], version: &Version) {
     match r.below(5) {
         0 => {
             let any = r.below(256);
-            let index = r.pick(&[0, 1, 2, 31, 32, 33, 255, any]);
+            let index = r.pick(&[0, 1, 2, 31, 32, 33, 255, 256, 257, 1023, 1024, 65_535, any, 256 * any]);
             put(bytes, row, index, version.index);
         }
         1 => {
@@ -206,7 +207,7 @@ pub fn damage(r: &mut Random, bytes: &mut Vec<u8>) {
             let more = 1 + r.below(30);
             for _ in 0..more {
                 let any = r.next() as u8;
-                bytes.push(r.pick(&[0, 0, 1, 2, 3, 6, 8, 19, 55, any]));
+                bytes.push(r.pick(&[0, 0, 1, 2, 3, 6, 8, 19, 55, 56, any]));
             }
         }
         4 | 5 => damage_order(r, bytes),
@@ -220,7 +221,10 @@ pub fn damage(r: &mut Random, bytes: &mut Vec<u8>) {
             put(bytes, at + HEAD, version, 2);
         }
         9 => damage_body(r, bytes, any),
-        _ => damage_field(r, bytes, &VERSIONS[0]),
+        _ => {
+            let shown = VERSIONS.iter().find(|version| bytes.get(6) == Some(&(version.number as u8)));
+            damage_field(r, bytes, shown.unwrap_or(&VERSIONS[0]));
+        }
     }
 }
 
@@ -231,8 +235,8 @@ pub fn some_store(r: &mut Random) -> Vec<u8> {
         r.fill(&mut bytes);
         return bytes;
     }
-    let settings = some_settings(r);
     let version = &VERSIONS[r.below(VERSIONS.len() as u64) as usize];
+    let settings = some_settings(r, version);
     let mut bytes = store::bytes_of(&settings, version);
     for _ in 0..r.pick(&[0, 0, 1, 1, 1, 1, 2, 3]) {
         damage(r, &mut bytes);

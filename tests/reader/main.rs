@@ -17,6 +17,7 @@ mod exports;
 mod fuzz;
 mod guard;
 mod images;
+mod judged;
 mod made;
 mod made_stores;
 mod meanings;
@@ -54,11 +55,13 @@ reader rings FOLDER                   every record of the real rings is accepted
 reader drains [OPTIONS]               drain, record check and name copy: the library against the independent reader
 reader values [OPTIONS]               read and write: the library against the independent reader and writer
 reader tables [OPTIONS]               drain, reader of one record and lookup with a table of events, compared
+reader judged [OPTIONS]               one record with a table: record check, read, and how many events were inspected; compared
 reader table-rings FOLDER [OPTIONS]   the real rings of several events, each with its NAME.table; then damaged
 reader ones [OPTIONS]                 the reader of one record: the library against the independent reader
 reader series [OPTIONS]               drains cut anywhere against one drain, by the library; --rings FOLDER: real rings too
 reader readers [OPTIONS]              two readers of one ring: the tail for the kernel, and each beside itself alone
 reader stores [OPTIONS]               the store of settings: read and write by the library and by the independent reader
+reader kept-stores FOLDER             kept stores of both versions: what they hold, read, and written again
 reader store-told FILE..              what is wrong with each store, and where, or what it holds: a line each
 reader store-damage FILE FOLDER [OPTIONS]
                                       damaged copies of a store, each to a file of its own
@@ -145,6 +148,7 @@ fn run(command: &str, o: &Options) -> Result<(), String> {
         "rings" => rings(Path::new(o.words.first().ok_or("rings needs a folder")?)),
         "drains" => run_drains(o),
         "tables" => run_tables(o),
+        "judged" => run_judged(o),
         "table-rings" => {
             let folder = Path::new(o.words.first().ok_or("table-rings needs a folder")?);
             tables::rings(folder, o.seed, o.count.unwrap_or(2000))
@@ -153,6 +157,7 @@ fn run(command: &str, o: &Options) -> Result<(), String> {
         "series" => run_series(o),
         "readers" => run_readers(o),
         "stores" => run_stores(o),
+        "kept-stores" => kept_stores(o),
         "store-told" => store_told(o),
         "store-damage" => store_damage(o),
         "replays" => run_replays(o),
@@ -394,6 +399,27 @@ fn run_tables(o: &Options) -> Result<(), String> {
     Ok(())
 }
 
+fn run_judged(o: &Options) -> Result<(), String> {
+    let start = Instant::now();
+    let count = o.count.unwrap_or(100_000);
+    let mut tally = Tally::default();
+    let by_hand = if o.from == 0 { fixed_part("by hand", judged::by_hand, &mut tally)? } else { 0 };
+    run_cases("judged", o, count, &mut tally, judged::one_case)?;
+    for (call, _) in judged::MUST {
+        tally.print_answers(call);
+    }
+    for note in judged::NUMBERS {
+        println!("  {note}: {}", tally.notes.get(note).unwrap_or(&0));
+    }
+    all_reached(judged::missing(&tally), count, 20_000)?;
+    println!(
+        "judged: seed {}, {count} records, {by_hand} by hand, no difference, {:.1} s",
+        o.seed,
+        start.elapsed().as_secs_f64()
+    );
+    Ok(())
+}
+
 fn run_meanings(o: &Options) -> Result<(), String> {
     let count = o.count.unwrap_or(100_000);
     let mut tally = Tally::default();
@@ -462,13 +488,22 @@ fn run_stores(o: &Options) -> Result<(), String> {
     }
     all_reached(stores::missing(&tally), count, 5_000)?;
     println!(
-        "stores: seed {}, {count} made stores, {by_hand} by hand, {changed} changes and cuts of stores of 1, 2 and 32 events; {} \
+        "stores: seed {}, {count} made stores, {by_hand} by hand, {changed} changes and cuts of small stores of both versions; {} \
          that read were written again by the same bytes, {} that were written read back; no difference, {:.1} s",
         o.seed,
         tally.notes.get("stores written again").unwrap_or(&0),
         tally.notes.get("stores read back").unwrap_or(&0),
         start.elapsed().as_secs_f64()
     );
+    Ok(())
+}
+
+fn kept_stores(o: &Options) -> Result<(), String> {
+    let folder = o.words.first().ok_or("kept-stores needs a folder")?;
+    let mut tally = Tally::default();
+    for line in stores::kept(Path::new(folder), &mut tally)? {
+        println!("{line}");
+    }
     Ok(())
 }
 

@@ -8,6 +8,7 @@ use crate::images;
 use crate::made::*;
 use crate::ones;
 use crate::ring::Image;
+use crate::judged;
 use crate::stores;
 use crate::tables;
 use crate::tally::Tally;
@@ -155,6 +156,9 @@ pub fn run(
         for number in done.tables..done.tables + TABLES {
             caught(|| tables::one_case(seed, number, &mut tally)).map_err(|d| again("tables", seed, number, "", d))?;
         }
+        for number in done.tables..done.tables + TABLES {
+            caught(|| judged::one_case(seed, number, &mut tally)).map_err(|d| again("judged", seed, number, "", d))?;
+        }
         done.tables += TABLES;
         for number in done.walks..done.walks + WALKS {
             caught(|| walks::one_case(seed, number, &mut tally)).map_err(|d| again("walks", seed, number, "", d))?;
@@ -186,7 +190,7 @@ pub fn run(
     }
     tally.print_records();
     tally.print_accepted();
-    for call in ["drain", "drain with a table", "walk", "walk with a table", "check", "name copy", "read", "write", "read store", "write store"] {
+    for call in ["drain", "drain with a table", "walk", "walk with a table", "check", "check with a table", "name copy", "read", "read with a table", "write", "read store", "write store"] {
         tally.print_answers(call);
     }
     println!("{}; no difference", done.text(seed, start));

@@ -1,4 +1,4 @@
-//! The store of settings (document 02, M-103): its bytes read and written, and why it is refused.
+//! The store of settings (document 02, M-103, M-112): its bytes read and written, and why it is refused.
 //!
 //! Written from the document and its settled readings alone, as rules.rs and record.rs are.
 
@@ -14,10 +14,12 @@ pub struct Version {
     pub most: usize,
 }
 
-/// "The store's version, a two-byte 1", "its index in one byte", "1 to 32 of them".
-pub const VERSIONS: [Version; 1] = [Version { number: 1, index: 1, most: 32 }];
+/// "The store's version, a two-byte 1", "its index in one byte", "1 to 32 of them"; M-112: "a version 2 store has a
+/// two-byte index in each kind 2 entry", "raise the table limit .. to 1,024", "version 1 keeps its limit of 32".
+pub const VERSIONS: [Version; 2] =
+    [Version { number: 1, index: 1, most: 32 }, Version { number: 2, index: 2, most: 1024 }];
 
-/// The one that is written: the newest.
+/// "New builds read both versions and write version 2."
 pub const WRITTEN: &Version = &VERSIONS[VERSIONS.len() - 1];
 
 /// "An entry is a 4-byte length that covers itself, a 2-byte kind, then the body."

@@ -34,21 +34,48 @@ fn some_identifier(r: &mut Random) -> u64 {
     }
 }
 
-/// As many as a table may have, mostly few.
+/// As many as a table may have, mostly few; at times more than the 32 of M-100.
 fn some_event_count(r: &mut Random) -> usize {
     match r.below(10) {
-        0 => MOST,
+        0 if r.one_in(10) => r.pick(&[33, 64, 255, 256, 257, MOST - 1, MOST, MOST]),
+        0 if r.one_in(10) => 33 + r.below(MOST as u64 - 32) as usize,
+        0 => 32,
         1 => 11,
         2 | 3 => 1,
-        4 => 1 + r.below(MOST as u64) as usize,
+        4 => 1 + r.below(32) as usize,
         _ => 2 + r.below(4) as usize,
     }
+}
+
+/// Of a long table: identifiers that rise, in the same order or not, or any; all different.
+fn many_identifiers(r: &mut Random, count: usize) -> Vec<u64> {
+    let (start, step) = (r.next(), r.pick(&[1, 1, 7, 1 << 13, 1 << 32]));
+    let mut identifiers: Vec<u64> = match r.below(4) {
+        0 => (0..count as u64).map(|i| start.wrapping_add(i + 1).wrapping_mul(0x9e37_79b9_7f4a_7c15)).collect(),
+        _ => (0..count as u64).map(|i| (start >> 24).wrapping_add(i * step)).collect(),
+    };
+    if r.one_in(2) {
+        for at in 0..count {
+            identifiers.swap(at, r.below(count as u64) as usize);
+        }
+    }
+    identifiers
 }
 
 /// A sound table; what its events select beyond bit 16 is anything.
 pub fn sound_table(r: &mut Random, edition_number: u32) -> Vec<Event> {
     let mut table: Vec<Event> = Vec::new();
     let count = some_event_count(r);
+    if count > 32 {
+        let few: Vec<Attributes> = (0..5).map(|_| some_attributes(r, edition_number)).collect();
+        for identifier in many_identifiers(r, count) {
+            let mut event = Event::new(identifier, &r.pick(&few));
+            event.sample_type |= 1 << 16;
+            event.sample_id_all = 1;
+            table.push(event);
+        }
+        return table;
+    }
     let alike = r.one_in(4).then(|| some_attributes(r, edition_number));
     while table.len() < count {
         let mut a = alike.unwrap_or_else(|| some_attributes(r, edition_number));

@@ -112,7 +112,7 @@ impl Tally {
                 }
             }
         }
-        for call in ["drain", "walk", "walk with a table", "check", "name copy", "read one: stop", "read one", "read", "write", "read store", "write store"] {
+        for call in ["drain", "walk", "walk with a table", "check", "name copy", "read one: stop", "read one", "read", "read with a table", "write", "read store", "write store"] {
             if self.answers.contains_key(&(call, 10)) {
                 missing.push(format!("{call} answered 10, a number that is never used again"));
             }

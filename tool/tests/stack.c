@@ -1,11 +1,13 @@
 /*
  * How much stack the calls use, on a stack of their own that was painted before:
  * every record of the given images is drained, checked, read (by its bytes and by
- * its tail), written back and its name copied; drained, read and looked up with the
- * image's table of events, or with a full one where it has none; offered and drained with it in a replay. A store of a full table is written and read, the
- * identifiers rising and not; and walked as those of
- * a backward ring; the ring's bytes as they lie are salvaged with it,
- * and the ring is compared with itself and with copies of it that differ in a byte. Prints the greatest use of each call; more than ollskuvan.h says is a failure.
+ * its tail), written back and its name copied; drained, checked, read and looked up
+ * with the image's table of events, or with a full one where it has none; offered and
+ * drained with it in a replay. A store of a full table is written and read, the
+ * identifiers rising and not; and walked as those of a backward ring; the ring's bytes
+ * as they lie are salvaged with it, and the ring is compared with itself and with
+ * copies of it that differ in a byte. Prints the greatest use of each call; more than
+ * ollskuvan.h says is a failure.
  */
 #define _XOPEN_SOURCE 700
 #include <inttypes.h>
@@ -18,13 +20,14 @@
 #include "flight.h"
 #include "image.h"
 
-enum { STACK = 1 << 16, MOST = 2560, MOST_OF_STORE = 16640, MOST_OF_DRAIN = 12288 };
+enum { STACK = 1 << 18, MOST = 2560, MOST_OF_STORE = 16640, MOST_WITH_TABLE = 11264, MOST_OF_DRAIN = 163840 };
 enum { NOTHING, DRAIN, CHECK, COPY_NAME, READ, READ_ONE, WRITE, DRAIN_EVENTS, FIND_EVENT, READ_ONE_EVENTS,
     WRITE_STORE, READ_STORE, REPLAY, WALK_BACK,
-    WALK_BACK_EVENTS, SALVAGE, COMPARE, CALLS };
+    WALK_BACK_EVENTS, SALVAGE, COMPARE, CHECK_EVENTS, READ_EVENTS, CALLS };
 
 static const char *const names[CALLS] = { "nothing", "drain", "check", "copy_name", "read", "read_one", "write",
-    "drain_events", "find_event", "read_one_events", "write_store", "read_store", "replay", "walk_back", "walk_back_events", "salvage", "compare" };
+    "drain_events", "find_event", "read_one_events", "write_store", "read_store", "replay", "walk_back", "walk_back_events", "salvage", "compare",
+    "check_events", "read_events" };
 static uint8_t stack[STACK] __attribute__((aligned(64)));
 static size_t used[CALLS];
 static ucontext_t here, there;
@@ -113,6 +116,12 @@ static void make_the_call(void)
     case COMPARE:
         answer = ollskuvan_compare(image->ring, image->length, image->head, image->tail, scratch, sizeof scratch, other,
             image->length, image->head, image->tail, written, sizeof written, events, event_count, image->edition).what;
+        break;
+    case CHECK_EVENTS:
+        answer = ollskuvan_check_events(record, size, events, event_count, image->edition).answer;
+        break;
+    case READ_EVENTS:
+        answer = ollskuvan_read_events(record, size, events, event_count, image->edition, fields, OLLSKUVAN_FIELDS).answer;
         break;
     default:
         nothing();
@@ -241,6 +250,8 @@ static void measure_image(const struct image *of)
         make_trace();
         measure(REPLAY);
         measure(READ_ONE_EVENTS);
+        measure(CHECK_EVENTS);
+        measure(READ_EVENTS);
         measure(READ_ONE);
         measure(CHECK);
         measure(COPY_NAME);
@@ -261,6 +272,14 @@ static size_t most_of(int which)
     case DRAIN_EVENTS:
     case WALK_BACK_EVENTS:
         return MOST_OF_DRAIN;
+    case READ_ONE_EVENTS:
+    case WRITE_STORE:
+    case REPLAY:
+    case SALVAGE:
+    case COMPARE:
+    case CHECK_EVENTS:
+    case READ_EVENTS:
+        return MOST_WITH_TABLE;
     default:
         return MOST;
     }

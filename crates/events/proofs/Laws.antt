@@ -1,14 +1,14 @@
 -- The loops of the lookup and of row 11, and the answer, of plain values. Assumes nothing.
 use mathlib.Core.Path.{_≡_, refl, sym, ap, ap₂, _∙_, subst}
 use mathlib.Core.Bool.{Bool, true, false, not, _&&_, _||_}
-use mathlib.Core.List.{List}
+use mathlib.Core.List.{List, [], _∷_}
 use Prim.Native.Nat.{ℕ, _+_, _-_, _<_, _≤_}
 use native.Mathlib.Numerals.{add-one}
 use native.Mathlib.Omega.{arith}
 use lib.Dec.{leb, ltb, eqb}
 use lib.ListN.{length, getD, drop, drop-of-length-le, length-drop}
 use lib.Seq.{drop-cons}
-use borrow.Author.Tests.{lt-leb, le-leb, lt-ltb, le-ltb, not-true, not-false}
+use borrow.Author.Tests.{lt-leb, le-leb, lt-ltb, le-ltb, ltb-true, ltb-false, not-true, not-false}
 use Rattle.meaning.specs.declared.Known.{Known}
 use Rattle.meaning.specs.Editions.{isIn}
 use Rattle.meaning.specs.Refusals.{first}
@@ -18,7 +18,8 @@ use Rattle.meaning.specs.Events.{noEvent, eventAt, eventOf, eventsOf, identifie
 use Rattle.laws.specs.Lookup.{index-end, index-here, index-next, in-there, in-none, identifiers-length, identifier-at, rows-length, row-at}
 use Rattle.events.specs.declared.Match.{Match}
 use Rattle.events.specs.Match.{matched}
-use Rattle.events.specs.Sound.{sound-short, sound-long}
+use Rattle.events.specs.Rising.{rises}
+use Rattle.events.proofs.Marks.{next-of}
 
 -- ---- the lookup
 
@@ -46,93 +47,70 @@ pub key-at : (rows : List (List ℕ)) (i : ℕ) (d : List ℕ) → i < length ro
 unfolding eventOf
 key-at rows i d h = identifier-at (eventsOf rows) i ∙ ap (λ (v : Event). v .identifier) (row-at rows i d h)
 
--- ---- row 11: along the rows
+-- ---- row 11: what is left from a place on decides
 
-pub distinct-end : (l : List ℕ) (i : ℕ) → length l ≤ i → distinct (drop i l) ≡ true
-unfolding distinct
-distinct-end l i h = ap distinct (drop-of-length-le l h)
+abbrev pub LeftMarked : List (List ℕ) → ℕ → Type 0
+LeftMarked rows i = allMarked (eventsOf rows) ≡ allMarked (drop i (eventsOf rows))
 
-pub distinct-next : (l : List ℕ) (i : ℕ) → i < length l → distinct (drop i l) ≡ (not (isIn (getD l i 0) (drop (i + 1) l)) && distinct (drop (i + 1) l))
-unfolding distinct
-distinct-next l i h =
-    ap distinct (drop-cons l i 0 h) ∙ ap (λ (k : ℕ). not (isIn (getD l i 0) (drop k l)) && distinct (drop k l)) (sym (add-one i))
-
-pub marked-end : (es : List Event) (i : ℕ) → length es ≤ i → allMarked (drop i es) ≡ true
-unfolding allMarked
-marked-end es i h = ap allMarked (drop-of-length-le es h)
-
-pub marked-next : (es : List Event) (i : ℕ) → i < length es → allMarked (drop i es) ≡ (marked (eventAt es i) && allMarked (drop (i + 1) es))
+marked-next : (es : List Event) (i : ℕ) → i < length es → allMarked (drop i es) ≡ (marked (eventAt es i) && allMarked (drop (i + 1) es))
 unfolding allMarked
 marked-next es i h =
     ap allMarked (drop-cons es i noEvent h) ∙ ap (λ (k : ℕ). marked (eventAt es i) && allMarked (drop k es)) (sym (add-one i))
 
--- ---- row 11: the loop over the rows
+pub marked-end : (rows : List (List ℕ)) (i : ℕ) → LeftMarked rows i → length rows ≤ i → true ≡ allMarked (eventsOf rows)
+unfolding allMarked
+marked-end rows i t h =
+    let l : length (eventsOf rows) ≤ i = omega (arith, rows-length rows) in
+    sym (t ∙ ap allMarked (drop-of-length-le (eventsOf rows) l))
 
-and-zero : (b : Bool) → (b && false) ≡ false
-and-zero true = refl
-and-zero false = refl
-
--- the rest decides
-abbrev pub Tested : ℕ → List (List ℕ) → ℕ → Type 0
-Tested limit rows i = sound limit (eventsOf rows) ≡ (allMarked (drop i (eventsOf rows)) && distinct (drop i (keys rows)))
-
-pub few : (limit : ℕ) (rows : List (List ℕ)) → length rows < 1 → false ≡ sound limit (eventsOf rows)
-few limit rows h = sym (sound-short limit (eventsOf rows) (omega (arith, rows-length rows)))
-
-pub many : (limit : ℕ) (rows : List (List ℕ)) → limit < length rows → false ≡ sound limit (eventsOf rows)
-many limit rows h = sym (sound-long limit (eventsOf rows) (omega (arith, rows-length rows)))
-
-pub begins : (limit : ℕ) (rows : List (List ℕ)) → 1 ≤ length rows → length rows ≤ limit → Tested limit rows 0
-unfolding sound
-begins limit rows l h =
-    let n : 1 ≤ length (eventsOf rows) = omega (arith, rows-length rows) in
-    let m : length (eventsOf rows) ≤ limit = omega (arith, rows-length rows) in
-    rw (le-leb 1 (length (eventsOf rows)) n, le-leb (length (eventsOf rows)) limit m) refl
-
-pub ends : (limit : ℕ) (rows : List (List ℕ)) (i : ℕ) → Tested limit rows i → length rows ≤ i → true ≡ sound limit (eventsOf rows)
-ends limit rows i t h =
-    sym (t ∙ ap₂ (λ (x y : Bool). x && y) (marked-end (eventsOf rows) i (omega (arith, rows-length rows))) (distinct-end (keys rows) i (omega (arith, keys-length rows))))
-
-module _ (limit : ℕ) (rows : List (List ℕ)) (i : ℕ) (d : List ℕ) (t : Tested limit rows i) (h : i < length rows) where
-  at : i < length (eventsOf rows)
-  at = omega (arith, rows-length rows)
-
-  at-key : i < length (keys rows)
-  at-key = omega (arith, keys-length rows)
-
+module _ (rows : List (List ℕ)) (i : ℕ) (d : List ℕ) (t : LeftMarked rows i) (h : i < length rows) (b : Bool) (e : b ≡ marked (eventOf (getD rows i d))) where
   -- this row, and the rest
-  turn : sound limit (eventsOf rows)
-      ≡ ((marked (eventOf (getD rows i d)) && allMarked (drop (i + 1) (eventsOf rows)))
-      && (not (isIn (getD (getD rows i d) 0 0) (drop (i + 1) (keys rows))) && distinct (drop (i + 1) (keys rows))))
+  turn : allMarked (eventsOf rows) ≡ (b && allMarked (drop (i + 1) (eventsOf rows)))
   turn =
       t
-      ∙ ap₂ (λ (x y : Bool). x && y)
-      (marked-next (eventsOf rows) i at ∙ ap (λ (v : Event). marked v && allMarked (drop (i + 1) (eventsOf rows))) (row-at rows i d h))
-      (distinct-next (keys rows) i at-key
-      ∙ ap (λ (x : ℕ). not (isIn x (drop (i + 1) (keys rows))) && distinct (drop (i + 1) (keys rows))) (key-at rows i d h))
+      ∙ marked-next (eventsOf rows) i (omega (arith, rows-length rows))
+      ∙ ap (λ (x : Bool). x && allMarked (drop (i + 1) (eventsOf rows))) (ap marked (row-at rows i d h) ∙ sym e)
 
-  rest-length : length (drop (i + 1) (keys rows)) ≡ length rows - (i + 1)
-  rest-length = length-drop (i + 1) (keys rows) ∙ ap (λ (n : ℕ). n - (i + 1)) (keys-length rows)
+  pub marked-not : not b ≡ true → false ≡ allMarked (eventsOf rows)
+  marked-not g = sym (turn ∙ ap (λ (x : Bool). x && allMarked (drop (i + 1) (eventsOf rows))) (not-true b g))
 
-  pub unmarked : (b : Bool) → b ≡ marked (eventOf (getD rows i d)) → not b ≡ true → false ≡ sound limit (eventsOf rows)
-  unmarked b e g =
-      let m : marked (eventOf (getD rows i d)) ≡ false = sym e ∙ not-true b g in
-      sym (turn ∙ ap (λ (x : Bool). (x && allMarked (drop (i + 1) (eventsOf rows))) && (not (isIn (getD (getD rows i d) 0 0) (drop (i + 1) (keys rows))) && distinct (drop (i + 1) (keys rows)))) m)
+  pub marked-on : not b ≡ false → LeftMarked rows (i + 1)
+  marked-on g = turn ∙ ap (λ (x : Bool). x && allMarked (drop (i + 1) (eventsOf rows))) (not-false b g)
 
-  pub double : (j : ℕ) → j ≡ i + 1 + indexOf (getD (getD rows i d) 0 0) (drop (i + 1) (keys rows)) → j < length rows → false ≡ sound limit (eventsOf rows)
-  double j e g =
-      let x : ℕ = getD (getD rows i d) 0 0 in
-      let n : isIn x (drop (i + 1) (keys rows)) ≡ true = in-there x (drop (i + 1) (keys rows)) (omega (arith, rest-length, e)) in
-      sym (turn ∙ ap (λ (b : Bool). (marked (eventOf (getD rows i d)) && allMarked (drop (i + 1) (eventsOf rows))) && (not b && distinct (drop (i + 1) (keys rows)))) n ∙ and-zero (marked (eventOf (getD rows i d)) && allMarked (drop (i + 1) (eventsOf rows))))
+-- ---- identifiers that rise
 
-  pub next : (b : Bool) → b ≡ marked (eventOf (getD rows i d)) → not b ≡ false → (j : ℕ)
-      → j ≡ i + 1 + indexOf (getD (getD rows i d) 0 0) (drop (i + 1) (keys rows)) → length rows ≤ j → Tested limit rows (i + 1)
-  next b f g j e l =
-      let x : ℕ = getD (getD rows i d) 0 0 in
-      let m : marked (eventOf (getD rows i d)) ≡ true = sym f ∙ not-false b g in
-      let n : isIn x (drop (i + 1) (keys rows)) ≡ false = in-none x (drop (i + 1) (keys rows)) (omega (arith, rest-length, e)) in
-      turn
-      ∙ ap₂ (λ (p q : Bool). (p && allMarked (drop (i + 1) (eventsOf rows))) && (not q && distinct (drop (i + 1) (keys rows)))) m n
+two-of : (l : List ℕ) (i : ℕ) → i + 1 < length l → drop i l ≡ getD l i 0 ∷ getD l (i + 1) 0 ∷ drop (i + 1 + 1) l
+two-of l i h = next-of l i 0 (omega arith) ∙ ap (λ (k : List ℕ). getD l i 0 ∷ k) (next-of l (i + 1) 0 h)
+
+pub rises-not : (l : List ℕ) (i : ℕ) → i + 1 < length l → getD l (i + 1) 0 ≤ getD l i 0 → rises (drop i l) ≡ false
+unfolding rises
+rises-not l i h e =
+    ap rises (two-of l i h) ∙ ap (λ (b : Bool). b && rises (getD l (i + 1) 0 ∷ drop (i + 1 + 1) l)) (le-ltb (getD l i 0) (getD l (i + 1) 0) e)
+
+pub rises-next : (l : List ℕ) (i : ℕ) → i + 1 < length l → getD l i 0 < getD l (i + 1) 0 → rises (drop i l) ≡ rises (drop (i + 1) l)
+unfolding rises
+rises-next l i h e =
+    ap rises (two-of l i h)
+    ∙ ap (λ (b : Bool). b && rises (getD l (i + 1) 0 ∷ drop (i + 1 + 1) l)) (lt-ltb (getD l i 0) (getD l (i + 1) 0) e)
+    ∙ ap rises (sym (next-of l (i + 1) 0 h))
+
+rises-short : (l : List ℕ) → length l ≤ 1 → rises l ≡ true
+unfolding rises
+rises-short [] h = refl
+rises-short (x ∷ []) h = refl
+rises-short (x ∷ y ∷ l) h = absurd (omega arith)
+
+pub rises-end : (l : List ℕ) (i : ℕ) → length l ≤ i + 1 → rises (drop i l) ≡ true
+rises-end l i h = rises-short (drop i l) (omega (arith, length-drop i l))
+
+-- ---- is it the identifier of a row from a place on?
+
+pub met-there : (x : ℕ) (l : List ℕ) (from j n : ℕ) → j ≡ from + indexOf x (drop from l) → length l ≡ n → ltb j n ≡ isIn x (drop from l)
+met-there x l from j n e h = by (ltb j n) refl
+  where
+    by : (b : Bool) → ltb j n ≡ b → b ≡ isIn x (drop from l)
+    by true q = sym (in-there x (drop from l) (omega (arith, length-drop from l, ltb-true j n q)))
+    by false q = sym (in-none x (drop from l) (omega (arith, length-drop from l, ltb-false j n q)))
 
 -- ---- where a record's event stands
 

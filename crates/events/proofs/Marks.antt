@@ -120,3 +120,8 @@ behind-next l seen i h p e =
         sym (ap (isIn (getD l (i - 1) 0)) (part-end l i))
         ∙ sym (ap (λ (t : Bool). not t && isIn (getD l (i - 1) 0) (take (length l - i) (drop i l))) q)
         ∙ e
+
+-- the same test with the identifier and what is behind it as a walk over rows has them
+pub row-met : (l seen : List ℕ) (i x : ℕ) (b : Bool) → x ≡ getD l (i - 1) 0 → b ≡ (not (eqb (getD seen (x % 8192) 0) 0) && isIn x (drop i l)) → isMet l seen i ≡ b
+row-met l seen i x b e h =
+    sym (h ∙ (λ j. not (eqb (getD seen (e j % 8192) 0) 0) && isIn (e j) (sym (part-end l i) j)))

@@ -1,27 +1,41 @@
 -- Where a record's event stands, or why it has none: a definition, and laws of it. Assumes nothing.
-use mathlib.Core.Path.{_≡_, refl, ap, sym, _∙_, subst}
-use Prim.Native.Nat.{ℕ, _<_}
+use mathlib.Core.Path.{_≡_, refl, ap, ap₂, sym, _∙_, subst}
+use Prim.Native.Nat.{ℕ, _+_, _<_, _≤_}
 use native.Mathlib.Omega.{arith}
 use mathlib.Core.Bool.{Bool, true, false, cond, not, _&&_, _||_}
 use mathlib.Core.List.{List}
 use lib.Dec.{leb, ltb, eqb}
 use lib.ListN.{length}
-use borrow.Author.Tests.{eq-eqb, ne-eqb}
+use borrow.Author.Tests.{eq-eqb, ne-eqb, eqb-true}
 use Rattle.meaning.specs.declared.Attributes.{Attributes}
 use Rattle.meaning.specs.declared.Event.{Event}
 use Rattle.meaning.specs.declared.Known.{Known}
 use Rattle.meaning.specs.Refusals.{first, orElse}
 use Rattle.meaning.specs.Editions.{knows, sampleBit, isIn}
 use Rattle.meaning.specs.Records.{layout, kindOf, judge}
-use Rattle.meaning.specs.Events.{attributesOf, eventAt, identifiers, identifierOf, indexFor, hasEvent, layoutFor, unmatched, judgeEvents}
+use Rattle.meaning.specs.Events.{attributesOf, eventAt, identifiers, identifierOf, indexFor, hasEvent, layoutFor, unmatched, judgeEvents, inspected}
 use Rattle.laws.specs.Bytes.{apart, and-true}
 use Rattle.laws.specs.Lookup.{identifiers-length, index-in}
 use Rattle.laws.specs.Matched.{judge-matched}
+use Rattle.laws.specs.Inspected.{inspected-is}
 use Rattle.events.specs.declared.Match.{Match}
 
 -- 20, 21 by the edition, 27 or 26 with index 0; else 0 with the index of the first event that has the record's identifier
 unfoldable pub matched : Known → List Event → List ℕ → Match
 matched k es r = record { answer = unmatched k es r; index = cond (eqb (unmatched k es r) 0) (indexFor es r) 0 }
+
+-- how many events were inspected for that, of a table of n (M-112)
+unfoldable pub inspectedBy : Match → ℕ → ℕ
+inspectedBy m n = cond (eqb (m .answer) 0) (m .index + 1) (cond (eqb (m .answer) 26) n 0)
+
+pub inspected-by : (k : Known) (es : List Event) (r : List ℕ) (m : Match) → m ≡ matched k es r → (n : ℕ) → n ≡ length es → inspectedBy m n ≡ inspected k es r
+unfolding inspectedBy matched
+inspected-by k es r m e n l = ap₂ inspectedBy e l ∙ by (eqb (unmatched k es r) 0) ∙ sym (inspected-is k es r)
+  where
+    by : (b : Bool) → cond b (cond b (indexFor es r) 0 + 1) (cond (eqb (unmatched k es r) 26) (length es) 0)
+        ≡ cond b (indexFor es r + 1) (cond (eqb (unmatched k es r) 26) (length es) 0)
+    by true = refl
+    by false = refl
 
 -- ---- what is refused has no event; what is not has one, in the table
 
@@ -74,3 +88,16 @@ module _ (k : Known) (es : List Event) (r : List ℕ) (m : Match) (e : m ≡ mat
     match-own a ea =
         ap (λ (b : Attributes). judge (layout k b) r) (ea ∙ match-event)
         ∙ sym (judge-matched k es r ∙ ap (λ (b : Bool). cond b (judge (layoutFor k es r) r) (unmatched k es r)) (eq-eqb (unmatched k es r) 0 none))
+
+-- the index is in the table, or 0
+index-none : (k : Known) (es : List Event) (r : List ℕ) (m : Match) → m ≡ matched k es r → eqb (m .answer) 0 ≡ false → m .index ≡ 0
+unfolding matched
+index-none k es r m e h =
+    ap (λ (x : Match). x .index) e ∙ ap (λ (b : Bool). cond b (indexFor es r) 0) (sym (ap (λ (x : Match). eqb (x .answer) 0) e) ∙ h)
+
+pub match-most : (k : Known) (es : List Event) (r : List ℕ) (m : Match) → m ≡ matched k es r → m .index ≤ length es
+match-most k es r m e = by (eqb (m .answer) 0) refl
+  where
+    by : (b : Bool) → eqb (m .answer) 0 ≡ b → m .index ≤ length es
+    by true h = omega (arith, match-there k es r m e (eqb-true (m .answer) 0 h))
+    by false h = omega (arith, index-none k es r m e h)

@@ -6,8 +6,9 @@ ghost use lib.Dec.{eqb};
 ghost use lib.ListN.{length, drop};
 ghost use Rattle.meaning.specs.Editions.{editions, known, isIn};
 ghost use Rattle.meaning.specs.Records.{kindOf};
-ghost use Rattle.meaning.specs.Events.{attributesOf, identifiers, eventAt, eventOf, eventsOf, marked, distinct, sound, identifierOf, indexOf, judgeEvents};
-ghost use Rattle.events.specs.Match.{matched};
+ghost use Rattle.meaning.specs.Events.{attributesOf, identifiers, eventAt, eventOf, eventsOf, marked, allMarked, distinct, sound, identifierOf, indexOf, judgeEvents};
+ghost use Rattle.events.specs.Match.{matched, inspectedBy};
+ghost use Rattle.events.specs.Rising.{rises};
 use meaning::Attributes;
 use meaning::Event;
 
@@ -132,8 +133,65 @@ fn marked(v: Event) -> bool
 
 // ---- row 11
 
+// Sample bit 16 and sample_id_all of each.
+fn all_marked(rows: &[[u64; 7]]) -> bool
+    ensures { λ r. ⌜ r ≡ allMarked (eventsOf (now (rows .entry))) ⌝ }
+{
+    let mut i = 0;
+    while i < rows.len() {
+        let row = rows[i];
+        if !marked(event_of(row)) {
+            return false;
+        }
+        i += 1;
+    }
+    true
+}
+
+// Does each identifier exceed the one before it?
+fn rises(rows: &[[u64; 7]]) -> bool
+    ensures { λ r. ⌜ r ≡ rises (identifiers (eventsOf (now (rows .entry)))) ⌝ }
+{
+    let mut i = 0;
+    while i + 1 < rows.len() {
+        if rows[i + 1][0] <= rows[i][0] {
+            return false;
+        }
+        i += 1;
+    }
+    true
+}
+
+// Is x the identifier of a row from `from` on? Asked only where there is a mark.
+fn met_from(rows: &[[u64; 7]], from: usize, x: u64, mark: u8) -> bool
+    ensures { λ r. ⌜ r ≡ (not (eqb mark 0) && isIn x (drop from (identifiers (eventsOf (now (rows .entry)))))) ⌝ }
+{
+    if mark == 0 {
+        return false;
+    }
+    find_from(rows, from, x) < rows.len()
+}
+
+// Are no two identifiers equal? As `distinct` does it, over rows: no copy of the identifiers, and no bound on their number.
+fn apart(rows: &[[u64; 7]]) -> bool
+    ensures { λ r. ⌜ r ≡ distinct (identifiers (eventsOf (now (rows .entry)))) ⌝ }
+{
+    let mut seen = [0u8; 8192];
+    let mut i = rows.len();
+    while 0 < i {
+        let x = rows[i - 1][0];
+        let h = (x % 8192) as usize;
+        if met_from(rows, i, x, seen[h]) {
+            return false;
+        }
+        seen[h] = 1;
+        i -= 1;
+    }
+    true
+}
+
 // "if its length is outside that range, if two identifiers are equal, or if an event lacks sample bit 16 or sample_id_all".
-// Each row is looked for in the rows after it.
+// Identifiers as a kernel hands them out rise, and then each is compared with one other.
 pub fn sound(rows: &[[u64; 7]], limit: usize) -> bool
     ensures { λ r. ⌜ r ≡ sound limit (eventsOf (now (rows .entry))) ⌝ }
 {
@@ -144,18 +202,13 @@ pub fn sound(rows: &[[u64; 7]], limit: usize) -> bool
     if limit < n {
         return false;
     }
-    let mut i = 0;
-    while i < n {
-        let row = rows[i];
-        if !marked(event_of(row)) {
-            return false;
-        }
-        if find_from(rows, i + 1, row[0]) < n {
-            return false;
-        }
-        i += 1;
+    if !all_marked(rows) {
+        return false;
     }
-    true
+    if rises(rows) {
+        return true;
+    }
+    apart(rows)
 }
 
 // ---- the answer
@@ -204,6 +257,21 @@ pub fn match_event(r: &[u8], e: u64, rows: &[[u64; 7]]) -> Match
         };
     }
     Match { answer: 0, index }
+}
+
+// "the number inspected .. equals the entry's index plus one, the table's length for 26, and 0 without a lookup" (M-112), in a
+// table of n events.
+pub fn inspected(m: Match, n: usize) -> u32
+    requires { ⌜ (m .index ≤ 1024) × (n ≤ 1024) ⌝ }
+    ensures { λ r. ⌜ r ≡ inspectedBy m n ⌝ }
+{
+    if m.answer == 0 {
+        return (m.index + 1) as u32;
+    }
+    if m.answer == 26 {
+        return n as u32;
+    }
+    0
 }
 
 // The answer of a record under a table: what the match says, then the event's own checks.

@@ -22,3 +22,4 @@ pub mod Named
 pub mod Numbers
 pub mod Lookup
 pub mod Matched
+pub mod Inspected

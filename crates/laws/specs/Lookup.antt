@@ -12,7 +12,7 @@ use borrow.Author.Tests.{eq-eqb, ne-eqb, eqb-true, eqb-false, lt-ltb, le-ltb, lt
 use Rattle.meaning.specs.Editions.{isIn}
 use Rattle.laws.specs.Bytes.{apart, and-true}
 use Rattle.meaning.specs.declared.Event.{Event}
-use Rattle.meaning.specs.Events.{noEvent, eventAt, eventOf, eventsOf, identifiers, distinct, marked, allMarked, indexOf}
+use Rattle.meaning.specs.Events.{noEvent, eventAt, eventOf, eventsOf, identifiers, distinct, marked, allMarked, indexOf, seen}
 
 -- ---- over a place in the list
 pub index-end : (x : ℕ) (l : List ℕ) (i : ℕ) → length l ≤ i → indexOf x (drop i l) ≡ 0
@@ -30,7 +30,6 @@ index-next x l i h e =
 
 -- ---- is it there, and where
 
--- kept: the bound of the number inspected (M-112)
 pub index-most : (x : ℕ) (l : List ℕ) → indexOf x l ≤ length l
 unfolding indexOf
 index-most x [] = omega arith
@@ -73,7 +72,7 @@ in-there x l h = in-index x l ∙ lt-ltb (indexOf x l) (length l) h
 pub in-none : (x : ℕ) (l : List ℕ) → length l ≤ indexOf x l → isIn x l ≡ false
 in-none x l h = in-index x l ∙ le-ltb (indexOf x l) (length l) h
 
--- what stands at that index is x. kept: for the number inspected (M-112)
+-- what stands at that index is x
 pub index-is : (x : ℕ) (l : List ℕ) → indexOf x l < length l → getD l (indexOf x l) 0 ≡ x
 unfolding indexOf
 index-is x [] h = absurd (omega arith)
@@ -83,6 +82,36 @@ index-is x (y ∷ ys) h = by (eqb y x) refl h (index-is x ys)
         → getD (y ∷ ys) (cond b 0 (suc (indexOf x ys))) 0 ≡ x
     by true e g r = eqb-true y x e
     by false e g r = r (omega arith)
+
+-- ---- how many are inspected (M-112)
+
+-- "equals the entry's index plus one"
+seen-at : (x : ℕ) (l : List ℕ) → indexOf x l < length l → seen x l ≡ indexOf x l + 1
+unfolding indexOf seen
+seen-at x [] h = absurd (omega arith)
+seen-at x (y ∷ ys) h = by (eqb y x) h (seen-at x ys)
+  where
+    by : (b : Bool) → cond b 0 (suc (indexOf x ys)) < suc (length ys) → (indexOf x ys < length ys → seen x ys ≡ indexOf x ys + 1)
+        → suc (cond b 0 (seen x ys)) ≡ cond b 0 (suc (indexOf x ys)) + 1
+    by true g r = refl
+    by false g r = omega (arith, r (omega arith))
+
+pub seen-found : (x : ℕ) (l : List ℕ) → isIn x l ≡ true → seen x l ≡ indexOf x l + 1
+seen-found x l h = seen-at x l (index-in x l h)
+
+-- "the table's length for 26"
+seen-end : (x : ℕ) (l : List ℕ) → length l ≤ indexOf x l → seen x l ≡ length l
+unfolding indexOf seen
+seen-end x [] h = refl
+seen-end x (y ∷ ys) h = by (eqb y x) h (seen-end x ys)
+  where
+    by : (b : Bool) → suc (length ys) ≤ cond b 0 (suc (indexOf x ys)) → (length ys ≤ indexOf x ys → seen x ys ≡ length ys)
+        → suc (cond b 0 (seen x ys)) ≡ suc (length ys)
+    by true g r = absurd (omega arith)
+    by false g r = omega (arith, r (omega arith))
+
+pub seen-none : (x : ℕ) (l : List ℕ) → isIn x l ≡ false → seen x l ≡ length l
+seen-none x l h = seen-end x l (ltb-false (indexOf x l) (length l) (sym (in-index x l) ∙ h))
 
 -- ---- the events of a list
 pub identifiers-length : (es : List Event) → length (identifiers es) ≡ length es

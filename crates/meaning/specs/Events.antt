@@ -1,5 +1,5 @@
--- Several events in one ring: a table of events, the identifier of a record, its event, the answer under a table, row 11; the drain and the reader of one
--- record with a table. Assumes nothing: these are definitions.
+-- Several events in one ring: a table of events, the identifier of a record, its event, the answer under a table, row 11; the drain, the reader of one
+-- record and record check with a table. Assumes nothing: these are definitions.
 use Prim.Native.Nat.{ℕ, suc, _-_}
 use mathlib.Core.Bool.{Bool, true, false, cond, not, _&&_, _||_}
 use mathlib.Core.List.{List, [], _∷_, map}
@@ -8,13 +8,14 @@ use lib.ListN.{length, getD}
 use Rattle.meaning.specs.declared.Attributes.{Attributes}
 use Rattle.meaning.specs.declared.Event.{Event}
 use Rattle.meaning.specs.declared.Frame.{Frame}
+use Rattle.meaning.specs.declared.Judged.{Judged}
 use Rattle.meaning.specs.declared.Known.{Known}
 use Rattle.meaning.specs.declared.One.{One}
-use Rattle.meaning.specs.Bytes.{bit, numberAt}
-use Rattle.meaning.specs.Refusals.{Refusal, refusal, first}
+use Rattle.meaning.specs.Bytes.{bit, numberAt, put}
+use Rattle.meaning.specs.Refusals.{Refusal, refusal, first, orElse}
 use Rattle.meaning.specs.Editions.{known, allowed, Thing, kind, sampleBit, knows, when, depends, isIn}
-use Rattle.meaning.specs.Records.{Layout, layout, kindOf, miscOf, judge}
-use Rattle.meaning.specs.Values.{recordWords}
+use Rattle.meaning.specs.Records.{Layout, layout, kindOf, miscOf, judge, checkedBy, flagOf}
+use Rattle.meaning.specs.Values.{valueWords, recordWords}
 use Rattle.meaning.specs.Ring.{Asked, askingWith, frame, recordAt, scratchAfter, takenBy, notTaken}
 use Rattle.meaning.specs.Drain.{End, start, run}
 
@@ -69,12 +70,12 @@ unfoldable pub allMarked : List Event → Bool
 allMarked [] = true
 allMarked (v ∷ vs) = marked v && allMarked vs
 
--- "1 to 32 of them": the limit is an argument
+-- "1 to 32 of them", and with M-112 "to 1,024": the limit is an argument
 unfoldable pub sound : ℕ → List Event → Bool
 sound limit es = (leb 1 (length es) && leb (length es) limit) && (allMarked es && distinct (identifiers es))
 
 abbrev pub eventLimit : ℕ
-eventLimit = 32
+eventLimit = 1024
 
 -- what the rows of a call with a table ask: the rows themselves are those of every call
 abbrev pub askedEvents : ℕ → List Known → ℕ → List Event → Asked
@@ -90,6 +91,11 @@ identifierOf r = cond (eqb (kindOf r) 9) (numberAt 8 r 8) (numberAt 8 r (length 
 unfoldable pub indexOf : ℕ → List ℕ → ℕ
 indexOf x [] = 0
 indexOf x (y ∷ ys) = cond (eqb y x) 0 (suc (indexOf x ys))
+
+-- "Entries are inspected from index 0 upward until one matches" (M-112): how many
+unfoldable pub seen : ℕ → List ℕ → ℕ
+seen x [] = 0
+seen x (y ∷ ys) = suc (cond (eqb y x) 0 (seen x ys))
 
 -- where the record's event stands, and the event
 abbrev pub indexFor : List Event → List ℕ → ℕ
@@ -123,6 +129,11 @@ unmatched k es r = first (gate k (kindOf r)) (first (eventless es r) 0)
 -- "then the event's own checks from 21 on": 20 was asked before
 unfoldable pub judgeEvents : Known → List Event → List ℕ → ℕ
 judgeEvents k es r = first (gate k (kindOf r)) (first (eventless es r) (judge (layoutFor k es r) r))
+
+-- "the number inspected is reported with the answer and equals the entry's index plus one, the table's length for 26, and 0 without a lookup": 20, 21
+-- by the edition and 27 come before the lookup
+unfoldable pub inspected : Known → List Event → List ℕ → ℕ
+inspected k es r = cond (eqb (first (gate k (kindOf r)) 0) 0 && leb 16 (length r)) (seen (identifierOf r) (identifiers es)) 0
 
 -- on what the reading depends: "type and bit 16 alone" where the record has no event, else what its event's reading does too
 unfoldable pub eventDepends : List Event → List ℕ → List Thing
@@ -159,3 +170,38 @@ oneEventsScratch limit rows e es ring head tail scratch =
     cond (oneEventsFrame limit rows e es ring head tail scratch .go)
     (scratchAfter ring (oneEventsFrame limit rows e es ring head tail scratch .place) (oneEventsFrame limit rows e es ring head tail scratch .size) scratch)
     scratch
+
+-- ---- record check with a table (M-112)
+
+-- 2, 11, then 7, 6, 7 as record check has them; 0 where the record's bytes are looked at
+unfoldable pub unasked : ℕ → List Known → ℕ → List Event → List ℕ → ℕ
+unasked limit rows e es xs =
+    first (refusal (not (allowed rows e)) 2 ∷ refusal (not (sound limit es)) 11 ∷ []) (checkedBy (λ (ys : List ℕ). 0) xs)
+
+-- the answer that record check with a table shares with the reader of a record's words
+unfoldable pub checkEvents : ℕ → List Known → ℕ → List Event → List ℕ → ℕ
+checkEvents limit rows e es xs = orElse (unasked limit rows e es xs) (judgeEvents (known rows e) es xs)
+
+-- "0 without a lookup": 2, 11, 7 and 6 come before it
+unfoldable pub checkInspected : ℕ → List Known → ℕ → List Event → List ℕ → ℕ
+checkInspected limit rows e es xs = cond (eqb (unasked limit rows e es xs) 0) (inspected (known rows e) es xs) 0
+
+abbrev pub judged : ℕ → ℕ → Judged
+judged answer inspected = record { answer = answer; inspected = inspected }
+
+-- record check's 44 in place of 0, by the flag of the record under its event's attributes
+unfoldable pub recordCheckEvents : ℕ → List Known → ℕ → List Event → List ℕ → Judged
+recordCheckEvents limit rows e es xs =
+    judged
+    (orElse (checkEvents limit rows e es xs) (cond (eqb (flagOf (layoutFor (known rows e) es xs) xs) 0) 0 44))
+    (checkInspected limit rows e es xs)
+
+-- the reader into lent words: no 44; 40 if there are fewer than 56 of them, and the number inspected is told all the same
+unfoldable pub readEvents : ℕ → List Known → ℕ → List Event → List ℕ → List ℕ → Judged
+readEvents limit rows e es xs words =
+    judged (orElse (checkEvents limit rows e es xs) (cond (leb valueWords (length words)) 0 40)) (checkInspected limit rows e es xs)
+
+-- refused: unchanged; accepted: the first 56 are those of the record under its event's attributes, the rest unchanged
+unfoldable pub readEventsWords : ℕ → List Known → ℕ → List Event → List ℕ → List ℕ → List ℕ
+readEventsWords limit rows e es xs words =
+    cond (eqb (readEvents limit rows e es xs words .answer) 0) (put words 0 (recordWords (layoutFor (known rows e) es xs) xs)) words

@@ -104,16 +104,20 @@ unfoldable pub judge : Layout → List ℕ → ℕ
 judge lay xs =
     orElse (lay .unknown (kindOf xs) (miscOf xs)) (fieldsAnswer (lay .body (kindOf xs) (miscOf xs)) (room (lay .trail (kindOf xs))) xs)
 
--- "7 if the slice is shorter than 8; 6; 7 if the size differs from the slice's length; 20 to 33; otherwise 0"
-unfoldable pub checkBy : Layout → List ℕ → ℕ
-checkBy lay xs =
+-- "7 if the slice is shorter than 8; 6; 7 if the size differs from the slice's length"; then an answer for the record's bytes
+abbrev pub checkedBy : (List ℕ → ℕ) → List ℕ → ℕ
+checkedBy answer xs =
     cond (leb 8 (length xs))
     (cond (leb 8 (sizeOf xs) && eqb (sizeOf xs % 8) 0)
     (cond (eqb (sizeOf xs) (length xs))
-    (judge lay xs)
+    (answer xs)
     7)
     6)
     7
+
+-- ".. 20 to 33; otherwise 0"
+unfoldable pub checkBy : Layout → List ℕ → ℕ
+checkBy lay xs = checkedBy (judge lay) xs
 
 -- 2, then the above: the answer that record check shares with the readers of a record's words
 unfoldable pub check : List Known → ℕ → Attributes → List ℕ → ℕ

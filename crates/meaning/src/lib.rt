@@ -127,6 +127,13 @@ pub struct One {
     pub words: [u64; 56],
 }
 
+// What is told of a record under a table of events (M-112): its answer, and how many events were inspected to find its own.
+#[repr(C)]
+pub struct Judged {
+    pub answer: u32,
+    pub inspected: u32,
+}
+
 // Bit 13 of misc, by the record's type.
 pub enum Bit13 {
     Nothing,

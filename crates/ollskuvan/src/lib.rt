@@ -6,7 +6,7 @@ ghost use Rattle.meaning.specs.Editions.{editions, known};
 ghost use Rattle.meaning.specs.Misc.{miscMeaning};
 ghost use Rattle.meaning.specs.Records.{recordCheck};
 ghost use Rattle.meaning.specs.Ring.{oneScratch};
-ghost use Rattle.meaning.specs.Events.{eventLimit, eventsOf, askedEvents, oneEventsScratch};
+ghost use Rattle.meaning.specs.Events.{eventLimit, eventsOf, askedEvents, oneEventsScratch, recordCheckEvents, readEvents, readEventsWords};
 ghost use Rattle.meaning.specs.Names.{nameAnswer, nameBuffer};
 ghost use Rattle.record.specs.Into.{readIntoAnswer, readIntoWords};
 ghost use Rattle.one.specs.Told.{oneTold, oneWords};
@@ -21,6 +21,7 @@ ghost use Rattle.salvage.specs.Salvage.{salvageTold, salvageOut, salvageList};
 ghost use Rattle.writer.specs.Writer.{writeWordsAnswer, writeWordsBuffer};
 ghost use Rattle.given.specs.Given.{given};
 use compare::Compared;
+use meaning::Judged;
 use one::OneTold;
 use readers::Published;
 use readers::Readers;
@@ -54,8 +55,8 @@ pub extern "C" fn ollskuvan_read_one(
     one::read_one_into(ring, head, tail, e, a, scratch, fields)
 }
 
-// "1 to 32 of them".
-pub const EVENTS: usize = 32;
+// "1 to 32 of them", and with M-112 up to 1,024.
+pub const EVENTS: usize = 1024;
 
 #[no_mangle]
 pub extern "C" fn ollskuvan_read_one_events(
@@ -261,4 +262,28 @@ pub extern "C" fn ollskuvan_salvage(
 {
     let e = edition as u64;
     salvage::salvage(stream, e, events, EVENTS, out, changes)
+}
+
+// Record check with a table of events, and how many of them were inspected (M-112).
+#[no_mangle]
+pub extern "C" fn ollskuvan_check_events(bytes: &[u8], events: &[[u64; 7]], edition: u32) -> Judged
+    ensures { λ r. ⌜ r ≡ recordCheckEvents eventLimit editions edition (eventsOf (now (events .entry))) (now (bytes .entry)) ⌝ }
+{
+    let e = edition as u64;
+    event_one::check_events(bytes, e, events, EVENTS)
+}
+
+// The words of a record under its event's attributes: as record check with a table, but for 44, where it is 0; then 40.
+#[no_mangle]
+pub extern "C" fn ollskuvan_read_events(
+    bytes: &[u8],
+    events: &[[u64; 7]],
+    edition: u32,
+    fields: &mut [u64],
+) -> Judged
+    ensures { λ r. ⌜ r ≡ readEvents eventLimit editions edition (eventsOf (now (events .entry))) (now (bytes .entry)) (now (fields .entry)) ⌝ }
+    ensures { λ _. ⌜ now (fields .exit) ≡ readEventsWords eventLimit editions edition (eventsOf (now (events .entry))) (now (bytes .entry)) (now (fields .entry)) ⌝ }
+{
+    let e = edition as u64;
+    event_one::read_events(bytes, e, events, EVENTS, fields)
 }

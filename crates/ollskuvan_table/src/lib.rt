@@ -8,8 +8,8 @@ ghost use Rattle.meaning.specs.Backward.{walkTold, walkEvents};
 use meaning::Drained;
 use meaning::Walked;
 
-// "1 to 32 of them"
-const EVENTS: usize = 32;
+// "1 to 32 of them", and with M-112 up to 1,024.
+const EVENTS: usize = 1024;
 
 // With a table of events: C's array of structs of seven 64-bit words, lent as rows of seven words.
 #[no_mangle]

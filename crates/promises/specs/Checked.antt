@@ -103,7 +103,7 @@ checkRows e a xs =
 
 -- ---- rows in general
 
-first-append : (rs ss : List Refusal) (rest : ℕ) → first (rs ++ ss) rest ≡ first rs (first ss rest)
+pub first-append : (rs ss : List Refusal) (rest : ℕ) → first (rs ++ ss) rest ≡ first rs (first ss rest)
 unfolding first
 first-append [] ss rest = refl
 first-append (r ∷ rs) ss rest = ap (λ (k : ℕ). cond (r .holds) (r .number) k) (first-append rs ss rest)
@@ -239,7 +239,7 @@ abbrev pub foremost : ℕ → List Refusal → Bool
 foremost k [] = false
 foremost k (r ∷ rs) = cond (r .holds) (eqb (r .number) k) (foremost k rs)
 
-first-exactly : (k : ℕ) → 0 < k → (rs : List Refusal) → (first rs 0 ≡ k → foremost k rs ≡ true) × (foremost k rs ≡ true → first rs 0 ≡ k)
+pub first-exactly : (k : ℕ) → 0 < k → (rs : List Refusal) → (first rs 0 ≡ k → foremost k rs ≡ true) × (foremost k rs ≡ true → first rs 0 ≡ k)
 unfolding first
 first-exactly k p [] = (λ h. absurd (omega (arith, p, h)), λ h. absurd (apart h))
 first-exactly k p (r ∷ rs) = by (r .holds) (first-exactly k p rs)

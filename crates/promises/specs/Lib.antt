@@ -13,6 +13,7 @@ pub mod Unique
 pub mod Counts
 pub mod Events
 pub mod EventExamples
+pub mod Inspected
 pub mod Series
 pub mod Readers
 pub mod Settings

@@ -2,11 +2,11 @@
 -- replay, and each count that is told a sum over its history (`standing`). Assumes nothing.
 use mathlib.Core.Path.{_≡_, refl, sym, ap, _∙_, subst}
 use mathlib.Core.List.{List, [], _++_}
-use mathlib.Core.Bool.{Bool, true, false, cond}
+use mathlib.Core.Bool.{Bool, true, false, cond, _&&_, _||_}
 use Prim.Native.Nat.{ℕ, suc, _+_, _-_, _%_, _^_, _<_, _≤_}
 use native.Mathlib.Omega.{arith}
 use borrow.Author.Tests.{le-leb, lt-leb, eq-eqb}
-use lib.Dec.{leb}
+use lib.Dec.{leb, eqb}
 use lib.ListN.{length, getD, take, drop, length-append, take-append-drop}
 use Rattle.meaning.specs.declared.Event.{Event}
 use Rattle.meaning.specs.declared.Known.{Known}
@@ -20,6 +20,9 @@ use Rattle.runs.specs.Streams.{joined}
 use Rattle.runs.specs.Scratches.{distance-self}
 use Rattle.runs.specs.Runs.{run-cut}
 use Rattle.runs.specs.Forward.{Counted, run-counted, frame-roomy}
+use Rattle.entries.specs.declared.Entry.{Entry}
+use Rattle.settings.specs.Versions.{versions}
+use Rattle.settings.specs.Reading.{isEventOf, fits}
 use Rattle.promises.specs.Scratch.{liesWhole, drain-all-whole, drain-copied, put-holds}
 use Rattle.replay.specs.declared.Replayed.{Replayed}
 use Rattle.replay.specs.Replay.{Happened, Bench, bench, sum, recordsIn, recordsOut, held, putRound, free, goesIn, goesBy, offer, journalLeft, drainOf, cutsOf, drainsOff, faultAt, Played, played, play, before, replay, half, ofStore, standing, told, roomsOf, replayEvents}
@@ -223,3 +226,18 @@ module _ (asked : Asked) (judge : List ℕ → ℕ) (b : Bench) where
     pub drain-copies-none : All (λ (c : Cut). liesWhole (b .ring) c ≡ true) (cutsOf asked b budget .records) → drainsOff asked judge b budget .scratch ≡ b .scratch
     unfolding drainsOff
     drain-copies-none w = scratch-is ∙ drain-all-whole asked (b .ring) (b .head) hd budget (begin (b .tail) (length (journalLeft b)) (b .scratch)) w
+
+-- ---- the kinds of a store that are out of place in a trace are those that a store's reader knows, of both versions (M-112)
+
+spread : (k a b : Bool) → (k && (a || b)) ≡ ((k && a) || ((k && b) || false))
+spread false a b = refl
+spread true true b = refl
+spread true false true = refl
+spread true false false = refl
+
+pub of-store-fits : (e : Entry) → e .whole ≡ true → ofStore e ≡ fits versions e
+unfolding fits isEventOf
+of-store-fits e h =
+    rw h
+    (ap (λ (b : Bool). (eqb (e .kind) 1 && eqb (e .length) 2) || (b || (eqb (e .kind) 3 && eqb (e .length) 13)))
+    (spread (eqb (e .kind) 2) (eqb (e .length) 49) (eqb (e .length) 50)))

@@ -1,6 +1,6 @@
--- M-103, "A store of settings", for what C calls: `readStore` and `rowsAfter`, `writeStore` and `bufferAfter` are the right sides of the contracts of
+-- M-103, "A store of settings", and its version 2 (M-112), for what C calls: `readStore` and `rowsAfter`, `writeStore` and `bufferAfter` are the right sides of the contracts of
 -- `ollskuvan_read_store` and `ollskuvan_write_store`, with the versions and the editions of this build. Assumes nothing.
-use mathlib.Core.Path.{_≡_, refl, sym, ap, _∙_}
+use mathlib.Core.Path.{_≡_, refl, sym, ap, _∙_, subst}
 use mathlib.Core.Bool.{true, false}
 use mathlib.Core.List.{List, [], _∷_, _++_, map}
 use Prim.Native.Nat.{ℕ, _+_, _^_, _<_, _≤_}
@@ -11,11 +11,15 @@ use Rattle.meaning.specs.Bytes.{small, numberAt}
 use Rattle.meaning.specs.Editions.{editions, allowed, isIn}
 use Rattle.meaning.specs.Events.{attributesOf, identifiers, eventsOf, allMarked}
 use Rattle.laws.specs.Rows.{gives, before, Passed}
+use Rattle.laws.specs.Lookup.{rows-length as table-length}
+use Rattle.events.specs.Sound.{sound-limit}
+use Rattle.settings.specs.declared.Settings.{Settings}
 use Rattle.settings.specs.declared.Version.{Version}
 use Rattle.settings.specs.Versions.{one, versions, versionOf, isKnown}
-use Rattle.settings.specs.Reading.{shown, refused, readStore, rowsAfter}
+use Rattle.settings.specs.Reading.{shown, countOf, rowsOf, refused, readStore, rowsAfter}
 use Rattle.settings.specs.Writing.{writes, storeBytes, writeRows, writeStore, bufferAfter}
 use Rattle.settings.specs.Turns.{keptRows, Words}
+use Rattle.settings.specs.Only.{rows-length, accepted}
 use Rattle.settings.specs.Back.{settings, old-build, kept-identifiers, kept-attributes}
 use Rattle.settings.specs.Promises as store
 
@@ -34,9 +38,19 @@ module _ (rows : List (List ℕ)) (ring edition budget : ℕ) (buffer : List ℕ
   unfolding versionOf
   reads-back lent w b h m =
       let e = store.buffer-written writes editions rows ring edition budget buffer h .0 in
-      let r = store.written-reads versions editions writes rows ring edition budget (length buffer) lent store.proper-one refl (omega arith) w b
+      let r = store.written-reads versions editions writes rows ring edition budget (length buffer) lent store.proper-two refl (omega arith) w b
       (sym (store.write-told writes editions rows ring edition budget (length buffer)) ∙ h) m in
       (ap (λ (xs : List ℕ). readStore versions editions xs (length lent)) e ∙ r .0, ap (λ (xs : List ℕ). rowsAfter versions editions xs lent) e ∙ r .1)
+
+  -- "New builds read both versions" (M-112): what a build that writes version 1 wrote reads back too
+  pub reads-version-1 : (lent : List (List ℕ)) → Words rows → budget < 2 ^ 32 → writeStore one editions rows ring edition budget (length buffer) .answer ≡ 0
+      → length rows ≤ length lent
+      → (readStore versions editions (storeBytes one rows ring edition budget) (length lent) ≡ settings (length rows) ring edition budget)
+      × (rowsAfter versions editions (storeBytes one rows ring edition budget) lent ≡ keptRows rows ++ drop (length rows) lent)
+  unfolding versionOf
+  reads-version-1 lent w b h m =
+      store.written-reads versions editions one rows ring edition budget (length buffer) lent store.proper-one refl (omega arith) w b
+      (sym (store.write-told one editions rows ring edition budget (length buffer)) ∙ h) m
 
   -- "Writing refuses with 11, 1, 2, then 40 for no room, the buffer unchanged"
   pub write-answers : isIn (writeStore writes editions rows ring edition budget (length buffer) .answer) (0 ∷ 11 ∷ 1 ∷ 2 ∷ 40 ∷ []) ≡ true
@@ -112,6 +126,20 @@ module _ (xs : List ℕ) (lent : List (List ℕ)) where
       × (length (rowsAfter versions editions xs lent) ≡ length lent)
   rows-past = store.accepted-rest versions editions xs lent
 
+  -- a store holds as many events as its version allows: "version 1 keeps its limit of 32" (M-112)
+  pub most-events : readStore versions editions xs (length lent) .answer ≡ 0 → readStore versions editions xs (length lent) .events ≤ shown versions xs .limit
+  most-events h =
+      let v = shown versions xs in
+      let a = accepted versions editions xs (length lent) (sym (store.told versions editions xs (length lent)) ∙ h) in
+      let n : readStore versions editions xs (length lent) .events ≡ countOf v xs = ap (λ (s : Settings). s .events) (store.given versions editions xs lent h .read) in
+      let l : length (eventsOf (rowsOf v xs (countOf v xs))) ≡ countOf v xs = table-length (rowsOf v xs (countOf v xs)) ∙ rows-length v xs (countOf v xs) in
+      omega (arith, n, l, sound-limit (v .limit) (eventsOf (rowsOf v xs (countOf v xs))) (a .sound))
+
+  pub version-1-events : numberAt 2 xs 6 ≡ 1 → readStore versions editions xs (length lent) .answer ≡ 0 → readStore versions editions xs (length lent) .events ≤ 32
+  unfolding versionOf
+  version-1-events e h =
+      subst (λ (n : ℕ). readStore versions editions xs (length lent) .events ≤ n) (ap (λ (k : ℕ). versionOf versions k .limit) e) (most-events h)
+
 -- ---- other builds: those that read other versions, or know other editions
 
 -- a version that a build does not read is 50, whatever the store holds
@@ -120,13 +148,19 @@ pub other-version : (vs : List Version) (ks : List Known) (v : Version) (rows : 
 other-version vs ks v rows ring edition budget lent b h =
     store.told vs ks (storeBytes v rows ring edition budget) lent ∙ old-build vs ks v rows ring edition budget lent b h
 
+-- "An old build answers 50" (M-112): the build that reads version 1 alone, to every store that this build writes
+pub old-build-50 : (ks : List Known) (rows : List (List ℕ)) (ring edition budget lent : ℕ)
+    → readStore (one ∷ []) ks (storeBytes writes rows ring edition budget) lent .answer ≡ 50
+unfolding versionOf
+old-build-50 ks rows ring edition budget lent = other-version (one ∷ []) ks writes rows ring edition budget lent (omega arith) refl
+
 -- an edition that a build does not know is 52, where this build's writer takes the settings
 pub other-edition : (ks : List Known) (rows : List (List ℕ)) (ring edition budget room lent : ℕ) → Words rows → budget < 2 ^ 32
     → writeStore writes editions rows ring edition budget room .answer ≡ 0 → allowed ks edition ≡ false
     → readStore versions ks (storeBytes writes rows ring edition budget) lent .answer ≡ 52
 unfolding versionOf
 other-edition ks rows ring edition budget room lent w b h n =
-    store.unknown-edition versions ks editions writes rows ring edition budget lent store.proper-one refl
+    store.unknown-edition versions ks editions writes rows ring edition budget lent store.proper-two refl
     (store.writer-takes writes editions rows ring edition budget room (omega arith) w b (sym (store.write-told writes editions rows ring edition budget room) ∙ h) .0)
     n
 

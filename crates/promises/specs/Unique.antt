@@ -587,6 +587,9 @@ events-identifier-of κs a x y s t p q = same p q
 pub events-match-event : Result events.match_event.Kinds.ps events.match_event.Kinds.r events.match_event.Reads.Learnt
 events-match-event κs a x y s t p q = same p q
 
+pub events-inspected : Result events.inspected.Kinds.ps events.inspected.Kinds.r events.inspected.Reads.Learnt
+events-inspected κs a x y s t p q = same p q
+
 pub events-judge : Result events.judge.Kinds.ps events.judge.Kinds.r events.judge.Reads.Learnt
 events-judge κs a x y s t p q = same p q
 
@@ -633,6 +636,16 @@ event-read-one-scratch κs a x y s t p q = same (p .1 .0) (q .1 .0)
 
 pub event-read-one-words : Seen single.read_one_events.Kinds.ps single.read_one_events.Kinds.r single.read_one_events.Reads.Learnt (λ κs x s. now (s .1 .1 .1 .1 .1 .1 .1 .0))
 event-read-one-words κs a x y s t p q = same (p .1 .1) (q .1 .1)
+
+-- record check with a table, and the reader of a record's words with one: what is told, and the words at exit
+pub event-one-check-events : Result single.check_events.Kinds.ps single.check_events.Kinds.r single.check_events.Reads.Learnt
+event-one-check-events κs a x y s t p q = same p q
+
+pub event-one-read-events : Result single.read_events.Kinds.ps single.read_events.Kinds.r single.read_events.Reads.Learnt
+event-one-read-events κs a x y s t p q = same (p .0) (q .0)
+
+pub event-one-read-events-words : Seen single.read_events.Kinds.ps single.read_events.Kinds.r single.read_events.Reads.Learnt (λ κs x s. now (s .1 .1 .1 .1 .0))
+event-one-read-events-words κs a x y s t p q = same (p .1) (q .1)
 
 -- ---- two rings compared: bytes of two records, one item of both, what is told, and both scratches at exit
 
@@ -805,6 +818,15 @@ ollskuvan-read-one-events-scratch κs a x y s t p q = same (p .1 .0) (q .1 .0)
 
 pub ollskuvan-read-one-events-words : Seen ollskuvan.ollskuvan_read_one_events.Kinds.ps ollskuvan.ollskuvan_read_one_events.Kinds.r ollskuvan.ollskuvan_read_one_events.Reads.Learnt (λ κs x s. now (s .1 .1 .1 .1 .1 .1 .0))
 ollskuvan-read-one-events-words κs a x y s t p q = same (p .1 .1) (q .1 .1)
+
+pub ollskuvan-check-events : Result ollskuvan.ollskuvan_check_events.Kinds.ps ollskuvan.ollskuvan_check_events.Kinds.r ollskuvan.ollskuvan_check_events.Reads.Learnt
+ollskuvan-check-events κs a x y s t p q = same p q
+
+pub ollskuvan-read-events : Result ollskuvan.ollskuvan_read_events.Kinds.ps ollskuvan.ollskuvan_read_events.Kinds.r ollskuvan.ollskuvan_read_events.Reads.Learnt
+ollskuvan-read-events κs a x y s t p q = same (p .0) (q .0)
+
+pub ollskuvan-read-events-fields : Seen ollskuvan.ollskuvan_read_events.Kinds.ps ollskuvan.ollskuvan_read_events.Kinds.r ollskuvan.ollskuvan_read_events.Reads.Learnt (λ κs x s. now (s .1 .1 .1 .0))
+ollskuvan-read-events-fields κs a x y s t p q = same (p .1) (q .1)
 
 pub ollskuvan-check : Result ollskuvan.ollskuvan_check.Kinds.ps ollskuvan.ollskuvan_check.Kinds.r ollskuvan.ollskuvan_check.Reads.Learnt
 ollskuvan-check κs a x y s t p q = same p q

@@ -19,7 +19,7 @@ use Rattle.meaning.specs.Events.{eventsOf, sound}
 use Rattle.settings.specs.declared.Version.{Version}
 use Rattle.settings.specs.declared.Settings.{Settings}
 use Rattle.settings.specs.declared.Stored.{Stored}
-use Rattle.settings.specs.Versions.{one, versionOf, placeOf}
+use Rattle.settings.specs.Versions.{one, two, versionOf, placeOf}
 use Rattle.settings.specs.Reading.{countOf, rowsOf, firstRows, lastRows, afterRows, tableRows, restAnswer, shown, storeAnswer, settingsAt, refused, readStore, rowsAfter}
 use Rattle.settings.specs.Writing.{storeBytes, writeRows, writeAnswer, stored, writeStore, bufferAfter}
 use Rattle.meaning.specs.Refusals.{Refusal, refusal, first}
@@ -32,6 +32,9 @@ use Rattle.settings.specs.Only.{accepted, encoded, rows-length}
 
 pub proper-one : Proper one
 proper-one = record { known = omega arith; narrow = omega arith; indexes = omega arith; word = omega arith }
+
+pub proper-two : Proper two
+proper-two = record { known = omega arith; narrow = omega arith; indexes = omega arith; word = omega arith }
 
 -- ---- what is told, and what the lent table holds, by the answer
 

@@ -199,7 +199,8 @@ narrow-of (v ∷ vs) k a h = by (eqb k (v .number)) refl (narrow-of vs k (a .1))
         subst (λ (t : Bool). Narrow (cond t v (versionOf vs k))) (sym q) (g (sym (ap (λ (t : Bool). isKnown (cond t v (versionOf vs k))) q) ∙ h))
 
 pub all-narrow : AllNarrow versions
-all-narrow = (record { low = omega arith; high = omega arith; most = omega arith }, tt)
+all-narrow =
+    (record { low = omega arith; high = omega arith; most = omega arith }, (record { low = omega arith; high = omega arith; most = omega arith }, tt))
 
 pub head-passed : (vs : List Version) (xs : List ℕ) → first (firstRows vs xs) 0 ≡ 0 → (isKnown (shown vs xs) ≡ true) × (8 ≤ length xs)
 head-passed vs xs h =

@@ -14,11 +14,11 @@ use Rattle.entries.specs.Entries.{entryBytes}
 use Rattle.meaning.specs.Events.{eventsOf, sound}
 use Rattle.settings.specs.declared.Version.{Version}
 use Rattle.settings.specs.declared.Stored.{Stored}
-use Rattle.settings.specs.Versions.{one}
+use Rattle.settings.specs.Versions.{two}
 
--- the version that this build writes
+-- the version that this build writes: "New builds .. write version 2"
 abbrev pub writes : Version
-writes = one
+writes = two
 
 -- identifier, sample type, read format, user mask, interrupt mask, branch sample type of a row, 8 bytes each
 abbrev pub wordBytes : List ℕ → List ℕ

@@ -27,6 +27,13 @@ fn version_of(number: u64) -> Version
             limit: 32,
         };
     }
+    if number == 2 {
+        return Version {
+            number: 2,
+            width: 2,
+            limit: 1024,
+        };
+    }
     Version {
         number: 0,
         width: 0,
@@ -64,7 +71,12 @@ fn is_any_event(e: Entry) -> bool
         width: 1,
         limit: 32,
     };
-    is_event(one, e)
+    let two = Version {
+        number: 2,
+        width: 2,
+        limit: 1024,
+    };
+    is_event(one, e) | is_event(two, e)
 }
 
 fn fits(v: Version, e: Entry) -> bool

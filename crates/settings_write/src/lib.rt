@@ -131,10 +131,10 @@ pub fn write_store(
     ensures { λ r. ⌜ r ≡ writeStore writes editions (now (rows .entry)) ring edition budget (length (now (buffer .entry))) ⌝ }
     ensures { λ _. ⌜ now (buffer .exit) ≡ bufferAfter writes editions (now (rows .entry)) ring edition budget (now (buffer .entry)) ⌝ }
 {
-    let one = Version {
-        number: 1,
-        width: 1,
-        limit: 32,
+    let two = Version {
+        number: 2,
+        width: 2,
+        limit: 1024,
     };
-    write_in(one, rows, ring, edition, budget, buffer)
+    write_in(two, rows, ring, edition, budget, buffer)
 }

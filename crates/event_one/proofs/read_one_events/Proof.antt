@@ -9,12 +9,15 @@ use lib.ListN.{length}
 use denote.Ref.{now}
 use borrow.Author.Needs.{needs}
 use borrow.Author.Tests.{not-true, not-false}
-use Rattle.meaning.specs.Editions.{editions}
+use Rattle.meaning.specs.declared.Judged.{Judged}
+use Rattle.meaning.specs.Editions.{editions, known}
 use Rattle.meaning.specs.Ring.{askingWith, frame, recordAt, shown}
-use Rattle.meaning.specs.Events.{eventsOf, askedEvents, oneEventsFrame}
+use Rattle.meaning.specs.Events.{eventsOf, inspected, judged, askedEvents, oneEventsFrame}
 use Rattle.laws.specs.Rings.{Going, frame-going, shown-record, going-length}
+use Rattle.laws.specs.Lookup.{rows-length}
+use Rattle.events.specs.Sound.{sound-limit}
 use Rattle.one.specs.Told.{toldTaken}
-use Rattle.event_one.specs.Told.{readEventAnswer, readEventWords}
+use Rattle.event_one.specs.Told.{readEventAnswer, readEventWords, withInspected}
 use Rattle.event_one.proofs.Laws.{told-frame, scratch-frame, words-frame}
 use Rattle.event_one.proofs.read_one_events.Statement.{statement}
 use Rattle.event_one.proofs.read_one_events.Tie as tie
@@ -52,7 +55,10 @@ returns c =
 read-event-requires : tie.Need-read-event-requires
 read-event-requires c κs =
     let w = going (c .before .before .before .before .before .before .before) in
-    omega (arith, w .size-low, ap length (bytes (c .before)), going-length _ _ _ _ _ _ _ _ w)
+    let a = c .before .before .before .before .before .before .before .before .before .before .before .before .before .before .before .args in
+    let t = sound-limit (a .limit) (eventsOf (now (a .rows))) (not-false _ (w .beside .1 .0)) in
+    let n : length (now (a .rows)) ≤ 1024 = omega (arith, c .before .before .before .before .before .before .before .before .before .before .before .before .before .before .before .pre, rows-length (now (a .rows)), t) in
+    (omega (arith, w .size-low, ap length (bytes (c .before)), going-length _ _ _ _ _ _ _ _ w), n)
 
 returns-2 : tie.Need-returns-2
 returns-2 c =
@@ -63,7 +69,8 @@ returns-2 c =
     let x = bytes (c .before .before .before .before .before) in
     let r = c .before .before .before .read-event .ensures in (
       c .taken .ensures
-          ∙ ap (toldTaken (now (s .ring)) f (s .tail)) (r .0 ∙ ap (λ (l : List ℕ). readEventAnswer editions (s .e) (eventsOf (now (s .rows))) l (now (s .words))) x)
+          ∙ ap (λ (j : Judged). withInspected (toldTaken (now (s .ring)) f (s .tail) (j .answer)) (j .inspected))
+          (r .0 ∙ ap (λ (l : List ℕ). judged (readEventAnswer editions (s .e) (eventsOf (now (s .rows))) l (now (s .words))) (inspected (known editions (s .e)) (eventsOf (now (s .rows))) l)) x)
           ∙ told-frame (s .limit) editions (s .e) (eventsOf (now (s .rows))) (now (s .ring)) (s .head) (s .tail) (now (s .scratch)) (now (s .words)) f e true g,
       (
         c .before .before .before .before .before .before .before .before .before .gather .ensures ∙ scratch-frame (s .limit) editions (s .e) (eventsOf (now (s .rows))) (now (s .ring)) (s .head) (s .tail) (now (s .scratch)) (now (s .words)) f e true g,
@@ -83,7 +90,6 @@ read-one-events-spec =
     (λ c κs. search needs)
     (λ c κs. search needs)
     read-event-requires
-    (λ c. search needs)
     (λ c κs. search needs)
     (λ c. search needs)
     (λ c. search needs)

@@ -1,73 +1,48 @@
--- What the rows passed leave to be tested decides: each is marked, and stands in no row after it.
-use mathlib.Core.Path.{_≡_, refl, sym, ap, _∙_, subst}
-use mathlib.Core.List.{List}
-use Prim.Native.Nat.{ℕ, _+_, _-_, _<_, _≤_}
+-- Too few, too many, one without its marks; then identifiers that rise are distinct, and the others are asked.
+use mathlib.Core.Path.{sym, _∙_}
+use Prim.Native.Nat.{_<_, _≤_}
 use native.Mathlib.Omega.{arith}
-use borrow.Author.Needs.{needs}
-use lib.ListN.{length, getD, drop}
 use denote.Ref.{now}
-use Rattle.events.proofs.Laws.{Tested, few, many, begins, ends, unmarked, double, next}
-use Rattle.meaning.specs.Events.{marked}
+use borrow.Author.Needs.{needs}
+use borrow.Author.Tests.{not-true, not-false}
+use Rattle.meaning.specs.Events.{eventsOf}
+use Rattle.laws.specs.Lookup.{rows-length}
+use Rattle.events.specs.Rising.{rises-distinct}
+use Rattle.events.specs.Sound.{sound-short, sound-long, sound-unmarked, sound-by}
+use Rattle.events.proofs.Laws.{keys}
 use Rattle.events.proofs.sound.Statement.{statement}
 use Rattle.events.proofs.sound.Tie as tie
 
-abbrev Inv-loop : tie.InvT-loop
-Inv-loop rows limit n i₀ i = Tested limit rows i
+returns : tie.Need-returns
+returns c = let a = c .before .args in sym (sound-short (a .limit) (eventsOf (now (a .rows))) (omega (arith, c .if1 .taken, rows-length (now (a .rows)))))
 
-abbrev μ-loop : tie.MeasureT-loop
-μ-loop rows limit n i₀ i = n - i
+returns-2 : tie.Need-returns-2
+returns-2 c = let a = c .before .before .args in sym (sound-long (a .limit) (eventsOf (now (a .rows))) (omega (arith, c .if2 .taken, rows-length (now (a .rows)))))
 
-returns : tie.Need-returns Inv-loop μ-loop
-returns c = few (c .before .args .limit) (now (c .before .args .rows)) (c .if1 .taken)
+returns-3 : tie.Need-returns-3
+returns-3 c = let a = c .before .before .before .before .args in sym (sound-unmarked (a .limit) (eventsOf (now (a .rows))) (sym (c .before .all-marked .ensures) ∙ not-true (c .before .all-marked .result) (c .if3 .taken)))
 
-returns-2 : tie.Need-returns-2 Inv-loop μ-loop
-returns-2 c = many (c .before .before .args .limit) (now (c .before .before .args .rows)) (c .if2 .taken)
-
-loop-holds : tie.Need-loop-holds Inv-loop μ-loop
-loop-holds c = let a = c .before .before .args in begins (a .limit) (now (a .rows)) (c .before .if1 .left) (c .if2 .left)
-
-returns-3 : tie.Need-returns-3 Inv-loop μ-loop
-returns-3 c =
-    let a = c .before .before .before .before .before .before .before .before .args in
-    let l = c .before .before .before .before .before .loop in
-    unmarked (a .limit) (now (a .rows)) (l .i) _ (l .inv) (c .before .before .before .before .loop-test .taken) _ (c .before .marked .ensures ∙ ap marked (c .before .before .event-of .ensures)) (c .if3 .taken)
-
-returns-4 : tie.Need-returns-4 Inv-loop μ-loop
+returns-4 : tie.Need-returns-4
 returns-4 c =
-    let a = c .before .before .before .before .before .before .before .before .before .before .args in
-    let l = c .before .before .before .before .before .before .before .loop in
-    double (a .limit) (now (a .rows)) (l .i) _ (l .inv) (c .before .before .before .before .before .before .loop-test .taken) _ (c .before .find-from .ensures) (c .if4 .taken)
+    let a = c .before .before .before .before .before .before .args in
+    sym (sound-by (a .limit) (eventsOf (now (a .rows))) (omega (arith, rows-length (now (a .rows)))) (omega (arith, rows-length (now (a .rows)))) (sym (c .before .before .before .all-marked .ensures) ∙ not-false (c .before .before .before .all-marked .result) (c .before .before .if3 .left))
+    ∙ rises-distinct (keys (now (a .rows))) (sym (c .before .rises .ensures) ∙ c .if4 .taken))
 
-loop-again : tie.Need-loop-again Inv-loop μ-loop
-loop-again c =
-    let a = c .before .before .before .before .before .before .before .before .before .before .args in
-    let l = c .before .before .before .before .before .before .before .loop in
-    next (a .limit) (now (a .rows)) (l .i) _ (l .inv) (c .before .before .before .before .before .before .loop-test .taken) _ (c .before .before .before .marked .ensures ∙ ap marked (c .before .before .before .before .event-of .ensures)) (c .before .before .if3 .left) _ (c .before .find-from .ensures) (c .if4 .left)
-
-returns-5 : tie.Need-returns-5 Inv-loop μ-loop
+returns-5 : tie.Need-returns-5
 returns-5 c =
-    let a = c .before .before .before .before .args in
-    ends (a .limit) (now (a .rows)) (c .before .loop .i) (c .before .loop .inv) (c .loop-test .left)
+    let a = c .before .before .before .before .before .before .before .args in
+    c .apart .ensures
+    ∙ sym (sound-by (a .limit) (eventsOf (now (a .rows))) (omega (arith, rows-length (now (a .rows)))) (omega (arith, rows-length (now (a .rows)))) (sym (c .before .before .before .before .all-marked .ensures) ∙ not-false (c .before .before .before .before .all-marked .result) (c .before .before .before .if3 .left)))
 
 pub sound-spec : {M : Type 1} → statement M
 sound-spec =
     tie.close
     (tie.spec
-    Inv-loop
-    μ-loop
     returns
     returns-2
-    loop-holds
-    (λ c. search needs)
-    (λ c. search needs)
-    (λ c κs. search needs)
     (λ c κs. search needs)
     returns-3
-    (λ c. search needs)
-    (λ c. search needs)
     (λ c κs. search needs)
     returns-4
-    (λ c. search needs)
-    (λ c. search needs)
-    loop-again
+    (λ c κs. search needs)
     returns-5)
