@@ -1,12 +1,12 @@
--- The cases of the answer: the trailer's room, the walk, the tests of record check. Assumes nothing.
+-- The cases of the answer: the trailer's room, the walk. Assumes nothing.
 use mathlib.Core.Path.{_≡_, refl, sym, ap, ap₂, _∙_}
 use mathlib.Core.Bool.{Bool, true, false, cond, not, _&&_}
 use mathlib.Core.List.{List, [], _∷_}
-use Prim.Native.Nat.{ℕ, _+_, _-_, _*_, _%_, _<_, _≤_}
+use Prim.Native.Nat.{ℕ, _+_, _-_, _*_, _<_, _≤_}
 use native.Mathlib.Omega.{arith}
 use lib.Bits.{bitAnd}
 use lib.ListN.{length, take}
-use lib.Dec.{leb, eqb}
+use lib.Dec.{eqb}
 use borrow.Author.Tests.{le-leb, lt-leb, eq-eqb, ne-eqb}
 use Rattle.meaning.specs.declared.Attributes.{Attributes}
 use Rattle.meaning.specs.declared.Cursor.{Cursor}
@@ -15,8 +15,8 @@ use Rattle.meaning.specs.declared.Known.{Known}
 use Rattle.meaning.specs.Bytes.{ones}
 use Rattle.meaning.specs.Items.{walk}
 use Rattle.meaning.specs.Schema.{schema, trailer}
-use Rattle.meaning.specs.Editions.{known, allowed, unreadable}
-use Rattle.meaning.specs.Records.{layout, room, origin, closed, fieldsOf, fieldsAnswer, judge, checkBy, check, kindOf, miscOf, sizeOf}
+use Rattle.meaning.specs.Editions.{unreadable}
+use Rattle.meaning.specs.Records.{layout, room, origin, closed, fieldsOf, fieldsAnswer, judge, kindOf, miscOf}
 use Rattle.laws.specs.Counting.{bitsFrom, eights, eights-ones, eights-most, trailer-count}
 use Rattle.answers.specs.Answer.{answerBy}
 
@@ -76,28 +76,3 @@ module _ (k : Known) (a : Attributes) (xs : List ℕ) where
 
   pub judge-by : (kind misc : ℕ) → kind ≡ kindOf xs → misc ≡ miscOf xs → answerBy k a kind misc xs ≡ judge (layout k a) xs
   judge-by kind misc ek em = ap₂ (λ (t m : ℕ). answerBy k a t m xs) ek em ∙ own
-
--- record check, test by test
-module _ (ks : List Known) (e : ℕ) (a : Attributes) (xs : List ℕ) where
-  pub check-edition : allowed ks e ≡ false → 2 ≡ check ks e a xs
-  unfolding check
-  check-edition h = rw h
-
-  module _ (g : allowed ks e ≡ true) where
-    pub check-short : length xs < 8 → 7 ≡ check ks e a xs
-    unfolding check checkBy
-    check-short h = rw (g, lt-leb 8 (length xs) h)
-
-    module _ (l : 8 ≤ length xs) (size : ℕ) (z : size ≡ sizeOf xs) where
-      pub check-odd : (leb 8 size && eqb (size % 8) 0) ≡ false → 6 ≡ check ks e a xs
-      unfolding check checkBy
-      check-odd h = rw (g, le-leb 8 (length xs) l, sym z, h)
-
-      module _ (v : (leb 8 size && eqb (size % 8) 0) ≡ true) where
-        pub check-other : eqb size (length xs) ≡ false → 7 ≡ check ks e a xs
-        unfolding check checkBy
-        check-other h = rw (g, le-leb 8 (length xs) l, sym z, v, h)
-
-        pub check-whole : eqb size (length xs) ≡ true → judge (layout (known ks e) a) xs ≡ check ks e a xs
-        unfolding check checkBy
-        check-whole h = rw (g, le-leb 8 (length xs) l, sym z, v, h)

@@ -215,5 +215,5 @@ pub fn judge(r: &[u8], e: u64, rows: &[[u64; 7]]) -> u16
     if m.answer != 0 {
         return m.answer;
     }
-    record::judge(r, e, attributes_at(rows, m.index))
+    fast_check::judge(r, e, attributes_at(rows, m.index))
 }

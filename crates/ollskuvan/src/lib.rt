@@ -6,9 +6,9 @@ ghost use Rattle.meaning.specs.Editions.{editions, known};
 ghost use Rattle.meaning.specs.Misc.{miscMeaning};
 ghost use Rattle.meaning.specs.Records.{recordCheck};
 ghost use Rattle.meaning.specs.Ring.{oneScratch};
-ghost use Rattle.meaning.specs.Drain.{told, drain};
+ghost use Rattle.meaning.specs.Drain.{told};
 ghost use Rattle.meaning.specs.Events.{eventLimit, eventsOf, askedEvents, drainEvents, oneEventsScratch};
-ghost use Rattle.meaning.specs.Backward.{walkTold, walkBack, walkEvents};
+ghost use Rattle.meaning.specs.Backward.{walkTold, walkEvents};
 ghost use Rattle.meaning.specs.Names.{nameAnswer, nameBuffer};
 ghost use Rattle.record.specs.Into.{readIntoAnswer, readIntoWords};
 ghost use Rattle.one.specs.Told.{oneTold, oneWords};
@@ -21,9 +21,8 @@ ghost use Rattle.settings.specs.Writing.{writes, writeStore, bufferAfter};
 ghost use Rattle.replay.specs.Replay as Replay;
 ghost use Rattle.salvage.specs.Salvage.{salvageTold, salvageOut, salvageList};
 ghost use Rattle.writer.specs.Writer.{writeWordsAnswer, writeWordsBuffer};
-ghost use Rattle.ollskuvan.specs.Given.{given};
+ghost use Rattle.given.specs.Given.{given};
 use compare::Compared;
-use meaning::Attributes;
 use meaning::Drained;
 use meaning::Walked;
 use one::OneTold;
@@ -33,51 +32,6 @@ use replay::Replayed;
 use salvage::Salvaged;
 use settings::Settings;
 use settings::Stored;
-
-fn attributes(
-    sample: u64,
-    format: u64,
-    all: u32,
-    user: u64,
-    interrupt: u64,
-    branch: u64,
-) -> Attributes
-    ensures { λ r. ⌜ r ≡ given sample format all user interrupt branch ⌝ }
-{
-    Attributes {
-        sample,
-        format,
-        all: all != 0,
-        user,
-        interrupt,
-        branch,
-    }
-}
-
-#[no_mangle]
-pub extern "C" fn ollskuvan_drain(
-    ring: &[u8],
-    head: u64,
-    tail: u64,
-    sample: u64,
-    format: u64,
-    all: u32,
-    user: u64,
-    interrupt: u64,
-    branch: u64,
-    edition: u32,
-    budget: u64,
-    scratch: &mut [u8],
-    journal: &mut [u8],
-) -> Drained
-    ensures { λ r. ⌜ r ≡ told (drain editions edition (given sample format all user interrupt branch) (now (ring .entry)) head tail budget (now (journal .entry)) (now (scratch .entry))) ⌝ }
-    ensures { λ _. ⌜ now (journal .exit) ≡ drain editions edition (given sample format all user interrupt branch) (now (ring .entry)) head tail budget (now (journal .entry)) (now (scratch .entry)) .state .journal ⌝ }
-    ensures { λ _. ⌜ now (scratch .exit) ≡ drain editions edition (given sample format all user interrupt branch) (now (ring .entry)) head tail budget (now (journal .entry)) (now (scratch .entry)) .state .scratch ⌝ }
-{
-    let a = attributes(sample, format, all, user, interrupt, branch);
-    let e = edition as u64;
-    fast_drain::drain(ring, head, tail, e, a, budget, scratch, journal)
-}
 
 // One record, from a tail to its words: `fields` are the caller's 56 or more.
 #[no_mangle]
@@ -99,7 +53,7 @@ pub extern "C" fn ollskuvan_read_one(
     ensures { λ _. ⌜ now (scratch .exit) ≡ oneScratch editions edition (now (ring .entry)) head tail (now (scratch .entry)) ⌝ }
     ensures { λ _. ⌜ now (fields .exit) ≡ oneWords editions edition (given sample format all user interrupt branch) (now (ring .entry)) head tail (now (scratch .entry)) (now (fields .entry)) ⌝ }
 {
-    let a = attributes(sample, format, all, user, interrupt, branch);
+    let a = given::attributes(sample, format, all, user, interrupt, branch);
     let e = edition as u64;
     one::read_one_into(ring, head, tail, e, a, scratch, fields)
 }
@@ -203,9 +157,9 @@ pub extern "C" fn ollskuvan_check(
 ) -> u32
     ensures { λ r. ⌜ r ≡ recordCheck editions edition (given sample format all user interrupt branch) (now (bytes .entry)) ⌝ }
 {
-    let a = attributes(sample, format, all, user, interrupt, branch);
+    let a = given::attributes(sample, format, all, user, interrupt, branch);
     let e = edition as u64;
-    let answer = record::check(bytes, e, a);
+    let answer = fast_check::check(bytes, e, a);
     record::or_dirty(answer, bytes, a) as u32
 }
 
@@ -246,7 +200,7 @@ pub extern "C" fn ollskuvan_read(
     ensures { λ r. ⌜ r ≡ readIntoAnswer editions edition (given sample format all user interrupt branch) (now (bytes .entry)) (now (words .entry)) ⌝ }
     ensures { λ _. ⌜ now (words .exit) ≡ readIntoWords editions edition (given sample format all user interrupt branch) (now (bytes .entry)) (now (words .entry)) ⌝ }
 {
-    let a = attributes(sample, format, all, user, interrupt, branch);
+    let a = given::attributes(sample, format, all, user, interrupt, branch);
     let e = edition as u64;
     record::read_into(bytes, e, a, words) as u32
 }
@@ -268,7 +222,7 @@ pub extern "C" fn ollskuvan_write(
     ensures { λ r. ⌜ r ≡ writeWordsAnswer edition (given sample format all user interrupt branch) (now (source .entry)) (now (words .entry)) (length (now (buffer .entry))) ⌝ }
     ensures { λ _. ⌜ now (buffer .exit) ≡ writeWordsBuffer edition (given sample format all user interrupt branch) (now (source .entry)) (now (words .entry)) (now (buffer .entry)) ⌝ }
 {
-    let a = attributes(sample, format, all, user, interrupt, branch);
+    let a = given::attributes(sample, format, all, user, interrupt, branch);
     let e = edition as u64;
     writer::write(words, source, e, a, buffer) as u32
 }
@@ -323,31 +277,6 @@ pub extern "C" fn ollskuvan_replay(
 {
     let e = edition as u64;
     replay::replay(trace, start, e, events, EVENTS, rooms, journal)
-}
-
-// A backward ring, from head upward: the newest record is the first. No tail moves.
-#[no_mangle]
-pub extern "C" fn ollskuvan_walk_back(
-    ring: &[u8],
-    head: u64,
-    sample: u64,
-    format: u64,
-    all: u32,
-    user: u64,
-    interrupt: u64,
-    branch: u64,
-    edition: u32,
-    budget: u64,
-    scratch: &mut [u8],
-    journal: &mut [u8],
-) -> Walked
-    ensures { λ r. ⌜ r ≡ walkTold (walkBack editions edition (given sample format all user interrupt branch) (now (ring .entry)) head budget (now (journal .entry)) (now (scratch .entry))) ⌝ }
-    ensures { λ _. ⌜ now (journal .exit) ≡ walkBack editions edition (given sample format all user interrupt branch) (now (ring .entry)) head budget (now (journal .entry)) (now (scratch .entry)) .state .journal ⌝ }
-    ensures { λ _. ⌜ now (scratch .exit) ≡ walkBack editions edition (given sample format all user interrupt branch) (now (ring .entry)) head budget (now (journal .entry)) (now (scratch .entry)) .state .scratch ⌝ }
-{
-    let a = attributes(sample, format, all, user, interrupt, branch);
-    let e = edition as u64;
-    walk_back::walk_back(ring, head, e, a, budget, scratch, journal)
 }
 
 #[no_mangle]

@@ -17,7 +17,7 @@ use Rattle.meaning.specs.declared.Shape.{Shape}
 use Rattle.meaning.specs.declared.Shape.the-variants.{Number, Ignored, Count, Size, Times, Earlier, Registers, Filled, Abi, Limit, Listed, Bytes, Pad, Name}
 use Rattle.meaning.specs.Bytes.{bit}
 use Rattle.meaning.specs.Refusals.{first}
-use Rattle.meaning.specs.Editions.{strangeBranch, unreadable}
+use Rattle.meaning.specs.Editions.{nothingKnown, editions, known, strangeBranch, unreadable}
 use Rattle.meaning.specs.Schema.{always, readValues, sample, mmap2, schemas, schema, trailer, u32, u64, tasks, threeWords}
 use Rattle.meaning.specs.Records.{layout, kindOf, miscOf, room, fieldsOf, judge}
 use Rattle.laws.specs.Bytes.{apart, and-true}
@@ -34,6 +34,17 @@ use Rattle.laws.specs.Whole.{length-fields}
 -- no edition has a type above it
 abbrev pub lastType : ℕ
 lastType = 21
+
+pub kinds-most : (e : ℕ) → known editions e .kinds ≤ lastType
+unfolding known
+kinds-most e = by (e - 1)
+  where
+    by : (i : ℕ) → getD editions i nothingKnown .kinds ≤ lastType
+    by zero = omega arith
+    by (suc zero) = omega arith
+    by (suc (suc zero)) = omega arith
+    by (suc (suc (suc zero))) = omega arith
+    by (suc (suc (suc (suc i)))) = omega arith
 
 -- below it a size; from it on, how the bytes decide; from `refusedMark` on, the refusal
 abbrev pub openMark : ℕ

@@ -117,7 +117,7 @@ last-count a h t =
     let s = or-no (bit (a .sample) 18) (bit (a .sample) 20) t in
     rw (s .0, s .1) (omega (arith, e, w))
 
-group-count : (format : ℕ) → 8 + sumOver format 3 ≡ groupFixed format
+pub group-count : (format : ℕ) → 8 + sumOver format 3 ≡ groupFixed format
 unfolding groupFixed total widthOf span bitsFrom eights
 group-count format =
     let e : sumOver format 3 ≡ eights format (0 ∷ 1 ∷ []) = eights-ones format 3 in

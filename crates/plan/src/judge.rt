@@ -2,8 +2,8 @@
 ghost use mathlib.Core.Path.{_≡_};
 ghost use Prim.Native.Nat.{_%_, _≤_, _<_};
 ghost use lib.ListN.{length};
-ghost use Rattle.meaning.specs.Schema.{schema};
-ghost use Rattle.meaning.specs.Records.{layout, kindOf, judge};
+ghost use Rattle.meaning.specs.Schema.{schema, trailer};
+ghost use Rattle.meaning.specs.Records.{layout, room, kindOf, judge};
 ghost use Rattle.blocks.specs.Seen.{Closes};
 ghost use Rattle.exact.specs.Stretches.{groupFixed};
 ghost use Rattle.plan.specs.Sums.{sumsOf};
@@ -18,7 +18,7 @@ fn counted(f: &[u8], kind: u64, a: Attributes, fixed: usize) -> u16
     requires { ⌜ length (now f) < 65536 ⌝ }
     requires { ⌜ length (now f) % 8 ≡ 0 ⌝ }
     requires { ⌜ Counted a kind ⌝ }
-    requires { ⌜ fixed ≡ groupFixed (a .format) ⌝ }
+    requires { ⌜ (kind ≡ 8 → fixed ≡ groupFixed (a .format)) ⌝ }
     ensures { λ r. ⌜ Closes (now (f .entry)) (schema kind 0 a) 8 r ⌝ }
 {
     if kind == 8 {
@@ -31,13 +31,23 @@ fn counted(f: &[u8], kind: u64, a: Attributes, fixed: usize) -> u16
 }
 
 // A mark from OPEN on: a name, a build id, or a count decides.
-fn opened(r: &[u8], kind: u64, mark: u64, known: Known, a: Attributes, sums: &[u64; 8]) -> u16
+fn opened(
+    r: &[u8],
+    kind: u64,
+    mark: u64,
+    known: Known,
+    a: Attributes,
+    trail: usize,
+    fixed: usize,
+) -> u16
     requires { ⌜ 8 ≤ length (now r) ⌝ }
     requires { ⌜ length (now r) < 65536 ⌝ }
     requires { ⌜ length (now r) % 8 ≡ 0 ⌝ }
     requires { ⌜ kind ≡ kindOf (now r) ⌝ }
     requires { ⌜ Marked known a kind mark ⌝ }
-    requires { ⌜ now sums ≡ sumsOf a ⌝ }
+    requires { ⌜ trail ≡ room (trailer 1 a) ⌝ }
+    requires { ⌜ trail ≤ 64 ⌝ }
+    requires { ⌜ (kind ≡ 8 → fixed ≡ groupFixed (a .format)) ⌝ }
     requires { ⌜ 65536 ≤ mark ⌝ }
     requires { ⌜ mark < 131072 ⌝ }
     requires { ⌜ (mark ≡ 65537 → ⊥) ⌝ }
@@ -47,7 +57,6 @@ fn opened(r: &[u8], kind: u64, mark: u64, known: Known, a: Attributes, sums: &[u
     if build & !known.builds {
         return 23;
     }
-    let trail = sums[exact::TRAIL] as usize;
     if r.len() < 8 + trail {
         return 30;
     }
@@ -57,9 +66,39 @@ fn opened(r: &[u8], kind: u64, mark: u64, known: Known, a: Attributes, sums: &[u
         return exact::types::built(f);
     }
     if mark == marks::OPEN {
-        return counted(f, kind, a, sums[exact::GROUP] as usize);
+        return counted(f, kind, a, fixed);
     }
     exact::types::named(f, (mark - marks::OPEN) as usize)
+}
+
+// Any record but a SAMPLE in stretches, by its mark, the trailer's bytes, and for READ the words of a group before its elements.
+pub fn other(
+    r: &[u8],
+    kind: u64,
+    mark: u64,
+    known: Known,
+    a: Attributes,
+    trail: usize,
+    fixed: usize,
+) -> u16
+    requires { ⌜ 8 ≤ length (now r) ⌝ }
+    requires { ⌜ length (now r) < 65536 ⌝ }
+    requires { ⌜ length (now r) % 8 ≡ 0 ⌝ }
+    requires { ⌜ kind ≡ kindOf (now r) ⌝ }
+    requires { ⌜ Marked known a kind mark ⌝ }
+    requires { ⌜ trail ≡ room (trailer 1 a) ⌝ }
+    requires { ⌜ trail ≤ 64 ⌝ }
+    requires { ⌜ (kind ≡ 8 → fixed ≡ groupFixed (a .format)) ⌝ }
+    requires { ⌜ (mark ≡ 65537 → ⊥) ⌝ }
+    ensures { λ x. ⌜ x ≡ judge (layout known a) (now (r .entry)) ⌝ }
+{
+    if mark < marks::OPEN {
+        return exact::sized(r.len(), mark as usize);
+    }
+    if marks::REFUSED <= mark {
+        return (mark - marks::REFUSED) as u16;
+    }
+    opened(r, kind, mark, known, a, trail, fixed)
 }
 
 // The answer for a record's bytes. A SAMPLE in stretches has most to do, and is asked for first.
@@ -75,11 +114,7 @@ pub fn judge(r: &[u8], kind: u64, mark: u64, known: Known, a: Attributes, sums: 
     if mark == marks::STRETCHED {
         return exact::sample::sample(r, a, sums);
     }
-    if mark < marks::OPEN {
-        return exact::sized(r.len(), mark as usize);
-    }
-    if marks::REFUSED <= mark {
-        return (mark - marks::REFUSED) as u16;
-    }
-    opened(r, kind, mark, known, a, sums)
+    let trail = sums[exact::TRAIL] as usize;
+    let fixed = sums[exact::GROUP] as usize;
+    other(r, kind, mark, known, a, trail, fixed)
 }

@@ -7,11 +7,12 @@
 ghost use mathlib.Core.Path.{_≡_};
 ghost use Prim.Native.Nat.{ℕ, _+_, _≤_, _<_};
 ghost use lib.ListN.{length, getD};
+ghost use Rattle.meaning.specs.Editions.{unreadable};
 ghost use Rattle.meaning.specs.Schema.{trailer};
 ghost use Rattle.meaning.specs.Records.{room};
 ghost use Rattle.plan.specs.Sums.{sumsOf};
 ghost use Rattle.plan.specs.Marks.{lastType, Marked, Marks};
-ghost use Rattle.plan.specs.Bases.{basesWith, Filled, stretched};
+ghost use Rattle.plan.specs.Bases.{bases, basesWith, Filled, stretched};
 use meaning::Attributes;
 use meaning::Known;
 
@@ -98,8 +99,62 @@ fn type_marks(known: Known, a: Attributes, trail: u64) -> [u64; 32]
     p
 }
 
+// ---- one type alone
+
+// The base of one type, without the trailer: a `match` is a table in read-only memory, where a constant array would be copied at each use.
+fn base_of(kind: u64) -> u64
+    requires { ⌜ 1 ≤ kind ⌝ }
+    requires { ⌜ kind ≤ lastType ⌝ }
+    ensures { λ r. ⌜ r ≡ getD bases kind 0 ⌝ }
+{
+    match kind {
+        1 => 65576,
+        2 => 24,
+        3 => 65552,
+        4 => 32,
+        5 => 32,
+        6 => 32,
+        7 => 32,
+        8 => 8,
+        9 => 8,
+        10 => 65608,
+        11 => 32,
+        12 => 16,
+        13 => 16,
+        14 => 8,
+        15 => 16,
+        16 => 65536,
+        17 => 65560,
+        18 => 24,
+        19 => 65552,
+        20 => 65536,
+        _ => 16,
+    }
+}
+
+// A type that the edition has, other than READ and SAMPLE: `why` is what the edition says of all of them, `trail` the trailer's bytes.
+pub fn type_mark(known: Known, a: Attributes, kind: u64, why: u16, trail: u64) -> u64
+    requires { ⌜ known .kinds ≤ lastType ⌝ }
+    requires { ⌜ why ≡ unreadable known a 1 0 ⌝ }
+    requires { ⌜ trail ≡ room (trailer 1 a) ⌝ }
+    requires { ⌜ trail ≤ 512 ⌝ }
+    requires { ⌜ 1 ≤ kind ⌝ }
+    requires { ⌜ kind ≤ known .kinds ⌝ }
+    requires { ⌜ (kind ≡ 8 → ⊥) × (kind ≡ 9 → ⊥) ⌝ }
+    ensures { λ r. ⌜ Marked known a kind r ⌝ }
+{
+    if why != 0 {
+        return REFUSED + why as u64;
+    }
+    let base = base_of(kind);
+    if base < OPEN {
+        return base + trail;
+    }
+    base
+}
+
 // READ: 24 bytes and more where its values are no group.
-fn read_mark(known: Known, a: Attributes, trail: u64) -> u64
+pub fn read_mark(known: Known, a: Attributes, trail: u64) -> u64
     requires { ⌜ trail ≡ room (trailer 1 a) ⌝ }
     requires { ⌜ trail ≤ 512 ⌝ }
     ensures { λ r. ⌜ Marked known a 8 r ⌝ }
@@ -114,6 +169,23 @@ fn read_mark(known: Known, a: Attributes, trail: u64) -> u64
     16 + (crate::sums::read_values(a) + trail)
 }
 
+// Any type but SAMPLE; 0, and what the edition does not have, are 20.
+pub fn other_mark(known: Known, a: Attributes, kind: u64, trail: u64) -> u64
+    requires { ⌜ known .kinds ≤ lastType ⌝ }
+    requires { ⌜ trail ≡ room (trailer 1 a) ⌝ }
+    requires { ⌜ trail ≤ 512 ⌝ }
+    requires { ⌜ (kind ≡ 9 → ⊥) ⌝ }
+    ensures { λ r. ⌜ Marked known a kind r ⌝ }
+{
+    if (kind == 0) | (known.kinds < kind) {
+        return 131092;
+    }
+    if kind == 8 {
+        return read_mark(known, a, trail);
+    }
+    type_mark(known, a, kind, record::unreadable(known, a, 1, 0), trail)
+}
+
 // A SAMPLE has a list, or fields after which the record says how it goes on: callchain, raw, branches, user registers, user stack, interrupt registers,
 // aux, or a group of read values.
 fn in_stretches(a: Attributes) -> bool
@@ -126,7 +198,7 @@ fn in_stretches(a: Attributes) -> bool
     (wire::has_bit(x, 4) & wire::has_bit(a.format, 3)) | (late | lists)
 }
 
-fn sample_mark(known: Known, a: Attributes, sums: &[u64; 8]) -> u64
+pub fn sample_mark(known: Known, a: Attributes, sums: &[u64; 8]) -> u64
     requires { ⌜ now sums ≡ sumsOf a ⌝ }
     ensures { λ r. ⌜ Marked known a 9 r ⌝ }
 {

@@ -3,6 +3,7 @@ ghost use mathlib.Core.Path.{_≡_};
 ghost use mathlib.Core.Bool.{cond};
 ghost use Prim.Native.Nat.{_*_, _≤_};
 ghost use Rattle.meaning.specs.Bytes.{ones};
+ghost use Rattle.exact.specs.Stretches.{groupFixed};
 ghost use Rattle.plan.specs.Sums.{sumOver, readSum, readsOf, sumsOf};
 use meaning::Attributes;
 
@@ -61,6 +62,13 @@ fn registers(on: bool, mask: u64) -> u64
     }
 }
 
+// Of a group: its count, and the times.
+pub fn group(a: Attributes) -> u64
+    ensures { λ r. ⌜ (r ≡ groupFixed (a .format)) × (r ≤ 520) ⌝ }
+{
+    8 + eights(a.format, TIME_BITS)
+}
+
 // The table of sums, in the order of `exact`'s names for its places.
 pub fn sums(a: Attributes) -> [u64; 8]
     ensures { λ r. ⌜ r ≡ sumsOf a ⌝ }
@@ -73,6 +81,5 @@ pub fn sums(a: Attributes) -> [u64; 8]
     let early = eights(x, EARLY_BITS);
     let after = eights(x, AFTER_BITS);
     let interrupt = registers(wire::has_bit(x, 18), a.interrupt);
-    let group = 8 + eights(a.format, TIME_BITS);
-    [trail, first, last, user, early, after, interrupt, group]
+    [trail, first, last, user, early, after, interrupt, group(a)]
 }

@@ -4,7 +4,8 @@ use denote.Ref.{now}
 use borrow.Author.Tests.{not-true, not-false}
 use Rattle.meaning.specs.Editions.{editions, known}
 use Rattle.reader.specs.Laws.{Headed, headed}
-use Rattle.answers.proofs.Laws.{judge-by, check-edition, check-short, check-odd, check-other, check-whole}
+use Rattle.answers.specs.Checks.{check-edition, check-short, check-odd, check-other, check-whole}
+use Rattle.answers.proofs.Laws.{judge-by}
 use borrow.Author.Needs.{needs}
 use Rattle.answers.proofs.check.Statement.{statement}
 use Rattle.answers.proofs.check.Tie as tie

@@ -16,7 +16,7 @@ returns c =
     subst (λ (is : List Item). Closes (now (s .args .f)) is 8 (c .group-read .result)) (counted-group (s .args .a) (s .args .kind) (s .pre .1 .1 .1 .0) (c .before .if1 .taken)) (c .group-read .ensures)
 
 group-read-requires : tie.Need-group-read-requires
-group-read-requires c κs = let s = c .before .before in (s .pre .0, (s .pre .1 .0, s .pre .1 .1 .1 .1))
+group-read-requires c κs = let s = c .before .before in (s .pre .0, (s .pre .1 .0, s .pre .1 .1 .1 .1 (c .if1 .taken)))
 
 returns-2 : tie.Need-returns-2
 returns-2 c =

@@ -1,11 +1,11 @@
 -- Each entry of the table is its callee's.
-use mathlib.Core.Path.{ap, _∙_}
+use mathlib.Core.Path.{sym, ap, _∙_}
 use mathlib.Core.Bool.{Bool, cond}
 use mathlib.Core.List.{[], _∷_}
 use Prim.Native.Nat.{_+_, _-_, _*_}
 use borrow.Author.Needs.{needs}
 use Rattle.meaning.specs.Bytes.{ones}
-use Rattle.plan.specs.Sums.{sumsOf}
+use Rattle.plan.specs.Sums.{sumsOf, group-count}
 use Rattle.plan.proofs.sums.sums.Statement.{statement}
 use Rattle.plan.proofs.sums.sums.Tie as tie
 
@@ -23,7 +23,7 @@ returns c =
     ∷ (c .before .before .before .before .eights3 .ensures .0 j)
     ∷ (c .before .before .before .eights4 .ensures .0 j)
     ∷ i j
-    ∷ (8 + (c .eights5 .ensures .0 j))
+    ∷ ((c .group .ensures .0 ∙ sym (group-count (a .format))) j)
     ∷ []
 
 pub sums-spec : {M : Type 1} → statement M
@@ -42,5 +42,4 @@ sums-spec =
     (λ c κs. search needs)
     (λ c κs. search needs)
     (λ c κs. search needs)
-    (λ c. search needs)
     returns)

@@ -5,8 +5,8 @@ use borrow.Author.Needs.{needs}
 use Rattle.meaning.specs.declared.Attributes.{Attributes}
 use Rattle.meaning.specs.Editions.{editions}
 use Rattle.meaning.specs.Drain.{End, told, drain}
-use Rattle.ollskuvan.proofs.ollskuvan_drain.Statement.{statement}
-use Rattle.ollskuvan.proofs.ollskuvan_drain.Tie as tie
+use Rattle.ollskuvan_loop.proofs.ollskuvan_drain.Statement.{statement}
+use Rattle.ollskuvan_loop.proofs.ollskuvan_drain.Tie as tie
 
 returns : tie.Need-returns
 returns c =

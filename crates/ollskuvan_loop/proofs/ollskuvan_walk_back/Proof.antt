@@ -6,8 +6,8 @@ use Rattle.meaning.specs.declared.Attributes.{Attributes}
 use Rattle.meaning.specs.Editions.{editions}
 use Rattle.meaning.specs.Drain.{End}
 use Rattle.meaning.specs.Backward.{walkTold, walkBack}
-use Rattle.ollskuvan.proofs.ollskuvan_walk_back.Statement.{statement}
-use Rattle.ollskuvan.proofs.ollskuvan_walk_back.Tie as tie
+use Rattle.ollskuvan_loop.proofs.ollskuvan_walk_back.Statement.{statement}
+use Rattle.ollskuvan_loop.proofs.ollskuvan_walk_back.Tie as tie
 
 returns : tie.Need-returns
 returns c =
