@@ -1,5 +1,5 @@
 -- Straight code that fills the words of items one after the other: what it asks for, what it leaves, and how two pieces join. Assumes nothing.
-use mathlib.Core.Path.{_≡_, refl, sym, ap, ap₂, _∙_}
+use mathlib.Core.Path.{_≡_, refl, sym, ap, ap₂, _∙_, subst}
 use mathlib.Core.Bool.{Bool}
 use mathlib.Core.List.{List, [], _∷_, _++_, append-assoc}
 use Prim.Native.Nat.{ℕ, _+_, _-_, _≤_}
@@ -29,6 +29,18 @@ pub record Ready (is : List Item) (xs : List ℕ) (c : Cursor) (d : List ℕ) (a
 pub record Filling (is : List Item) (xs : List ℕ) (c : Cursor) (d : List ℕ) (at : ℕ) (d′ : List ℕ) (c′ : Cursor) : Type 0 where
   pub put-is : d′ ≡ put d at (words xs is c)
   pub walk-is : c′ ≡ walk xs is c
+
+-- no word more, and none less
+pub long : {is : List Item} {xs : List ℕ} {c : Cursor} {d : List ℕ} {at : ℕ} {d′ : List ℕ} {c′ : Cursor} → Filling is xs c d at d′ c′ → length d′ ≡ length d
+long {is} {xs} {c} {d} {at} f = ap length (f .put-is) ∙ length-put d at (words xs is c)
+
+-- of equal lists
+pub ready-as : {is js : List Item} {xs : List ℕ} {c : Cursor} {d : List ℕ} {at : ℕ} → is ≡ js → Ready is xs c d at → Ready js xs c d at
+ready-as {is} {js} {xs} {c} {d} {at} e r = subst (λ (l : List Item). Ready l xs c d at) e r
+
+pub filling-as : {is js : List Item} {xs : List ℕ} {c : Cursor} {d : List ℕ} {at : ℕ} {d′ : List ℕ} {c′ : Cursor} → is ≡ js
+    → Filling is xs c d at d′ c′ → Filling js xs c d at d′ c′
+filling-as {is} {js} {xs} {c} {d} {at} {d′} {c′} e f = subst (λ (l : List Item). Filling l xs c d at d′ c′) e f
 
 -- ---- the words of two lists of items
 
@@ -107,6 +119,11 @@ module _ (is js : List Item) {xs : List ℕ} {c : Cursor} {d : List ℕ} {at : �
             ∙ g .same;
         ends = ap (walk xs js) (f .walk-is) ∙ sym (walk-append xs is js c) ∙ g .ends;
       }
+
+-- the last piece is all that is left
+pub last : {is js : List Item} {xs : List ℕ} {c c₀ c′ : Cursor} {d d₀ d′ : List ℕ} {at at₀ : ℕ} → Going is xs c d at (put d₀ at₀ (words xs js c₀)) (walk xs js c₀)
+    → Filling is xs c d at d′ c′ → Filling js xs c₀ d₀ at₀ d′ c′
+last g f = record { put-is = f .put-is ∙ g .same; walk-is = f .walk-is ∙ g .ends }
 
 -- ---- one item, whose guard was found by the code
 
