@@ -25,7 +25,10 @@ public() { # CRATE
 }
 named=$(tr -s '\n ' ' ' <docs/DECISIONS.md | sed -n 's/.*- 38\. .*the entry points \(.*\) and all exports have none.*/\1/p' | grep -oE '[a-z_]+::[a-z_]+')
 [ "$(wc -w <<<"$named")" -ge 10 ] || say "decision 38 does not name the entry points: $named"
-exports=$(public ollskuvan | cut -d' ' -f1)
+exports=$(for crate in $(sed -n "s/^exports='\(.*\)'$/\1/p" tools/library.sh); do
+  sed -n "s/^pub extern \"C\" fn \([a-z_]*\).*/$crate::\1/p" "crates/$crate/src/lib.rt"
+done)
+[ "$(wc -w <<<"$exports")" -ge 18 ] || say "the crates that tools/library.sh names do not have the exports: $exports"
 for entry in $named $exports; do
   grep -qx "$entry refuses" <(public "${entry%%::*}") || say "an entry point asks, or is not there: $entry"
 done

@@ -6,7 +6,6 @@ ghost use lib.ListN.{length};
 ghost use Rattle.meaning.specs.Editions.{editions, known};
 ghost use Rattle.meaning.specs.Records.{layout, kindOf, judge, check};
 ghost use Rattle.exact.specs.Stretches.{groupFixed};
-ghost use Rattle.plan.specs.Marks.{lastType};
 use meaning::Attributes;
 use meaning::Known;
 
@@ -35,20 +34,20 @@ fn group_words(kind: u64, a: Attributes) -> usize
 }
 
 // A record of whole words, below 65,536 bytes.
-fn planned(r: &[u8], known: Known, a: Attributes) -> u16
+fn planned(r: &[u8], e: u64, a: Attributes) -> u16
     requires { ⌜ 8 ≤ length (now r) ⌝ }
     requires { ⌜ length (now r) < 65536 ⌝ }
     requires { ⌜ length (now r) % 8 ≡ 0 ⌝ }
-    requires { ⌜ known .kinds ≤ lastType ⌝ }
-    ensures { λ x. ⌜ x ≡ judge (layout known a) (now (r .entry)) ⌝ }
+    ensures { λ x. ⌜ x ≡ judge (layout (known editions e) a) (now (r .entry)) ⌝ }
 {
+    let row = record::edition(e);
     let kind = wire::u32_at(r, 0);
     if kind == 9 {
-        return sampled(r, kind, known, a);
+        return sampled(r, kind, row, a);
     }
     let trail = record::trailer_room(1, a);
-    let mark = plan::marks::other_mark(known, a, kind, trail as u64);
-    plan::judge::other(r, kind, mark, known, a, trail, group_words(kind, a))
+    let mark = plan::marks::other_mark(row, a, kind, trail as u64);
+    plan::judge::other(r, kind, mark, row, a, trail, group_words(kind, a))
 }
 
 // The answer for a record's bytes. A length that no record in a ring has is left to the plain judge.
@@ -60,7 +59,7 @@ pub fn judge(r: &[u8], e: u64, a: Attributes) -> u16
     if (n % 8 != 0) | (65535 < n) {
         return record::judge(r, e, a);
     }
-    planned(r, record::edition(e), a)
+    planned(r, e, a)
 }
 
 // Record check: "2; 7 if the slice is shorter than 8; 6; 7 if the size differs from the slice's length; 20 to 33; otherwise 0".
@@ -82,5 +81,5 @@ pub fn check(r: &[u8], e: u64, a: Attributes) -> u16
     if !whole {
         return 7;
     }
-    planned(r, record::edition(e), a)
+    planned(r, e, a)
 }

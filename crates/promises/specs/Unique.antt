@@ -65,6 +65,9 @@ use Rattle.compare.specs.declared.Compared.{Compared}
 use Rattle.compare.specs.Compared.{Side, sideOf, scratchThen}
 use Rattle.fast_drain.proofs as fast
 use Rattle.replay.proofs as replay
+use Rattle.given.proofs as given
+use Rattle.fast_check.proofs as checks
+use Rattle.ollskuvan_loop.proofs as loop
 use Rattle.ollskuvan.proofs as ollskuvan
 use Rattle.writer_words.proofs as words
 use Rattle.writer_forms.proofs as forms
@@ -373,11 +376,23 @@ exact-types-text-poke κs a x y s t p q = same (p 0 0) (q 0 0)
 pub plan-judge-judge : Result plan.judge.judge.Kinds.ps plan.judge.judge.Kinds.r plan.judge.judge.Reads.Learnt
 plan-judge-judge κs a x y s t p q = same p q
 
+pub plan-judge-other : Result plan.judge.other.Kinds.ps plan.judge.other.Kinds.r plan.judge.other.Reads.Learnt
+plan-judge-other κs a x y s t p q = same p q
+
 pub plan-sums-read-values : Result plan.sums.read_values.Kinds.ps plan.sums.read_values.Kinds.r plan.sums.read_values.Reads.Learnt
 plan-sums-read-values κs a x y s t p q = same (p .0) (q .0)
 
+pub plan-sums-group : Result plan.sums.group.Kinds.ps plan.sums.group.Kinds.r plan.sums.group.Reads.Learnt
+plan-sums-group κs a x y s t p q = same (p .0) (q .0)
+
 pub plan-sums-sums : Result plan.sums.sums.Kinds.ps plan.sums.sums.Kinds.r plan.sums.sums.Reads.Learnt
 plan-sums-sums κs a x y s t p q = same p q
+
+pub fast-check-judge : Result checks.judge.Kinds.ps checks.judge.Kinds.r checks.judge.Reads.Learnt
+fast-check-judge κs a x y s t p q = same p q
+
+pub fast-check-check : Result checks.check.Kinds.ps checks.check.Kinds.r checks.check.Reads.Learnt
+fast-check-check κs a x y s t p q = same p q
 
 -- ---- names: the copier of names: the answer, and the buffer at exit
 
@@ -712,15 +727,18 @@ salvage-salvage-out κs a x y s t p q = same (p .1 .0) (q .1 .0)
 pub salvage-salvage-list : Seen salvage.salvage.Kinds.ps salvage.salvage.Kinds.r salvage.salvage.Reads.Learnt (λ κs x s. now (s .1 .1 .1 .1 .1 .0))
 salvage-salvage-list κs a x y s t p q = same (p .1 .1) (q .1 .1)
 
--- ---- ollskuvan: what C calls
+-- ---- given, ollskuvan_loop, ollskuvan: what C calls
 
-pub ollskuvan-drain : Result ollskuvan.ollskuvan_drain.Kinds.ps ollskuvan.ollskuvan_drain.Kinds.r ollskuvan.ollskuvan_drain.Reads.Learnt
+pub given-attributes : Result given.attributes.Kinds.ps given.attributes.Kinds.r given.attributes.Reads.Learnt
+given-attributes κs a x y s t p q = same p q
+
+pub ollskuvan-drain : Result loop.ollskuvan_drain.Kinds.ps loop.ollskuvan_drain.Kinds.r loop.ollskuvan_drain.Reads.Learnt
 ollskuvan-drain κs a x y s t p q = same (p .0) (q .0)
 
-pub ollskuvan-drain-journal : Seen ollskuvan.ollskuvan_drain.Kinds.ps ollskuvan.ollskuvan_drain.Kinds.r ollskuvan.ollskuvan_drain.Reads.Learnt (λ κs x s. now (s .1 .1 .1 .1 .1 .1 .1 .1 .1 .1 .1 .1 .0))
+pub ollskuvan-drain-journal : Seen loop.ollskuvan_drain.Kinds.ps loop.ollskuvan_drain.Kinds.r loop.ollskuvan_drain.Reads.Learnt (λ κs x s. now (s .1 .1 .1 .1 .1 .1 .1 .1 .1 .1 .1 .1 .0))
 ollskuvan-drain-journal κs a x y s t p q = same (p .1 .0) (q .1 .0)
 
-pub ollskuvan-drain-scratch : Seen ollskuvan.ollskuvan_drain.Kinds.ps ollskuvan.ollskuvan_drain.Kinds.r ollskuvan.ollskuvan_drain.Reads.Learnt (λ κs x s. now (s .1 .1 .1 .1 .1 .1 .1 .1 .1 .1 .1 .0))
+pub ollskuvan-drain-scratch : Seen loop.ollskuvan_drain.Kinds.ps loop.ollskuvan_drain.Kinds.r loop.ollskuvan_drain.Reads.Learnt (λ κs x s. now (s .1 .1 .1 .1 .1 .1 .1 .1 .1 .1 .1 .0))
 ollskuvan-drain-scratch κs a x y s t p q = same (p .1 .1) (q .1 .1)
 
 pub ollskuvan-read-one : Result ollskuvan.ollskuvan_read_one.Kinds.ps ollskuvan.ollskuvan_read_one.Kinds.r ollskuvan.ollskuvan_read_one.Reads.Learnt
@@ -778,13 +796,13 @@ ollskuvan-replay-rooms κs a x y s t p q = same (p .1 .0) (q .1 .0)
 pub ollskuvan-replay-journal : Seen ollskuvan.ollskuvan_replay.Kinds.ps ollskuvan.ollskuvan_replay.Kinds.r ollskuvan.ollskuvan_replay.Reads.Learnt (λ κs x s. now (s .1 .1 .1 .1 .1 .0))
 ollskuvan-replay-journal κs a x y s t p q = same (p .1 .1) (q .1 .1)
 
-pub ollskuvan-walk-back : Result ollskuvan.ollskuvan_walk_back.Kinds.ps ollskuvan.ollskuvan_walk_back.Kinds.r ollskuvan.ollskuvan_walk_back.Reads.Learnt
+pub ollskuvan-walk-back : Result loop.ollskuvan_walk_back.Kinds.ps loop.ollskuvan_walk_back.Kinds.r loop.ollskuvan_walk_back.Reads.Learnt
 ollskuvan-walk-back κs a x y s t p q = same (p .0) (q .0)
 
-pub ollskuvan-walk-back-journal : Seen ollskuvan.ollskuvan_walk_back.Kinds.ps ollskuvan.ollskuvan_walk_back.Kinds.r ollskuvan.ollskuvan_walk_back.Reads.Learnt (λ κs x s. now (s .1 .1 .1 .1 .1 .1 .1 .1 .1 .1 .1 .0))
+pub ollskuvan-walk-back-journal : Seen loop.ollskuvan_walk_back.Kinds.ps loop.ollskuvan_walk_back.Kinds.r loop.ollskuvan_walk_back.Reads.Learnt (λ κs x s. now (s .1 .1 .1 .1 .1 .1 .1 .1 .1 .1 .1 .0))
 ollskuvan-walk-back-journal κs a x y s t p q = same (p .1 .0) (q .1 .0)
 
-pub ollskuvan-walk-back-scratch : Seen ollskuvan.ollskuvan_walk_back.Kinds.ps ollskuvan.ollskuvan_walk_back.Kinds.r ollskuvan.ollskuvan_walk_back.Reads.Learnt (λ κs x s. now (s .1 .1 .1 .1 .1 .1 .1 .1 .1 .1 .0))
+pub ollskuvan-walk-back-scratch : Seen loop.ollskuvan_walk_back.Kinds.ps loop.ollskuvan_walk_back.Kinds.r loop.ollskuvan_walk_back.Reads.Learnt (λ κs x s. now (s .1 .1 .1 .1 .1 .1 .1 .1 .1 .1 .0))
 ollskuvan-walk-back-scratch κs a x y s t p q = same (p .1 .1) (q .1 .1)
 
 pub ollskuvan-walk-back-events : Result ollskuvan.ollskuvan_walk_back_events.Kinds.ps ollskuvan.ollskuvan_walk_back_events.Kinds.r ollskuvan.ollskuvan_walk_back_events.Reads.Learnt

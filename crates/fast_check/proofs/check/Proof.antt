@@ -1,19 +1,17 @@
 -- Test by test, in the order of the definition; then the judge of a record whose size is its length.
-use mathlib.Core.Path.{_≡_, sym, ap, _∙_, subst}
+use mathlib.Core.Path.{_≡_, sym, ap, _∙_}
 use mathlib.Core.Bool.{true}
-use Prim.Native.Nat.{ℕ, _%_, _≤_}
+use Prim.Native.Nat.{ℕ, _%_}
 use native.Mathlib.Omega.{arith}
 use lib.Dec.{leb, eqb}
 use lib.ListN.{length}
 use denote.Ref.{now}
 use borrow.Author.Needs.{needs}
 use borrow.Author.Tests.{not-true, not-false, eqb-true}
-use Rattle.meaning.specs.declared.Known.{Known}
 use Rattle.meaning.specs.Editions.{editions, allowed}
-use Rattle.meaning.specs.Records.{layout, judge, sizeOf}
+use Rattle.meaning.specs.Records.{sizeOf}
 use Rattle.laws.specs.Bytes.{and-true}
 use Rattle.answers.specs.Checks.{check-edition, check-short, check-odd, check-other, check-whole}
-use Rattle.plan.specs.Marks.{lastType, kinds-most}
 use Rattle.fast_check.proofs.check.Statement.{statement}
 use Rattle.fast_check.proofs.check.Tie as tie
 
@@ -44,21 +42,20 @@ returns-4 c =
 
 planned-requires : tie.Need-planned-requires
 planned-requires c κs =
-    let a = c .before .before .before .before .before .before .before .before .args in
+    let a = c .before .before .before .before .before .before .before .args in
     let n = length (now (a .r)) in
-    let size = c .before .before .before .u16-at .result in
-    let v = and-true (leb 8 size) (eqb (size % 8) 0) (not-false _ (c .before .before .if3 .left)) in
+    let size = c .before .before .u16-at .result in
+    let v = and-true (leb 8 size) (eqb (size % 8) 0) (not-false _ (c .before .if3 .left)) in
     let d = eqb-true (size % 8) 0 (v .1) in
-    let w : size ≡ n = eqb-true size n (not-false _ (c .before .if4 .left)) in
-    let l = c .before .before .before .u16-at .ensures .1 in
-    (c .before .before .before .before .if2 .left, (omega (arith, w, l), (sym (ap (λ (i : ℕ). i % 8) w) ∙ d, subst (λ (k : Known). k .kinds ≤ lastType) (sym (c .edition .ensures)) (kinds-most (a .e)))))
+    let w : size ≡ n = eqb-true size n (not-false _ (c .if4 .left)) in
+    let l = c .before .before .u16-at .ensures .1 in
+    (c .before .before .before .if2 .left, (omega (arith, w, l), sym (ap (λ (i : ℕ). i % 8) w) ∙ d))
 
 returns-5 : tie.Need-returns-5
 returns-5 c =
-    let a = c .before .before .before .before .before .before .before .before .before .args in
+    let a = c .before .before .before .before .before .before .before .before .args in
     c .planned .ensures
-    ∙ ap (λ (k : Known). judge (layout k (a .a)) (now (a .r))) (c .before .edition .ensures)
-    ∙ check-whole editions (a .e) (a .a) (now (a .r)) (known-edition (c .before .before .before .before .before .before)) (c .before .before .before .before .before .if2 .left) _ (told (c .before .before .before .before)) (not-false _ (c .before .before .before .if3 .left)) (not-false _ (c .before .before .if4 .left))
+    ∙ check-whole editions (a .e) (a .a) (now (a .r)) (known-edition (c .before .before .before .before .before)) (c .before .before .before .before .if2 .left) _ (told (c .before .before .before)) (not-false _ (c .before .before .if3 .left)) (not-false _ (c .before .if4 .left))
 
 pub check-spec : {M : Type 1} → statement M
 check-spec =
@@ -70,6 +67,5 @@ check-spec =
     (λ c κs. search needs)
     returns-3
     returns-4
-    (λ c κs. search needs)
     planned-requires
     returns-5)

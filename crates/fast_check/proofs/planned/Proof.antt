@@ -1,34 +1,56 @@
 -- SAMPLE apart; any other type by its mark, which is not that of a SAMPLE in stretches.
+use mathlib.Core.Path.{sym, ap, _∙_, subst}
+use Prim.Native.Nat.{_≤_}
 use native.Mathlib.Omega.{arith}
+use denote.Ref.{now}
 use borrow.Author.Needs.{needs}
-use Rattle.meaning.specs.Records.{kindOf}
+use Rattle.meaning.specs.declared.Known.{Known}
+use Rattle.meaning.specs.Records.{layout, kindOf, judge}
+use Rattle.plan.specs.Marks.{lastType, kinds-most}
 use Rattle.fast_check.proofs.planned.Statement.{statement}
 use Rattle.fast_check.proofs.planned.Tie as tie
 
 sampled-requires : tie.Need-sampled-requires
 unfolding kindOf
 sampled-requires c κs =
-    let p = c .before .before .before .pre in (p .0, (p .1 .0, (p .1 .1 .0, (c .before .u32-at .ensures .0, c .if1 .taken))))
+    let p = c .before .before .before .before .pre in (p .0, (p .1 .0, (p .1 .1, (c .before .u32-at .ensures .0, c .if1 .taken))))
+
+returns : tie.Need-returns
+returns c =
+    let a = c .before .before .before .before .before .args in
+    c .sampled .ensures ∙ ap (λ (k : Known). judge (layout k (a .a)) (now (a .r))) (c .before .before .before .edition .ensures)
+
+other-mark-requires : tie.Need-other-mark-requires
+other-mark-requires c κs =
+    let t = c .trailer-room .ensures in
+    let l = t .1 in
+    (subst (λ (k : Known). k .kinds ≤ lastType) (sym (c .before .before .before .edition .ensures)) (kinds-most (c .before .before .before .before .before .args .e)), (t .0, (omega (arith, l), c .before .if1 .left)))
 
 other-requires : tie.Need-other-requires
 unfolding kindOf
 other-requires c κs =
-    let p = c .before .before .before .before .before .before .pre in
+    let p = c .before .before .before .before .before .before .before .pre in
     let t = c .before .before .trailer-room .ensures in
     let l = t .1 in
     let m = c .before .other-mark .ensures in
     let z = c .before .before .before .if1 .left in
-    (p .0, (p .1 .0, (p .1 .1 .0, (c .before .before .before .before .u32-at .ensures .0, (m, (t .0, (omega (arith, l), (c .group-words .ensures, λ e. z (m .stretched e .0)))))))))
+    (p .0, (p .1 .0, (p .1 .1, (c .before .before .before .before .u32-at .ensures .0, (m, (t .0, (omega (arith, l), (c .group-words .ensures, λ e. z (m .stretched e .0)))))))))
+
+returns-2 : tie.Need-returns-2
+returns-2 c =
+    let a = c .before .before .before .before .before .before .before .before .args in
+    c .other .ensures ∙ ap (λ (k : Known). judge (layout k (a .a)) (now (a .r))) (c .before .before .before .before .before .before .edition .ensures)
 
 pub planned-spec : {M : Type 1} → statement M
 planned-spec =
     tie.close
     (tie.spec
     (λ c κs. search needs)
+    (λ c κs. search needs)
     sampled-requires
-    (λ c. search needs)
+    returns
     (λ c κs. search needs)
-    (λ c κs. search needs)
+    other-mark-requires
     (λ c κs. search needs)
     other-requires
-    (λ c. search needs))
+    returns-2)
