@@ -14,9 +14,9 @@ use Rattle.meaning.specs.declared.Known.{Known}
 use Rattle.meaning.specs.Refusals.{first}
 use Rattle.meaning.specs.Editions.{knows, sampleBit, isIn, unreadable}
 use Rattle.meaning.specs.Records.{layout, kindOf, judge}
-use Rattle.meaning.specs.Events.{attributesOf, eventAt, identifiers, identifierOf, indexOf, layoutFor, judgeEvents}
+use Rattle.meaning.specs.Events.{attributesOf, eventAt, eventOf, eventsOf, identifiers, distinct, identifierOf, indexOf, layoutFor, judgeEvents}
 use Rattle.laws.specs.Bytes.{apart}
-use Rattle.laws.specs.Lookup.{identifiers-length, in-there, in-none}
+use Rattle.laws.specs.Lookup.{identifiers-length, identifier-at, in-there, in-none, index-unique, rows-length, row-at}
 use Rattle.plan.specs.Sums.{sumsOf}
 use Rattle.plan.specs.Marks.{Marked}
 
@@ -60,9 +60,16 @@ pub record Filled (k : Known) (es : List Event) (id : ℕ) (s : List (List ℕ))
   pub index : getD (note s) 1 0 ≡ 1 → (getD (note s) 5 0 ≡ indexOf id (identifiers es)) × (indexOf id (identifiers es) < length es)
   pub planned : getD (note s) 1 0 ≡ 1 → Planned k (attributesFor es id) s
 
--- an empty slot says nothing
-abbrev pub Slot : Known → List Event → List (List ℕ) → Type 0
-Slot k es s = (getD (note s) 1 0 ≡ 0 → ⊥) → Filled k es (getD (note s) 0 0) s
+-- a slot in which the index of its identifier alone is noted: the edition knows bit 16, and the identifier is in the table
+pub record Noted (k : Known) (es : List Event) (id : ℕ) (s : List (List ℕ)) : Type 0 where
+  pub known-there : 16 < k .samples
+  pub index : getD (note s) 5 0 ≡ indexOf id (identifiers es)
+  pub inside : indexOf id (identifiers es) < length es
+
+-- a slot that is not filled says nothing, or its index alone; any other is its identifier's
+pub record Slot (k : Known) (es : List Event) (s : List (List ℕ)) : Type 0 where
+  pub filled : (getD (note s) 1 0 ≡ 0 → ⊥) → Filled k es (getD (note s) 0 0) s
+  pub noted : getD (note s) 1 0 ≡ 0 → getD (note s) 6 0 ≡ 1 → Noted k es (getD (note s) 0 0) s
 
 -- every slot of a drain is the slot of the identifier that it names
 pub record Memo (k : Known) (es : List Event) (m : List (List (List ℕ))) : Type 0 where
@@ -72,7 +79,10 @@ pub record Memo (k : Known) (es : List Event) (m : List (List (List ℕ))) : Typ
 
 -- all are empty
 pub memo-first : (k : Known) (es : List Event) (n : ℕ) → Memo k es (replicate n (replicate 2 (replicate 8 0)))
-memo-first k es n = record { at = λ i h z. absurd (z (ap (λ (s : List (List ℕ)). getD (note s) 1 0) (getD-replicate n i (replicate 2 (replicate 8 0)) [] (subst (λ (l : ℕ). i < l) (length-replicate n _) h)))) }
+memo-first k es n = record { at = λ i h. subst (Slot k es) (sym (getD-replicate n i (replicate 2 (replicate 8 0)) [] (subst (λ (l : ℕ). i < l) (length-replicate n _) h))) none }
+  where
+    none : Slot k es (replicate 2 (replicate 8 0))
+    none = record { filled = λ z. absurd (z refl); noted = λ e f. absurd (omega (arith, f)) }
 
 -- the slot at a place is another's
 pub memo-put : (k : Known) (es : List Event) (m : List (List (List ℕ))) (h : ℕ) (s : List (List ℕ)) → Memo k es m → Slot k es s → Memo k es (set m h s)
@@ -84,13 +94,45 @@ memo-put k es m h s w f = record { at = λ i l. by i (subst (λ (n : ℕ). i < n
         subst (λ (j : ℕ). Slot k es (getD (set m h s) j [])) (sym q) (subst (Slot k es) (sym (getD-set-same m h s [] (subst (λ (j : ℕ). j < length m) q l))) f)
     by i l false e = subst (Slot k es) (sym (getD-set-other m h i s [] (eqb-false i h e))) (w .at i l)
 
--- a slot of this identifier, which is not empty
+-- a slot of this identifier, which is filled
 pub memo-held : (k : Known) (es : List Event) (m : List (List (List ℕ))) (h id : ℕ) → Memo k es m → h < length m → getD (note (getD m h [])) 0 0 ≡ id
     → (getD (note (getD m h [])) 1 0 ≡ 0 → ⊥) → Filled k es id (getD m h [])
-memo-held k es m h id w l e z = subst (λ (n : ℕ). Filled k es n (getD m h [])) e (w .at h l z)
+memo-held k es m h id w l e z = subst (λ (n : ℕ). Filled k es n (getD m h [])) e (w .at h l .filled z)
+
+-- a slot of this identifier, in which its index is noted
+pub slot-noted : (k : Known) (es : List Event) (id : ℕ) (s : List (List ℕ)) → Slot k es s → getD (note s) 0 0 ≡ id → getD (note s) 1 0 ≡ 0
+    → getD (note s) 6 0 ≡ 1 → Noted k es id s
+slot-noted k es id s w e f g = subst (λ (n : ℕ). Noted k es n s) e (w .noted f g)
+
+-- what is filled says what its identifier's records are
+filled-some : (k : Known) (es : List Event) (id : ℕ) (s : List (List ℕ)) → Filled k es id s → getD (note s) 1 0 ≡ 0 → ⊥
+unfolding standing
+filled-some k es id s f e = by (ltb 16 (k .samples)) (isIn id (identifiers es)) (sym (f .stands) ∙ e)
+  where
+    by : (b c : Bool) → _≡_ {A = ℕ} (cond b (cond c 1 26) 21) 0 → ⊥
+    by true true q = omega (arith, q)
+    by true false q = omega (arith, q)
+    by false c q = omega (arith, q)
 
 filled-slot : (k : Known) (es : List Event) (id : ℕ) (s : List (List ℕ)) → Filled k es id s → Slot k es s
-filled-slot k es id s f z = subst (λ (n : ℕ). Filled k es n s) (sym (f .whose)) f
+filled-slot k es id s f = record { filled = λ z. subst (λ (n : ℕ). Filled k es n s) (sym (f .whose)) f; noted = λ e g. absurd (filled-some k es id s f e) }
+
+-- the index of an event of a table whose identifiers are distinct, noted at a place
+pub memo-entered : (k : Known) (rows : List (List ℕ)) (m : List (List (List ℕ))) (h i : ℕ) (s : List (List ℕ)) → Memo k (eventsOf rows) m → 16 < k .samples
+    → distinct (identifiers (eventsOf rows)) ≡ true → i < length rows → getD (note s) 0 0 ≡ getD (getD rows i []) 0 0 → getD (note s) 1 0 ≡ 0 → getD (note s) 5 0 ≡ i
+    → Memo k (eventsOf rows) (set m h s)
+unfolding eventOf
+memo-entered k rows m h i s w b d l e f g =
+    memo-put k (eventsOf rows) m h s w
+    (record { filled = λ z. absurd (z f); noted = λ q y. record { known-there = b; index = g ∙ sym its; inside = omega (arith, its, l, rows-length rows) } })
+  where
+    same : getD (identifiers (eventsOf rows)) i 0 ≡ getD (note s) 0 0
+    same = identifier-at (eventsOf rows) i ∙ ap (λ (v : Event). v .identifier) (row-at rows i [] l) ∙ sym e
+
+    its : indexOf (getD (note s) 0 0) (identifiers (eventsOf rows)) ≡ i
+    its =
+        ap (λ (n : ℕ). indexOf n (identifiers (eventsOf rows))) (sym same)
+        ∙ index-unique (identifiers (eventsOf rows)) i d (omega (arith, identifiers-length (eventsOf rows), rows-length rows, l))
 
 pub memo-filled : (k : Known) (es : List Event) (m : List (List (List ℕ))) (h id : ℕ) (s : List (List ℕ)) → Memo k es m → h < length m → Filled k es id s
     → Memo k es (set m h s) × Filled k es id (getD (set m h s) h [])

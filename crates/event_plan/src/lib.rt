@@ -1,19 +1,38 @@
 // The exact judge under a table of events. What edition and attributes fix of an event, its sums and marks, is made when its first record comes, and kept
 // by the record's identifier in slots that are lent. A slot is looked at before it is used: whose it is, and whether it is filled.
-//   slot[0]   the identifier; 0 where the slot is empty, 1 where the identifier is in the table, else the answer of its records (21, 26); the refusal of
-//             the types other than READ and SAMPLE, or 0; SAMPLE's mark; READ's mark; the event's index
+//   slot[0]   the identifier; 0 where the slot is not filled, 1 where the identifier is in the table, else the answer of its records (21, 26); the
+//             refusal of the types other than READ and SAMPLE, or 0; SAMPLE's mark; READ's mark; the event's index; in a slot that is not filled,
+//             1 where the index is noted already
 //   slot[1]   the event's sums
+// The lookup walks the table, once an identifier. Where the table is long, `enter_rows` notes the indices first, in one pass, and no walk is left for
+// an event whose slot no other has taken.
 ghost use mathlib.Core.Path.{_≡_};
+ghost use mathlib.Core.Bool.{true};
 ghost use mathlib.Core.List.{[]};
 ghost use Prim.Native.Nat.{_%_, _≤_, _<_};
 ghost use lib.ListN.{length, getD};
 ghost use Rattle.meaning.specs.Editions.{unreadable};
 ghost use Rattle.meaning.specs.Records.{kindOf, layout, judge};
-ghost use Rattle.meaning.specs.Events.{eventsOf, identifierOf, judgeEvents};
+ghost use Rattle.meaning.specs.Events.{identifiers, eventsOf, distinct, identifierOf, indexOf, judgeEvents};
 ghost use Rattle.plan.specs.Sums.{sumsOf};
 ghost use Rattle.plan.specs.Marks.{lastType, Marked};
-ghost use Rattle.event_plan.specs.Slots.{Filled, Memo, Planned, attributesFor};
+ghost use Rattle.event_plan.specs.Slots.{Filled, Slot, Memo, Planned, attributesFor};
 use meaning::Known;
+
+// The slot of an identifier that is in the table, at index i, under an edition that knows bit 16.
+fn planned(known: Known, rows: &[[u64; 7]], id: u64, i: usize) -> [[u64; 8]; 2]
+    requires { ⌜ 16 < known .samples ⌝ }
+    requires { ⌜ i ≡ indexOf id (identifiers (eventsOf (now rows))) ⌝ }
+    requires { ⌜ i < length (now rows) ⌝ }
+    ensures { λ r. ⌜ Filled known (eventsOf (now (rows .entry))) id r ⌝ }
+{
+    let a = events::attributes_at(rows, i);
+    let sums = plan::sums::sums(a);
+    let why = record::unreadable(known, a, 1, 0);
+    let sample = plan::marks::sample_mark(known, a, &sums);
+    let read = plan::marks::read_mark(known, a, sums[exact::TRAIL]);
+    [[id, 1, why as u64, sample, read, i as u64, 0, 0], sums]
+}
 
 // The slot of an identifier. One that is not in the table has a slot too: its records are as cheap as others.
 fn slot_for(known: Known, rows: &[[u64; 7]], id: u64) -> [[u64; 8]; 2]
@@ -26,12 +45,24 @@ fn slot_for(known: Known, rows: &[[u64; 7]], id: u64) -> [[u64; 8]; 2]
     if rows.len() <= i {
         return [[id, 26, 0, 0, 0, 0, 0, 0], [0, 0, 0, 0, 0, 0, 0, 0]];
     }
-    let a = events::attributes_at(rows, i);
-    let sums = plan::sums::sums(a);
-    let why = record::unreadable(known, a, 1, 0);
-    let sample = plan::marks::sample_mark(known, a, &sums);
-    let read = plan::marks::read_mark(known, a, sums[exact::TRAIL]);
-    [[id, 1, why as u64, sample, read, i as u64, 0, 0], sums]
+    planned(known, rows, id, i)
+}
+
+// The slot of an identifier, by what stands at its place: an index that is noted is not looked up.
+fn slot_by(known: Known, rows: &[[u64; 7]], id: u64, slot: &[[u64; 8]; 2]) -> [[u64; 8]; 2]
+    requires { ⌜ Slot known (eventsOf (now rows)) (now slot) ⌝ }
+    ensures { λ r. ⌜ Filled known (eventsOf (now (rows .entry))) id r ⌝ }
+{
+    if slot[0][0] != id {
+        return slot_for(known, rows, id);
+    }
+    if slot[0][1] != 0 {
+        return slot_for(known, rows, id);
+    }
+    if slot[0][6] != 1 {
+        return slot_for(known, rows, id);
+    }
+    planned(known, rows, id, slot[0][5] as usize)
 }
 
 // The place's slot is the identifier's afterwards, whatever it was.
@@ -47,7 +78,28 @@ fn hold(known: Known, rows: &[[u64; 7]], id: u64, memo: &mut [[[u64; 8]; 2]], h:
             return;
         }
     }
-    memo[h] = slot_for(known, rows, id);
+    memo[h] = slot_by(known, rows, id, &memo[h]);
+}
+
+// The index of every event of a table whose identifiers are distinct, each in the slot of its identifier; of two at one place the later stays. An
+// edition that does not know bit 16 answers 21 to every identifier: nothing is noted.
+pub fn enter_rows(known: Known, rows: &[[u64; 7]], memo: &mut [[[u64; 8]; 2]])
+    requires { ⌜ 1 ≤ length (now memo) ⌝ }
+    requires { ⌜ distinct (identifiers (eventsOf (now rows))) ≡ true ⌝ }
+    requires { ⌜ Memo known (eventsOf (now rows)) (now memo) ⌝ }
+    ensures { λ _. ⌜ Memo known (eventsOf (now (rows .entry))) (now (memo .exit)) ⌝ }
+    ensures { λ _. ⌜ length (now (memo .exit)) ≡ length (now (memo .entry)) ⌝ }
+{
+    if known.samples < 17 {
+        return;
+    }
+    let mut i = 0;
+    while i < rows.len() {
+        let id = rows[i][0];
+        let h = (id & (memo.len() as u64 - 1)) as usize;
+        memo[h] = [[id, 0, 0, 0, 0, i as u64, 1, 0], [0, 0, 0, 0, 0, 0, 0, 0]];
+        i += 1;
+    }
 }
 
 // The mark of a record's type under its event. The attributes are named for the contract's sake; no instruction asks for them.
