@@ -20,7 +20,7 @@ fn read_event(r: &[u8], e: u64, rows: &[[u64; 7]], words: &mut [u64]) -> u16
     if m.answer != 0 {
         return m.answer;
     }
-    record::read_into(r, e, events::attributes_at(rows, m.index), words)
+    fast_read::read_into(r, e, events::attributes_at(rows, m.index), words)
 }
 
 // A record that was taken: where it is shown, its answer, and the tail moved by its size.

@@ -67,6 +67,7 @@ use Rattle.fast_drain.proofs as fast
 use Rattle.replay.proofs as replay
 use Rattle.given.proofs as given
 use Rattle.fast_check.proofs as checks
+use Rattle.fast_read.proofs as reads
 use Rattle.ollskuvan_loop.proofs as loop
 use Rattle.ollskuvan.proofs as ollskuvan
 use Rattle.writer_words.proofs as words
@@ -297,6 +298,12 @@ answers-check κs a x y s t p q = same p q
 pub record-or-dirty : Result records.or_dirty.Kinds.ps records.or_dirty.Kinds.r records.or_dirty.Reads.Learnt
 record-or-dirty κs a x y s t p q = same p q
 
+pub record-words-of-record : Result records.words.of_record.Kinds.ps records.words.of_record.Kinds.r records.words.of_record.Reads.Learnt
+record-words-of-record κs a x y s t p q = same p q
+
+pub record-words-copy : Seen records.words.copy.Kinds.ps records.words.copy.Kinds.r records.words.copy.Reads.Learnt (λ κs x s. now (s .1 .0))
+record-words-copy κs a x y s t p q = same p q
+
 pub record-read : Result records.read.Kinds.ps records.read.Kinds.r records.read.Reads.Learnt
 record-read κs a x y s t p q = same p q
 
@@ -393,6 +400,12 @@ fast-check-judge κs a x y s t p q = same p q
 
 pub fast-check-check : Result checks.check.Kinds.ps checks.check.Kinds.r checks.check.Reads.Learnt
 fast-check-check κs a x y s t p q = same p q
+
+pub fast-read-read-into : Result reads.read_into.Kinds.ps reads.read_into.Kinds.r reads.read_into.Reads.Learnt
+fast-read-read-into κs a x y s t p q = same (p .0) (q .0)
+
+pub fast-read-read-into-words : Seen reads.read_into.Kinds.ps reads.read_into.Kinds.r reads.read_into.Reads.Learnt (λ κs x s. now (s .1 .1 .1 .0))
+fast-read-read-into-words κs a x y s t p q = same (p .1) (q .1)
 
 -- ---- names: the copier of names: the answer, and the buffer at exit
 

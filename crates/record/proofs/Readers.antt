@@ -1,24 +1,17 @@
--- What an accepted record gives the loops over its rows, and that the words they leave are the record's; the cases of both readers.
--- Assumes nothing.
+-- What an accepted record gives the loops over its rows, and that the words they leave are the record's. Assumes nothing.
 use mathlib.Core.Path.{_≡_, refl, sym, ap, ap₂, _∙_, subst}
-use mathlib.Core.Bool.{cond}
 use mathlib.Core.List.{List, _∷_, _++_}
-use Prim.Native.Nat.{ℕ, _+_, _-_, _<_, _≤_}
+use Prim.Native.Nat.{ℕ, _+_, _-_, _≤_}
 use native.Mathlib.Omega.{arith}
 use lib.ListN.{length, take}
-use lib.Dec.{eqb}
-use borrow.Author.Tests.{le-leb, lt-leb, eq-eqb, ne-eqb}
 use Rattle.meaning.specs.declared.Attributes.{Attributes}
 use Rattle.meaning.specs.declared.Cursor.{Cursor}
 use Rattle.meaning.specs.declared.Item.{Item}
-use Rattle.meaning.specs.declared.Known.{Known}
-use Rattle.meaning.specs.declared.Reading.{Reading}
 use Rattle.meaning.specs.Bytes.{put, zeros}
 use Rattle.meaning.specs.Items.{walk}
 use Rattle.meaning.specs.Schema.{schema, trailer}
-use Rattle.meaning.specs.Editions.{known}
-use Rattle.meaning.specs.Records.{layout, kindOf, miscOf, sizeOf, room, origin, fieldsOf, fieldsAnswer, check}
-use Rattle.meaning.specs.Values.{width, flagWords, bodyWords, trailWords, valueWords, words, wordsBy, recordWords, readAnswered, read}
+use Rattle.meaning.specs.Records.{kindOf, miscOf, sizeOf, room, origin, fieldsOf, fieldsAnswer}
+use Rattle.meaning.specs.Values.{width, flagWords, bodyWords, trailWords, valueWords, words, wordsBy}
 use Rattle.laws.specs.Fixed.{fixed-run}
 use Rattle.laws.specs.Answers.{fields-zero}
 use Rattle.laws.specs.Every.{trailer-fixed}
@@ -26,7 +19,7 @@ use Rattle.laws.specs.Put.{put-put}
 use Rattle.laws.specs.Told.{words-length, flag-length, fields-few, trailer-few}
 use Rattle.table.specs.Rows.{fieldRows, allRows}
 use Rattle.table.specs.Same.{trailer-rows}
-use Rattle.record.specs.Into.{itemsOf, Fills, recordFlag, readIntoAnswer, readIntoWords}
+use Rattle.record.specs.Into.{itemsOf, Fills, recordFlag}
 
 -- ---- the two loops of an accepted record
 
@@ -113,52 +106,3 @@ module _ (a : Attributes) (xs : List ℕ) (kind misc t : ℕ) (g : Header a xs k
       ∙ ap (λ (k : ℕ). whole k misc size t) (g .kind-is)
       ∙ ap (λ (m : ℕ). whole (kindOf xs) m size t) (g .misc-is)
       ∙ ap₂ (λ (s n : ℕ). whole (kindOf xs) (miscOf xs) s n) es rooms
-
--- ---- the readers
-
-module _ (ks : List Known) (e : ℕ) (a : Attributes) (xs : List ℕ) where
-  words-of : wordsBy (schema (kindOf xs) (miscOf xs) a) (trailer (kindOf xs) a) xs ≡ recordWords (layout (known ks e) a) xs
-  unfolding recordWords layout
-  words-of = refl
-
-  module _ (answer : ℕ) (ea : answer ≡ check ks e a xs) where
-    pub read-is : (ws : List ℕ) → ws ≡ cond (eqb answer 0) (recordWords (layout (known ks e) a) xs) (zeros valueWords)
-        → record { answer = answer; words = ws } ≡ read ks e a xs
-    unfolding read readAnswered
-    read-is ws ew =
-        ap₂ (λ (n : ℕ) (w : List ℕ). reading n w) ea (ew ∙ ap (λ (n : ℕ). cond (eqb n 0) (recordWords (layout (known ks e) a) xs) (zeros valueWords)) ea)
-      where
-        reading : ℕ → List ℕ → Reading
-        reading n w = record { answer = n; words = w }
-
-    pub read-accepted : (ws : List ℕ) → answer ≡ 0 → ws ≡ wordsBy (schema (kindOf xs) (miscOf xs) a) (trailer (kindOf xs) a) xs
-        → record { answer = answer; words = ws } ≡ read ks e a xs
-    read-accepted ws z ew = read-is ws (ew ∙ words-of ∙ rw (eq-eqb answer 0 z) refl)
-
-    pub read-refused : (answer ≡ 0 → ⊥) → record { answer = answer; words = zeros valueWords } ≡ read ks e a xs
-    read-refused n = read-is (zeros valueWords) (rw (ne-eqb answer 0 n) refl)
-
-    module _ (ws : List ℕ) where
-      -- the words follow the answer
-      words-by : (n : ℕ) → n ≡ readIntoAnswer ks e a xs ws → cond (eqb n 0) (put ws 0 (recordWords (layout (known ks e) a) xs)) ws ≡ readIntoWords ks e a xs ws
-      unfolding readIntoWords
-      words-by n en = ap (λ (n : ℕ). cond (eqb n 0) (put ws 0 (recordWords (layout (known ks e) a) xs)) ws) en
-
-      pub into-refused : (answer ≡ 0 → ⊥) → (answer ≡ readIntoAnswer ks e a xs ws) × (ws ≡ readIntoWords ks e a xs ws)
-      unfolding readIntoAnswer
-      into-refused n =
-          let q : answer ≡ readIntoAnswer ks e a xs ws = rw (sym ea, ne-eqb answer 0 n) refl in
-          (q, rw (ne-eqb answer 0 n) at (words-by answer q))
-
-      pub into-short : answer ≡ 0 → length ws < valueWords → (40 ≡ readIntoAnswer ks e a xs ws) × (ws ≡ readIntoWords ks e a xs ws)
-      unfolding readIntoAnswer
-      into-short z h =
-          let q : 40 ≡ readIntoAnswer ks e a xs ws = rw (sym ea, eq-eqb answer 0 z, lt-leb valueWords (length ws) h) refl in
-          (q, words-by 40 q)
-
-      pub into-filled : (filled out : List ℕ) → answer ≡ 0 → valueWords ≤ length ws → filled ≡ wordsBy (schema (kindOf xs) (miscOf xs) a) (trailer (kindOf xs) a) xs
-          → out ≡ put ws 0 filled → (0 ≡ readIntoAnswer ks e a xs ws) × (out ≡ readIntoWords ks e a xs ws)
-      unfolding readIntoAnswer
-      into-filled filled out z h ef eo =
-          let q : 0 ≡ readIntoAnswer ks e a xs ws = rw (sym ea, eq-eqb answer 0 z, le-leb valueWords (length ws) h) refl in
-          (q, eo ∙ ap (put ws 0) (ef ∙ words-of) ∙ words-by 0 q)

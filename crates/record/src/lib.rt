@@ -15,7 +15,7 @@ pub use rules::edition;
 pub use rules::unreadable;
 
 mod flag;
-mod words;
+pub mod words;
 
 // The words that a reader is lent.
 const VALUE_WORDS: usize = 56;

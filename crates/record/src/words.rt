@@ -36,7 +36,7 @@ fn place(out: &mut [u64], at: usize, t: Words)
 }
 
 // The words of the items of rows `from` to `to`, the cursor at `first`, from word `start` on.
-pub fn fill(
+fn fill(
     s: &[u8],
     kind: u64,
     misc: u64,
