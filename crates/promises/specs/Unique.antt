@@ -72,6 +72,9 @@ use Rattle.given.proofs as given
 use Rattle.fast_check.proofs as checks
 use Rattle.ollskuvan_loop.proofs as loop
 use Rattle.ollskuvan_table.proofs as tabled
+use Rattle.ollskuvan_events.proofs as recorded
+use Rattle.ollskuvan_store.proofs as stored
+use Rattle.ollskuvan_saved.proofs as saved
 use Rattle.ollskuvan.proofs as ollskuvan
 use Rattle.writer_words.proofs as words
 use Rattle.writer_forms.proofs as forms
@@ -797,35 +800,35 @@ ollskuvan-drain-events-journal κs a x y s t p q = same (p .1 .0) (q .1 .0)
 pub ollskuvan-drain-events-scratch : Seen tabled.ollskuvan_drain_events.Kinds.ps tabled.ollskuvan_drain_events.Kinds.r tabled.ollskuvan_drain_events.Reads.Learnt (λ κs x s. now (s .1 .1 .1 .1 .1 .1 .0))
 ollskuvan-drain-events-scratch κs a x y s t p q = same (p .1 .1) (q .1 .1)
 
-pub ollskuvan-compare : Result ollskuvan.ollskuvan_compare.Kinds.ps ollskuvan.ollskuvan_compare.Kinds.r ollskuvan.ollskuvan_compare.Reads.Learnt
+pub ollskuvan-compare : Result saved.ollskuvan_compare.Kinds.ps saved.ollskuvan_compare.Kinds.r saved.ollskuvan_compare.Reads.Learnt
 ollskuvan-compare κs a x y s t p q = same (p .0) (q .0)
 
-pub ollskuvan-compare-left : Seen ollskuvan.ollskuvan_compare.Kinds.ps ollskuvan.ollskuvan_compare.Kinds.r ollskuvan.ollskuvan_compare.Reads.Learnt (λ κs x s. now (s .1 .1 .1 .0))
+pub ollskuvan-compare-left : Seen saved.ollskuvan_compare.Kinds.ps saved.ollskuvan_compare.Kinds.r saved.ollskuvan_compare.Reads.Learnt (λ κs x s. now (s .1 .1 .1 .0))
 ollskuvan-compare-left κs a x y s t p q =
     told-scratch (sideOf (askedEvents eventLimit editions (a .1 .1 .1 .1 .1 .1 .1 .1 .1 .0) (eventsOf (now (a .1 .1 .1 .1 .1 .1 .1 .1 .0)))) (now (a .0)) (a .1 .0) (a .1 .1 .0) (now (a .1 .1 .1 .0)))
     x y _ _ _ (p .0) (q .0) (p .1 .0) (q .1 .0)
 
-pub ollskuvan-compare-right : Seen ollskuvan.ollskuvan_compare.Kinds.ps ollskuvan.ollskuvan_compare.Kinds.r ollskuvan.ollskuvan_compare.Reads.Learnt (λ κs x s. now (s .1 .1 .1 .1 .1 .1 .1 .0))
+pub ollskuvan-compare-right : Seen saved.ollskuvan_compare.Kinds.ps saved.ollskuvan_compare.Kinds.r saved.ollskuvan_compare.Reads.Learnt (λ κs x s. now (s .1 .1 .1 .1 .1 .1 .1 .0))
 ollskuvan-compare-right κs a x y s t p q =
     told-scratch (sideOf (askedEvents eventLimit editions (a .1 .1 .1 .1 .1 .1 .1 .1 .1 .0) (eventsOf (now (a .1 .1 .1 .1 .1 .1 .1 .1 .0)))) (now (a .1 .1 .1 .1 .0)) (a .1 .1 .1 .1 .1 .0) (a .1 .1 .1 .1 .1 .1 .0) (now (a .1 .1 .1 .1 .1 .1 .1 .0)))
     x y _ _ _ (p .0) (q .0) (p .1 .1) (q .1 .1)
 
-pub ollskuvan-read-one-events : Result ollskuvan.ollskuvan_read_one_events.Kinds.ps ollskuvan.ollskuvan_read_one_events.Kinds.r ollskuvan.ollskuvan_read_one_events.Reads.Learnt
+pub ollskuvan-read-one-events : Result recorded.ollskuvan_read_one_events.Kinds.ps recorded.ollskuvan_read_one_events.Kinds.r recorded.ollskuvan_read_one_events.Reads.Learnt
 ollskuvan-read-one-events κs a x y s t p q = same (p .0) (q .0)
 
-pub ollskuvan-read-one-events-scratch : Seen ollskuvan.ollskuvan_read_one_events.Kinds.ps ollskuvan.ollskuvan_read_one_events.Kinds.r ollskuvan.ollskuvan_read_one_events.Reads.Learnt (λ κs x s. now (s .1 .1 .1 .1 .1 .0))
+pub ollskuvan-read-one-events-scratch : Seen recorded.ollskuvan_read_one_events.Kinds.ps recorded.ollskuvan_read_one_events.Kinds.r recorded.ollskuvan_read_one_events.Reads.Learnt (λ κs x s. now (s .1 .1 .1 .1 .1 .0))
 ollskuvan-read-one-events-scratch κs a x y s t p q = same (p .1 .0) (q .1 .0)
 
-pub ollskuvan-read-one-events-words : Seen ollskuvan.ollskuvan_read_one_events.Kinds.ps ollskuvan.ollskuvan_read_one_events.Kinds.r ollskuvan.ollskuvan_read_one_events.Reads.Learnt (λ κs x s. now (s .1 .1 .1 .1 .1 .1 .0))
+pub ollskuvan-read-one-events-words : Seen recorded.ollskuvan_read_one_events.Kinds.ps recorded.ollskuvan_read_one_events.Kinds.r recorded.ollskuvan_read_one_events.Reads.Learnt (λ κs x s. now (s .1 .1 .1 .1 .1 .1 .0))
 ollskuvan-read-one-events-words κs a x y s t p q = same (p .1 .1) (q .1 .1)
 
-pub ollskuvan-check-events : Result ollskuvan.ollskuvan_check_events.Kinds.ps ollskuvan.ollskuvan_check_events.Kinds.r ollskuvan.ollskuvan_check_events.Reads.Learnt
+pub ollskuvan-check-events : Result recorded.ollskuvan_check_events.Kinds.ps recorded.ollskuvan_check_events.Kinds.r recorded.ollskuvan_check_events.Reads.Learnt
 ollskuvan-check-events κs a x y s t p q = same p q
 
-pub ollskuvan-read-events : Result ollskuvan.ollskuvan_read_events.Kinds.ps ollskuvan.ollskuvan_read_events.Kinds.r ollskuvan.ollskuvan_read_events.Reads.Learnt
+pub ollskuvan-read-events : Result recorded.ollskuvan_read_events.Kinds.ps recorded.ollskuvan_read_events.Kinds.r recorded.ollskuvan_read_events.Reads.Learnt
 ollskuvan-read-events κs a x y s t p q = same (p .0) (q .0)
 
-pub ollskuvan-read-events-fields : Seen ollskuvan.ollskuvan_read_events.Kinds.ps ollskuvan.ollskuvan_read_events.Kinds.r ollskuvan.ollskuvan_read_events.Reads.Learnt (λ κs x s. now (s .1 .1 .1 .0))
+pub ollskuvan-read-events-fields : Seen recorded.ollskuvan_read_events.Kinds.ps recorded.ollskuvan_read_events.Kinds.r recorded.ollskuvan_read_events.Reads.Learnt (λ κs x s. now (s .1 .1 .1 .0))
 ollskuvan-read-events-fields κs a x y s t p q = same (p .1) (q .1)
 
 pub ollskuvan-check : Result ollskuvan.ollskuvan_check.Kinds.ps ollskuvan.ollskuvan_check.Kinds.r ollskuvan.ollskuvan_check.Reads.Learnt
@@ -834,13 +837,13 @@ ollskuvan-check κs a x y s t p q = same p q
 pub ollskuvan-publish : Result ollskuvan.ollskuvan_publish.Kinds.ps ollskuvan.ollskuvan_publish.Kinds.r ollskuvan.ollskuvan_publish.Reads.Learnt
 ollskuvan-publish κs a x y s t p q = same p q
 
-pub ollskuvan-replay : Result ollskuvan.ollskuvan_replay.Kinds.ps ollskuvan.ollskuvan_replay.Kinds.r ollskuvan.ollskuvan_replay.Reads.Learnt
+pub ollskuvan-replay : Result saved.ollskuvan_replay.Kinds.ps saved.ollskuvan_replay.Kinds.r saved.ollskuvan_replay.Reads.Learnt
 ollskuvan-replay κs a x y s t p q = same (p .0) (q .0)
 
-pub ollskuvan-replay-rooms : Seen ollskuvan.ollskuvan_replay.Kinds.ps ollskuvan.ollskuvan_replay.Kinds.r ollskuvan.ollskuvan_replay.Reads.Learnt (λ κs x s. now (s .1 .1 .1 .1 .0))
+pub ollskuvan-replay-rooms : Seen saved.ollskuvan_replay.Kinds.ps saved.ollskuvan_replay.Kinds.r saved.ollskuvan_replay.Reads.Learnt (λ κs x s. now (s .1 .1 .1 .1 .0))
 ollskuvan-replay-rooms κs a x y s t p q = same (p .1 .0) (q .1 .0)
 
-pub ollskuvan-replay-journal : Seen ollskuvan.ollskuvan_replay.Kinds.ps ollskuvan.ollskuvan_replay.Kinds.r ollskuvan.ollskuvan_replay.Reads.Learnt (λ κs x s. now (s .1 .1 .1 .1 .1 .0))
+pub ollskuvan-replay-journal : Seen saved.ollskuvan_replay.Kinds.ps saved.ollskuvan_replay.Kinds.r saved.ollskuvan_replay.Reads.Learnt (λ κs x s. now (s .1 .1 .1 .1 .1 .0))
 ollskuvan-replay-journal κs a x y s t p q = same (p .1 .1) (q .1 .1)
 
 pub ollskuvan-walk-back : Result loop.ollskuvan_walk_back.Kinds.ps loop.ollskuvan_walk_back.Kinds.r loop.ollskuvan_walk_back.Reads.Learnt
@@ -861,13 +864,13 @@ ollskuvan-walk-back-events-journal κs a x y s t p q = same (p .1 .0) (q .1 .0)
 pub ollskuvan-walk-back-events-scratch : Seen tabled.ollskuvan_walk_back_events.Kinds.ps tabled.ollskuvan_walk_back_events.Kinds.r tabled.ollskuvan_walk_back_events.Reads.Learnt (λ κs x s. now (s .1 .1 .1 .1 .1 .0))
 ollskuvan-walk-back-events-scratch κs a x y s t p q = same (p .1 .1) (q .1 .1)
 
-pub ollskuvan-salvage : Result ollskuvan.ollskuvan_salvage.Kinds.ps ollskuvan.ollskuvan_salvage.Kinds.r ollskuvan.ollskuvan_salvage.Reads.Learnt
+pub ollskuvan-salvage : Result saved.ollskuvan_salvage.Kinds.ps saved.ollskuvan_salvage.Kinds.r saved.ollskuvan_salvage.Reads.Learnt
 ollskuvan-salvage κs a x y s t p q = same (p .0) (q .0)
 
-pub ollskuvan-salvage-out : Seen ollskuvan.ollskuvan_salvage.Kinds.ps ollskuvan.ollskuvan_salvage.Kinds.r ollskuvan.ollskuvan_salvage.Reads.Learnt (λ κs x s. now (s .1 .1 .1 .0))
+pub ollskuvan-salvage-out : Seen saved.ollskuvan_salvage.Kinds.ps saved.ollskuvan_salvage.Kinds.r saved.ollskuvan_salvage.Reads.Learnt (λ κs x s. now (s .1 .1 .1 .0))
 ollskuvan-salvage-out κs a x y s t p q = same (p .1 .0) (q .1 .0)
 
-pub ollskuvan-salvage-changes : Seen ollskuvan.ollskuvan_salvage.Kinds.ps ollskuvan.ollskuvan_salvage.Kinds.r ollskuvan.ollskuvan_salvage.Reads.Learnt (λ κs x s. now (s .1 .1 .1 .1 .0))
+pub ollskuvan-salvage-changes : Seen saved.ollskuvan_salvage.Kinds.ps saved.ollskuvan_salvage.Kinds.r saved.ollskuvan_salvage.Reads.Learnt (λ κs x s. now (s .1 .1 .1 .1 .0))
 ollskuvan-salvage-changes κs a x y s t p q = same (p .1 .1) (q .1 .1)
 
 pub ollskuvan-misc-meaning : Result ollskuvan.ollskuvan_misc_meaning.Kinds.ps ollskuvan.ollskuvan_misc_meaning.Kinds.r ollskuvan.ollskuvan_misc_meaning.Reads.Learnt
@@ -891,16 +894,16 @@ ollskuvan-write κs a x y s t p q = same (p .0) (q .0)
 pub ollskuvan-write-buffer : Seen ollskuvan.ollskuvan_write.Kinds.ps ollskuvan.ollskuvan_write.Kinds.r ollskuvan.ollskuvan_write.Reads.Learnt (λ κs x s. now (s .1 .1 .1 .1 .1 .1 .1 .1 .1 .0))
 ollskuvan-write-buffer κs a x y s t p q = same (p .1) (q .1)
 
-pub ollskuvan-read-store : Result ollskuvan.ollskuvan_read_store.Kinds.ps ollskuvan.ollskuvan_read_store.Kinds.r ollskuvan.ollskuvan_read_store.Reads.Learnt
+pub ollskuvan-read-store : Result stored.ollskuvan_read_store.Kinds.ps stored.ollskuvan_read_store.Kinds.r stored.ollskuvan_read_store.Reads.Learnt
 ollskuvan-read-store κs a x y s t p q = same (p .0) (q .0)
 
-pub ollskuvan-read-store-events : Seen ollskuvan.ollskuvan_read_store.Kinds.ps ollskuvan.ollskuvan_read_store.Kinds.r ollskuvan.ollskuvan_read_store.Reads.Learnt (λ κs x s. now (s .1 .0))
+pub ollskuvan-read-store-events : Seen stored.ollskuvan_read_store.Kinds.ps stored.ollskuvan_read_store.Kinds.r stored.ollskuvan_read_store.Reads.Learnt (λ κs x s. now (s .1 .0))
 ollskuvan-read-store-events κs a x y s t p q = same (p .1) (q .1)
 
-pub ollskuvan-write-store : Result ollskuvan.ollskuvan_write_store.Kinds.ps ollskuvan.ollskuvan_write_store.Kinds.r ollskuvan.ollskuvan_write_store.Reads.Learnt
+pub ollskuvan-write-store : Result stored.ollskuvan_write_store.Kinds.ps stored.ollskuvan_write_store.Kinds.r stored.ollskuvan_write_store.Reads.Learnt
 ollskuvan-write-store κs a x y s t p q = same (p .0) (q .0)
 
-pub ollskuvan-write-store-buffer : Seen ollskuvan.ollskuvan_write_store.Kinds.ps ollskuvan.ollskuvan_write_store.Kinds.r ollskuvan.ollskuvan_write_store.Reads.Learnt (λ κs x s. now (s .1 .1 .1 .1 .0))
+pub ollskuvan-write-store-buffer : Seen stored.ollskuvan_write_store.Kinds.ps stored.ollskuvan_write_store.Kinds.r stored.ollskuvan_write_store.Reads.Learnt (λ κs x s. now (s .1 .1 .1 .1 .0))
 ollskuvan-write-store-buffer κs a x y s t p q = same (p .1) (q .1)
 
 -- ---- writer: the words that tell an item, and its form
