@@ -57,6 +57,7 @@ use Rattle.reader.proofs as reader
 use Rattle.drain.proofs as drains
 use Rattle.event_drain.proofs as eventful
 use Rattle.walk_back.proofs as walks
+use Rattle.back_rows.proofs as backrows
 use Rattle.event_one.proofs as single
 use Rattle.salvage.proofs as salvage
 use Rattle.extents.proofs as extents
@@ -705,10 +706,10 @@ settings-write-store-buffer κs a x y s t p q = same (p .1) (q .1)
 
 -- ---- walk_back: the walk over a backward ring
 
-pub walk-back-placed-at : Result walks.placed_at.Kinds.ps walks.placed_at.Kinds.r walks.placed_at.Reads.Learnt
+pub walk-back-placed-at : Result backrows.placed_at.Kinds.ps backrows.placed_at.Kinds.r backrows.placed_at.Reads.Learnt
 walk-back-placed-at κs a x y s t p q = same p q
 
-pub walk-back-next-back : Result walks.next_back.Kinds.ps walks.next_back.Kinds.r walks.next_back.Reads.Learnt
+pub walk-back-next-back : Result backrows.next_back.Kinds.ps backrows.next_back.Kinds.r backrows.next_back.Reads.Learnt
 walk-back-next-back κs a x y s t p q = same p q
 
 pub walk-back-walk-back : Result walks.walk_back.Kinds.ps walks.walk_back.Kinds.r walks.walk_back.Reads.Learnt
