@@ -81,5 +81,5 @@ pub extern "C" fn ollskuvan_salvage(
     ensures { λ _. ⌜ now (changes .exit) ≡ salvageList eventLimit editions edition (eventsOf (now (events .entry))) (now (stream .entry)) (now (out .entry)) (now (changes .entry)) ⌝ }
 {
     let e = edition as u64;
-    salvage::salvage(stream, e, events, EVENTS, out, changes)
+    salvaging::salvage(stream, e, events, EVENTS, out, changes)
 }

@@ -48,6 +48,8 @@ use Rattle.exact.proofs as exact
 use Rattle.plan.proofs as plan
 use Rattle.names.proofs as names
 use Rattle.ring.proofs as ring
+use Rattle.settings.specs.Versions.{placeOf}
+use Rattle.settings_walk.proofs as settings-walk
 use Rattle.settings_read.proofs as settings-read
 use Rattle.settings_write.proofs as settings-write
 use Rattle.readers.proofs as readers
@@ -59,7 +61,7 @@ use Rattle.event_drain.proofs as eventful
 use Rattle.walk_back.proofs as walks
 use Rattle.back_rows.proofs as backrows
 use Rattle.event_one.proofs as single
-use Rattle.salvage.proofs as salvage
+use Rattle.salvaging.proofs as salvaging
 use Rattle.extents.proofs as extents
 use Rattle.extents.specs.Extent.{passed-one}
 use Rattle.comparing.proofs as comparing
@@ -692,6 +694,21 @@ fast-scratch κs a x y s t p q = same (p .1 .1) (q .1 .1)
 
 -- ---- settings: the store, read and written
 
+pub settings-walk-version-of : Result settings-walk.version_of.Kinds.ps settings-walk.version_of.Kinds.r settings-walk.version_of.Reads.Learnt
+settings-walk-version-of κs a x y s t p q = same p q
+
+pub settings-walk-first-answer : Result settings-walk.first_answer.Kinds.ps settings-walk.first_answer.Kinds.r settings-walk.first_answer.Reads.Learnt
+settings-walk-first-answer κs a x y s t p q = same p q
+
+pub settings-walk-last-answer : Result settings-walk.last_answer.Kinds.ps settings-walk.last_answer.Kinds.r settings-walk.last_answer.Reads.Learnt
+settings-walk-last-answer κs a x y s t p q = same p q
+
+-- the place follows from the count
+pub settings-walk-count-events : Result settings-walk.count_events.Kinds.ps settings-walk.count_events.Kinds.r settings-walk.count_events.Reads.Learnt
+settings-walk-count-events κs a x y s t p q =
+    let n = same (p .0) (q .0)
+    in λ i. record { count = n i; at = (p .1 ∙ (ap (λ (k : ℕ). placeOf (a .1 .0) k) n ∙ sym (q .1))) i }
+
 pub settings-read-store : Result settings-read.read_store.Kinds.ps settings-read.read_store.Kinds.r settings-read.read_store.Reads.Learnt
 settings-read-store κs a x y s t p q = same (p .0) (q .0)
 
@@ -757,16 +774,16 @@ replay-replay-journal κs a x y s t p q = same (p .1 .1) (q .1 .1)
 
 -- ---- salvage
 
-pub salvage-kept-size : Result salvage.kept_size.Kinds.ps salvage.kept_size.Kinds.r salvage.kept_size.Reads.Learnt
+pub salvage-kept-size : Result salvaging.kept_size.Kinds.ps salvaging.kept_size.Kinds.r salvaging.kept_size.Reads.Learnt
 salvage-kept-size κs a x y s t p q = same p q
 
-pub salvage-salvage : Result salvage.salvage.Kinds.ps salvage.salvage.Kinds.r salvage.salvage.Reads.Learnt
+pub salvage-salvage : Result salvaging.salvage.Kinds.ps salvaging.salvage.Kinds.r salvaging.salvage.Reads.Learnt
 salvage-salvage κs a x y s t p q = same (p .0) (q .0)
 
-pub salvage-salvage-out : Seen salvage.salvage.Kinds.ps salvage.salvage.Kinds.r salvage.salvage.Reads.Learnt (λ κs x s. now (s .1 .1 .1 .1 .0))
+pub salvage-salvage-out : Seen salvaging.salvage.Kinds.ps salvaging.salvage.Kinds.r salvaging.salvage.Reads.Learnt (λ κs x s. now (s .1 .1 .1 .1 .0))
 salvage-salvage-out κs a x y s t p q = same (p .1 .0) (q .1 .0)
 
-pub salvage-salvage-list : Seen salvage.salvage.Kinds.ps salvage.salvage.Kinds.r salvage.salvage.Reads.Learnt (λ κs x s. now (s .1 .1 .1 .1 .1 .0))
+pub salvage-salvage-list : Seen salvaging.salvage.Kinds.ps salvaging.salvage.Kinds.r salvaging.salvage.Reads.Learnt (λ κs x s. now (s .1 .1 .1 .1 .1 .0))
 salvage-salvage-list κs a x y s t p q = same (p .1 .1) (q .1 .1)
 
 -- ---- given, ollskuvan_loop, ollskuvan: what C calls
