@@ -70,6 +70,7 @@ use Rattle.compare.specs.Compared.{Side, sideOf, scratchThen}
 use Rattle.fast_drain.proofs as fast
 use Rattle.fast_event_drain.proofs as swift
 use Rattle.window.proofs as window
+use Rattle.rooms.proofs as rooms
 use Rattle.replaying.proofs as replaying
 use Rattle.given.proofs as given
 use Rattle.fast_check.proofs as checks
@@ -762,6 +763,18 @@ pub readers-publish : Result readers.Readers.publish.Kinds.ps readers.Readers.pu
 readers-publish κs a x y s t p q = same p q
 
 -- ---- replay
+
+pub rooms-put-round : Seen rooms.put_round.Kinds.ps rooms.put_round.Kinds.r rooms.put_round.Reads.Learnt (λ κs x s. now (s .0))
+rooms-put-round κs a x y s t p q = same p q
+
+pub rooms-drain-within : Result rooms.drain_within.Kinds.ps rooms.drain_within.Kinds.r rooms.drain_within.Reads.Learnt
+rooms-drain-within κs a x y s t p q = same (p .0) (q .0)
+
+pub rooms-drain-within-journal : Seen rooms.drain_within.Kinds.ps rooms.drain_within.Kinds.r rooms.drain_within.Reads.Learnt (λ κs x s. now (s .1 .1 .1 .1 .1 .1 .1 .0))
+rooms-drain-within-journal κs a x y s t p q = same (p .1 .0) (q .1 .0)
+
+pub rooms-drain-within-rooms : Seen rooms.drain_within.Kinds.ps rooms.drain_within.Kinds.r rooms.drain_within.Reads.Learnt (λ κs x s. now (s .0))
+rooms-drain-within-rooms κs a x y s t p q = same (p .1 .1) (q .1 .1)
 
 pub replay-replay : Result replaying.replay.Kinds.ps replaying.replay.Kinds.r replaying.replay.Reads.Learnt
 replay-replay κs a x y s t p q = same (p .0) (q .0)
