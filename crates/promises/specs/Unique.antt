@@ -48,6 +48,8 @@ use Rattle.exact.proofs as exact
 use Rattle.plan.proofs as plan
 use Rattle.names.proofs as names
 use Rattle.ring.proofs as ring
+use Rattle.settings.specs.Versions.{placeOf}
+use Rattle.settings_walk.proofs as settings-walk
 use Rattle.settings_read.proofs as settings-read
 use Rattle.settings_write.proofs as settings-write
 use Rattle.readers.proofs as readers
@@ -57,8 +59,9 @@ use Rattle.reader.proofs as reader
 use Rattle.drain.proofs as drains
 use Rattle.event_drain.proofs as eventful
 use Rattle.walk_back.proofs as walks
+use Rattle.back_rows.proofs as backrows
 use Rattle.event_one.proofs as single
-use Rattle.salvage.proofs as salvage
+use Rattle.salvaging.proofs as salvaging
 use Rattle.extents.proofs as extents
 use Rattle.extents.specs.Extent.{passed-one}
 use Rattle.comparing.proofs as comparing
@@ -67,11 +70,15 @@ use Rattle.compare.specs.Compared.{Side, sideOf, scratchThen}
 use Rattle.fast_drain.proofs as fast
 use Rattle.fast_event_drain.proofs as swift
 use Rattle.window.proofs as window
+use Rattle.rooms.proofs as rooms
 use Rattle.replaying.proofs as replaying
 use Rattle.given.proofs as given
 use Rattle.fast_check.proofs as checks
 use Rattle.ollskuvan_loop.proofs as loop
 use Rattle.ollskuvan_table.proofs as tabled
+use Rattle.ollskuvan_events.proofs as recorded
+use Rattle.ollskuvan_store.proofs as stored
+use Rattle.ollskuvan_saved.proofs as saved
 use Rattle.ollskuvan.proofs as ollskuvan
 use Rattle.writer_words.proofs as words
 use Rattle.writer_forms.proofs as forms
@@ -688,6 +695,21 @@ fast-scratch κs a x y s t p q = same (p .1 .1) (q .1 .1)
 
 -- ---- settings: the store, read and written
 
+pub settings-walk-version-of : Result settings-walk.version_of.Kinds.ps settings-walk.version_of.Kinds.r settings-walk.version_of.Reads.Learnt
+settings-walk-version-of κs a x y s t p q = same p q
+
+pub settings-walk-first-answer : Result settings-walk.first_answer.Kinds.ps settings-walk.first_answer.Kinds.r settings-walk.first_answer.Reads.Learnt
+settings-walk-first-answer κs a x y s t p q = same p q
+
+pub settings-walk-last-answer : Result settings-walk.last_answer.Kinds.ps settings-walk.last_answer.Kinds.r settings-walk.last_answer.Reads.Learnt
+settings-walk-last-answer κs a x y s t p q = same p q
+
+-- the place follows from the count
+pub settings-walk-count-events : Result settings-walk.count_events.Kinds.ps settings-walk.count_events.Kinds.r settings-walk.count_events.Reads.Learnt
+settings-walk-count-events κs a x y s t p q =
+    let n = same (p .0) (q .0)
+    in λ i. record { count = n i; at = (p .1 ∙ (ap (λ (k : ℕ). placeOf (a .1 .0) k) n ∙ sym (q .1))) i }
+
 pub settings-read-store : Result settings-read.read_store.Kinds.ps settings-read.read_store.Kinds.r settings-read.read_store.Reads.Learnt
 settings-read-store κs a x y s t p q = same (p .0) (q .0)
 
@@ -702,10 +724,10 @@ settings-write-store-buffer κs a x y s t p q = same (p .1) (q .1)
 
 -- ---- walk_back: the walk over a backward ring
 
-pub walk-back-placed-at : Result walks.placed_at.Kinds.ps walks.placed_at.Kinds.r walks.placed_at.Reads.Learnt
+pub walk-back-placed-at : Result backrows.placed_at.Kinds.ps backrows.placed_at.Kinds.r backrows.placed_at.Reads.Learnt
 walk-back-placed-at κs a x y s t p q = same p q
 
-pub walk-back-next-back : Result walks.next_back.Kinds.ps walks.next_back.Kinds.r walks.next_back.Reads.Learnt
+pub walk-back-next-back : Result backrows.next_back.Kinds.ps backrows.next_back.Kinds.r backrows.next_back.Reads.Learnt
 walk-back-next-back κs a x y s t p q = same p q
 
 pub walk-back-walk-back : Result walks.walk_back.Kinds.ps walks.walk_back.Kinds.r walks.walk_back.Reads.Learnt
@@ -742,6 +764,18 @@ readers-publish κs a x y s t p q = same p q
 
 -- ---- replay
 
+pub rooms-put-round : Seen rooms.put_round.Kinds.ps rooms.put_round.Kinds.r rooms.put_round.Reads.Learnt (λ κs x s. now (s .0))
+rooms-put-round κs a x y s t p q = same p q
+
+pub rooms-drain-within : Result rooms.drain_within.Kinds.ps rooms.drain_within.Kinds.r rooms.drain_within.Reads.Learnt
+rooms-drain-within κs a x y s t p q = same (p .0) (q .0)
+
+pub rooms-drain-within-journal : Seen rooms.drain_within.Kinds.ps rooms.drain_within.Kinds.r rooms.drain_within.Reads.Learnt (λ κs x s. now (s .1 .1 .1 .1 .1 .1 .1 .0))
+rooms-drain-within-journal κs a x y s t p q = same (p .1 .0) (q .1 .0)
+
+pub rooms-drain-within-rooms : Seen rooms.drain_within.Kinds.ps rooms.drain_within.Kinds.r rooms.drain_within.Reads.Learnt (λ κs x s. now (s .0))
+rooms-drain-within-rooms κs a x y s t p q = same (p .1 .1) (q .1 .1)
+
 pub replay-replay : Result replaying.replay.Kinds.ps replaying.replay.Kinds.r replaying.replay.Reads.Learnt
 replay-replay κs a x y s t p q = same (p .0) (q .0)
 
@@ -753,16 +787,16 @@ replay-replay-journal κs a x y s t p q = same (p .1 .1) (q .1 .1)
 
 -- ---- salvage
 
-pub salvage-kept-size : Result salvage.kept_size.Kinds.ps salvage.kept_size.Kinds.r salvage.kept_size.Reads.Learnt
+pub salvage-kept-size : Result salvaging.kept_size.Kinds.ps salvaging.kept_size.Kinds.r salvaging.kept_size.Reads.Learnt
 salvage-kept-size κs a x y s t p q = same p q
 
-pub salvage-salvage : Result salvage.salvage.Kinds.ps salvage.salvage.Kinds.r salvage.salvage.Reads.Learnt
+pub salvage-salvage : Result salvaging.salvage.Kinds.ps salvaging.salvage.Kinds.r salvaging.salvage.Reads.Learnt
 salvage-salvage κs a x y s t p q = same (p .0) (q .0)
 
-pub salvage-salvage-out : Seen salvage.salvage.Kinds.ps salvage.salvage.Kinds.r salvage.salvage.Reads.Learnt (λ κs x s. now (s .1 .1 .1 .1 .0))
+pub salvage-salvage-out : Seen salvaging.salvage.Kinds.ps salvaging.salvage.Kinds.r salvaging.salvage.Reads.Learnt (λ κs x s. now (s .1 .1 .1 .1 .0))
 salvage-salvage-out κs a x y s t p q = same (p .1 .0) (q .1 .0)
 
-pub salvage-salvage-list : Seen salvage.salvage.Kinds.ps salvage.salvage.Kinds.r salvage.salvage.Reads.Learnt (λ κs x s. now (s .1 .1 .1 .1 .1 .0))
+pub salvage-salvage-list : Seen salvaging.salvage.Kinds.ps salvaging.salvage.Kinds.r salvaging.salvage.Reads.Learnt (λ κs x s. now (s .1 .1 .1 .1 .1 .0))
 salvage-salvage-list κs a x y s t p q = same (p .1 .1) (q .1 .1)
 
 -- ---- given, ollskuvan_loop, ollskuvan: what C calls
@@ -797,35 +831,35 @@ ollskuvan-drain-events-journal κs a x y s t p q = same (p .1 .0) (q .1 .0)
 pub ollskuvan-drain-events-scratch : Seen tabled.ollskuvan_drain_events.Kinds.ps tabled.ollskuvan_drain_events.Kinds.r tabled.ollskuvan_drain_events.Reads.Learnt (λ κs x s. now (s .1 .1 .1 .1 .1 .1 .0))
 ollskuvan-drain-events-scratch κs a x y s t p q = same (p .1 .1) (q .1 .1)
 
-pub ollskuvan-compare : Result ollskuvan.ollskuvan_compare.Kinds.ps ollskuvan.ollskuvan_compare.Kinds.r ollskuvan.ollskuvan_compare.Reads.Learnt
+pub ollskuvan-compare : Result saved.ollskuvan_compare.Kinds.ps saved.ollskuvan_compare.Kinds.r saved.ollskuvan_compare.Reads.Learnt
 ollskuvan-compare κs a x y s t p q = same (p .0) (q .0)
 
-pub ollskuvan-compare-left : Seen ollskuvan.ollskuvan_compare.Kinds.ps ollskuvan.ollskuvan_compare.Kinds.r ollskuvan.ollskuvan_compare.Reads.Learnt (λ κs x s. now (s .1 .1 .1 .0))
+pub ollskuvan-compare-left : Seen saved.ollskuvan_compare.Kinds.ps saved.ollskuvan_compare.Kinds.r saved.ollskuvan_compare.Reads.Learnt (λ κs x s. now (s .1 .1 .1 .0))
 ollskuvan-compare-left κs a x y s t p q =
     told-scratch (sideOf (askedEvents eventLimit editions (a .1 .1 .1 .1 .1 .1 .1 .1 .1 .0) (eventsOf (now (a .1 .1 .1 .1 .1 .1 .1 .1 .0)))) (now (a .0)) (a .1 .0) (a .1 .1 .0) (now (a .1 .1 .1 .0)))
     x y _ _ _ (p .0) (q .0) (p .1 .0) (q .1 .0)
 
-pub ollskuvan-compare-right : Seen ollskuvan.ollskuvan_compare.Kinds.ps ollskuvan.ollskuvan_compare.Kinds.r ollskuvan.ollskuvan_compare.Reads.Learnt (λ κs x s. now (s .1 .1 .1 .1 .1 .1 .1 .0))
+pub ollskuvan-compare-right : Seen saved.ollskuvan_compare.Kinds.ps saved.ollskuvan_compare.Kinds.r saved.ollskuvan_compare.Reads.Learnt (λ κs x s. now (s .1 .1 .1 .1 .1 .1 .1 .0))
 ollskuvan-compare-right κs a x y s t p q =
     told-scratch (sideOf (askedEvents eventLimit editions (a .1 .1 .1 .1 .1 .1 .1 .1 .1 .0) (eventsOf (now (a .1 .1 .1 .1 .1 .1 .1 .1 .0)))) (now (a .1 .1 .1 .1 .0)) (a .1 .1 .1 .1 .1 .0) (a .1 .1 .1 .1 .1 .1 .0) (now (a .1 .1 .1 .1 .1 .1 .1 .0)))
     x y _ _ _ (p .0) (q .0) (p .1 .1) (q .1 .1)
 
-pub ollskuvan-read-one-events : Result ollskuvan.ollskuvan_read_one_events.Kinds.ps ollskuvan.ollskuvan_read_one_events.Kinds.r ollskuvan.ollskuvan_read_one_events.Reads.Learnt
+pub ollskuvan-read-one-events : Result recorded.ollskuvan_read_one_events.Kinds.ps recorded.ollskuvan_read_one_events.Kinds.r recorded.ollskuvan_read_one_events.Reads.Learnt
 ollskuvan-read-one-events κs a x y s t p q = same (p .0) (q .0)
 
-pub ollskuvan-read-one-events-scratch : Seen ollskuvan.ollskuvan_read_one_events.Kinds.ps ollskuvan.ollskuvan_read_one_events.Kinds.r ollskuvan.ollskuvan_read_one_events.Reads.Learnt (λ κs x s. now (s .1 .1 .1 .1 .1 .0))
+pub ollskuvan-read-one-events-scratch : Seen recorded.ollskuvan_read_one_events.Kinds.ps recorded.ollskuvan_read_one_events.Kinds.r recorded.ollskuvan_read_one_events.Reads.Learnt (λ κs x s. now (s .1 .1 .1 .1 .1 .0))
 ollskuvan-read-one-events-scratch κs a x y s t p q = same (p .1 .0) (q .1 .0)
 
-pub ollskuvan-read-one-events-words : Seen ollskuvan.ollskuvan_read_one_events.Kinds.ps ollskuvan.ollskuvan_read_one_events.Kinds.r ollskuvan.ollskuvan_read_one_events.Reads.Learnt (λ κs x s. now (s .1 .1 .1 .1 .1 .1 .0))
+pub ollskuvan-read-one-events-words : Seen recorded.ollskuvan_read_one_events.Kinds.ps recorded.ollskuvan_read_one_events.Kinds.r recorded.ollskuvan_read_one_events.Reads.Learnt (λ κs x s. now (s .1 .1 .1 .1 .1 .1 .0))
 ollskuvan-read-one-events-words κs a x y s t p q = same (p .1 .1) (q .1 .1)
 
-pub ollskuvan-check-events : Result ollskuvan.ollskuvan_check_events.Kinds.ps ollskuvan.ollskuvan_check_events.Kinds.r ollskuvan.ollskuvan_check_events.Reads.Learnt
+pub ollskuvan-check-events : Result recorded.ollskuvan_check_events.Kinds.ps recorded.ollskuvan_check_events.Kinds.r recorded.ollskuvan_check_events.Reads.Learnt
 ollskuvan-check-events κs a x y s t p q = same p q
 
-pub ollskuvan-read-events : Result ollskuvan.ollskuvan_read_events.Kinds.ps ollskuvan.ollskuvan_read_events.Kinds.r ollskuvan.ollskuvan_read_events.Reads.Learnt
+pub ollskuvan-read-events : Result recorded.ollskuvan_read_events.Kinds.ps recorded.ollskuvan_read_events.Kinds.r recorded.ollskuvan_read_events.Reads.Learnt
 ollskuvan-read-events κs a x y s t p q = same (p .0) (q .0)
 
-pub ollskuvan-read-events-fields : Seen ollskuvan.ollskuvan_read_events.Kinds.ps ollskuvan.ollskuvan_read_events.Kinds.r ollskuvan.ollskuvan_read_events.Reads.Learnt (λ κs x s. now (s .1 .1 .1 .0))
+pub ollskuvan-read-events-fields : Seen recorded.ollskuvan_read_events.Kinds.ps recorded.ollskuvan_read_events.Kinds.r recorded.ollskuvan_read_events.Reads.Learnt (λ κs x s. now (s .1 .1 .1 .0))
 ollskuvan-read-events-fields κs a x y s t p q = same (p .1) (q .1)
 
 pub ollskuvan-check : Result ollskuvan.ollskuvan_check.Kinds.ps ollskuvan.ollskuvan_check.Kinds.r ollskuvan.ollskuvan_check.Reads.Learnt
@@ -834,13 +868,13 @@ ollskuvan-check κs a x y s t p q = same p q
 pub ollskuvan-publish : Result ollskuvan.ollskuvan_publish.Kinds.ps ollskuvan.ollskuvan_publish.Kinds.r ollskuvan.ollskuvan_publish.Reads.Learnt
 ollskuvan-publish κs a x y s t p q = same p q
 
-pub ollskuvan-replay : Result ollskuvan.ollskuvan_replay.Kinds.ps ollskuvan.ollskuvan_replay.Kinds.r ollskuvan.ollskuvan_replay.Reads.Learnt
+pub ollskuvan-replay : Result saved.ollskuvan_replay.Kinds.ps saved.ollskuvan_replay.Kinds.r saved.ollskuvan_replay.Reads.Learnt
 ollskuvan-replay κs a x y s t p q = same (p .0) (q .0)
 
-pub ollskuvan-replay-rooms : Seen ollskuvan.ollskuvan_replay.Kinds.ps ollskuvan.ollskuvan_replay.Kinds.r ollskuvan.ollskuvan_replay.Reads.Learnt (λ κs x s. now (s .1 .1 .1 .1 .0))
+pub ollskuvan-replay-rooms : Seen saved.ollskuvan_replay.Kinds.ps saved.ollskuvan_replay.Kinds.r saved.ollskuvan_replay.Reads.Learnt (λ κs x s. now (s .1 .1 .1 .1 .0))
 ollskuvan-replay-rooms κs a x y s t p q = same (p .1 .0) (q .1 .0)
 
-pub ollskuvan-replay-journal : Seen ollskuvan.ollskuvan_replay.Kinds.ps ollskuvan.ollskuvan_replay.Kinds.r ollskuvan.ollskuvan_replay.Reads.Learnt (λ κs x s. now (s .1 .1 .1 .1 .1 .0))
+pub ollskuvan-replay-journal : Seen saved.ollskuvan_replay.Kinds.ps saved.ollskuvan_replay.Kinds.r saved.ollskuvan_replay.Reads.Learnt (λ κs x s. now (s .1 .1 .1 .1 .1 .0))
 ollskuvan-replay-journal κs a x y s t p q = same (p .1 .1) (q .1 .1)
 
 pub ollskuvan-walk-back : Result loop.ollskuvan_walk_back.Kinds.ps loop.ollskuvan_walk_back.Kinds.r loop.ollskuvan_walk_back.Reads.Learnt
@@ -861,13 +895,13 @@ ollskuvan-walk-back-events-journal κs a x y s t p q = same (p .1 .0) (q .1 .0)
 pub ollskuvan-walk-back-events-scratch : Seen tabled.ollskuvan_walk_back_events.Kinds.ps tabled.ollskuvan_walk_back_events.Kinds.r tabled.ollskuvan_walk_back_events.Reads.Learnt (λ κs x s. now (s .1 .1 .1 .1 .1 .0))
 ollskuvan-walk-back-events-scratch κs a x y s t p q = same (p .1 .1) (q .1 .1)
 
-pub ollskuvan-salvage : Result ollskuvan.ollskuvan_salvage.Kinds.ps ollskuvan.ollskuvan_salvage.Kinds.r ollskuvan.ollskuvan_salvage.Reads.Learnt
+pub ollskuvan-salvage : Result saved.ollskuvan_salvage.Kinds.ps saved.ollskuvan_salvage.Kinds.r saved.ollskuvan_salvage.Reads.Learnt
 ollskuvan-salvage κs a x y s t p q = same (p .0) (q .0)
 
-pub ollskuvan-salvage-out : Seen ollskuvan.ollskuvan_salvage.Kinds.ps ollskuvan.ollskuvan_salvage.Kinds.r ollskuvan.ollskuvan_salvage.Reads.Learnt (λ κs x s. now (s .1 .1 .1 .0))
+pub ollskuvan-salvage-out : Seen saved.ollskuvan_salvage.Kinds.ps saved.ollskuvan_salvage.Kinds.r saved.ollskuvan_salvage.Reads.Learnt (λ κs x s. now (s .1 .1 .1 .0))
 ollskuvan-salvage-out κs a x y s t p q = same (p .1 .0) (q .1 .0)
 
-pub ollskuvan-salvage-changes : Seen ollskuvan.ollskuvan_salvage.Kinds.ps ollskuvan.ollskuvan_salvage.Kinds.r ollskuvan.ollskuvan_salvage.Reads.Learnt (λ κs x s. now (s .1 .1 .1 .1 .0))
+pub ollskuvan-salvage-changes : Seen saved.ollskuvan_salvage.Kinds.ps saved.ollskuvan_salvage.Kinds.r saved.ollskuvan_salvage.Reads.Learnt (λ κs x s. now (s .1 .1 .1 .1 .0))
 ollskuvan-salvage-changes κs a x y s t p q = same (p .1 .1) (q .1 .1)
 
 pub ollskuvan-misc-meaning : Result ollskuvan.ollskuvan_misc_meaning.Kinds.ps ollskuvan.ollskuvan_misc_meaning.Kinds.r ollskuvan.ollskuvan_misc_meaning.Reads.Learnt
@@ -891,16 +925,16 @@ ollskuvan-write κs a x y s t p q = same (p .0) (q .0)
 pub ollskuvan-write-buffer : Seen ollskuvan.ollskuvan_write.Kinds.ps ollskuvan.ollskuvan_write.Kinds.r ollskuvan.ollskuvan_write.Reads.Learnt (λ κs x s. now (s .1 .1 .1 .1 .1 .1 .1 .1 .1 .0))
 ollskuvan-write-buffer κs a x y s t p q = same (p .1) (q .1)
 
-pub ollskuvan-read-store : Result ollskuvan.ollskuvan_read_store.Kinds.ps ollskuvan.ollskuvan_read_store.Kinds.r ollskuvan.ollskuvan_read_store.Reads.Learnt
+pub ollskuvan-read-store : Result stored.ollskuvan_read_store.Kinds.ps stored.ollskuvan_read_store.Kinds.r stored.ollskuvan_read_store.Reads.Learnt
 ollskuvan-read-store κs a x y s t p q = same (p .0) (q .0)
 
-pub ollskuvan-read-store-events : Seen ollskuvan.ollskuvan_read_store.Kinds.ps ollskuvan.ollskuvan_read_store.Kinds.r ollskuvan.ollskuvan_read_store.Reads.Learnt (λ κs x s. now (s .1 .0))
+pub ollskuvan-read-store-events : Seen stored.ollskuvan_read_store.Kinds.ps stored.ollskuvan_read_store.Kinds.r stored.ollskuvan_read_store.Reads.Learnt (λ κs x s. now (s .1 .0))
 ollskuvan-read-store-events κs a x y s t p q = same (p .1) (q .1)
 
-pub ollskuvan-write-store : Result ollskuvan.ollskuvan_write_store.Kinds.ps ollskuvan.ollskuvan_write_store.Kinds.r ollskuvan.ollskuvan_write_store.Reads.Learnt
+pub ollskuvan-write-store : Result stored.ollskuvan_write_store.Kinds.ps stored.ollskuvan_write_store.Kinds.r stored.ollskuvan_write_store.Reads.Learnt
 ollskuvan-write-store κs a x y s t p q = same (p .0) (q .0)
 
-pub ollskuvan-write-store-buffer : Seen ollskuvan.ollskuvan_write_store.Kinds.ps ollskuvan.ollskuvan_write_store.Kinds.r ollskuvan.ollskuvan_write_store.Reads.Learnt (λ κs x s. now (s .1 .1 .1 .1 .0))
+pub ollskuvan-write-store-buffer : Seen stored.ollskuvan_write_store.Kinds.ps stored.ollskuvan_write_store.Kinds.r stored.ollskuvan_write_store.Reads.Learnt (λ κs x s. now (s .1 .1 .1 .1 .0))
 ollskuvan-write-store-buffer κs a x y s t p q = same (p .1) (q .1)
 
 -- ---- writer: the words that tell an item, and its form
