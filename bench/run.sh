@@ -92,7 +92,7 @@ if [ "$part" = sanitize ]; then
   program=$out/bench-sanitized
 fi
 # shellcheck disable=SC2086 # the flags are words
-gcc $flags -o "$program" bench/bench.c bench/compare.c bench/timing.c bench/made.c bench/kinds.c bench/replay.c bench/salvage.c bench/rings.c bench/careful.c bench/careful_check.c bench/careful_replay.c bench/careful_store.c bench/stores.c bench/careful_walk.c bench/walks.c bench/careful_salvage.c bench/floor.c "$library" $link ||
+gcc $flags -o "$program" bench/bench.c bench/compare.c bench/timing.c bench/made.c bench/kinds.c bench/replay.c bench/salvage.c bench/rings.c bench/careful.c bench/careful_check.c bench/careful_read.c bench/values.c bench/careful_replay.c bench/careful_store.c bench/stores.c bench/careful_walk.c bench/walks.c bench/careful_salvage.c bench/floor.c "$library" $link ||
   die "the bench does not build"
 
 # instructions of one drain under callgrind, which repeat exactly
