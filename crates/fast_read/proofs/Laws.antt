@@ -1,10 +1,11 @@
 -- What an accepted record gives the chains of its fields and of its trailer, and that the words which they and the flag leave are the record's.
 -- Assumes nothing.
 use mathlib.Core.Path.{_≡_, refl, sym, ap, _∙_}
-use mathlib.Core.List.{List, _∷_, _++_}
-use Prim.Native.Nat.{ℕ, _+_, _-_, _≤_}
+use mathlib.Core.List.{List, [], _∷_, _++_, append-nil}
+use Prim.Native.Nat.{ℕ, _+_, _-_, _<_, _≤_}
+use native.Mathlib.Nat.{zero-add}
 use native.Mathlib.Omega.{arith}
-use lib.ListN.{length, take, drop, set, length-append}
+use lib.ListN.{length, take, drop, set, length-append, length-replicate, replicate-append-replicate, drop-of-length-le}
 use lib.Seq.{drop-drop, drop-append-add}
 use Rattle.meaning.specs.declared.Attributes.{Attributes}
 use Rattle.meaning.specs.declared.Cursor.{Cursor}
@@ -13,7 +14,7 @@ use Rattle.meaning.specs.Bytes.{put, zeros}
 use Rattle.meaning.specs.Schema.{schema, trailer}
 use Rattle.meaning.specs.Records.{kindOf, miscOf, sizeOf, origin}
 use Rattle.meaning.specs.Values.{width, flagWords, bodyWords, trailWords, words, wordsBy}
-use Rattle.laws.specs.Put.{put-fits, length-put, length-head}
+use Rattle.laws.specs.Put.{put-fits, put-snoc, put-start, length-put, length-head}
 use Rattle.laws.specs.Told.{words-length, flag-length, fields-few, trailer-few}
 use Rattle.record.specs.Into.{recordFlag}
 use Rattle.record.specs.Lent.{Header, walked, trailer-runs, flag-put, words-are}
@@ -32,7 +33,40 @@ drop-put d at s k l h =
     ∙ drop-drop (k - n) n d
     ∙ ap (λ (m : ℕ). drop m d) f
 
--- the header's words, over zeros
+-- ---- words that are zeroed one after the other
+
+pub zero-more : (d₀ d : List ℕ) (k : ℕ) → d ≡ put d₀ 0 (zeros k) → k + 1 ≤ length d₀ → set d k 0 ≡ put d₀ 0 (zeros (k + 1))
+zero-more d₀ d k e h =
+    let n : length (zeros k) ≡ k = length-replicate k 0 in
+    ap (λ (l : List ℕ). set l k 0) e
+    ∙ ap (λ (m : ℕ). set (put d₀ 0 (zeros k)) m 0) (sym (zero-add (length (zeros k)) ∙ n))
+    ∙ put-snoc d₀ 0 (zeros k) 0 (omega (arith, n))
+    ∙ ap (put d₀ 0) (replicate-append-replicate k 1 0)
+
+pub all-zero : (d₀ d : List ℕ) (k : ℕ) → d ≡ put d₀ 0 (zeros k) → k ≡ length d₀ → d ≡ zeros (length d₀)
+all-zero d₀ d k e h =
+    let n : length (zeros k) ≡ k = length-replicate k 0 in
+    e
+    ∙ put-start d₀ (zeros k) (omega (arith, n, h))
+    ∙ ap (λ (r : List ℕ). zeros k ++ r) (let q : length d₀ ≤ length (zeros k) = omega (arith, n, h) in drop-of-length-le d₀ q)
+    ∙ append-nil (zeros k)
+    ∙ ap zeros h
+
+-- ---- the first of the words lent
+
+pub first-put : (ws s : List ℕ) → length s ≡ 56 → 56 ≤ length ws → s ++ drop 56 ws ≡ put ws 0 s
+first-put ws s l h = ap (λ (k : ℕ). s ++ drop k ws) (sym l) ∙ sym (put-start ws s (omega (arith, l)))
+
+pub words-long : (is ts : List Item) (xs : List ℕ) → length (wordsBy is ts xs) ≡ 56
+unfolding wordsBy
+words-long is ts xs = length-put _ 48 _ ∙ length-put _ 3 _
+
+-- ---- a record's words
+
+-- the header's words, over zeros: there is a third
+pub two-set : (z : List ℕ) (kind misc : ℕ) → z ≡ zeros 56 → 2 < length (set (set z 0 kind) 1 misc)
+two-set z kind misc e = rw e (omega arith)
+
 pub headed : (kind misc size : ℕ) (z : List ℕ) → z ≡ zeros 56 → set (set (set z 0 kind) 1 misc) 2 size ≡ kind ∷ misc ∷ size ∷ zeros 53
 headed kind misc size z e = ap (λ (l : List ℕ). set (set (set l 0 kind) 1 misc) 2 size) e
 
