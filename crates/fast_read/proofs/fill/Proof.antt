@@ -53,10 +53,11 @@ set-flag-requires : tie.Need-set-flag-requires
 unfolding kindOf
 set-flag-requires c κs =
     let s = c .before .before .before .before .before .before .before .before .before .before .before .before .before .before .before .before .before in
-    let h = header (c .before .before .before .before .before .before .before) in
-    (record { kind-is = h .kind-is; eights = s .pre .0 .eights; answer-is = s .pre .0 .answer-is },
-    ap (λ (k : ℕ). length (now (s .args .r)) - k) (h .room-is),
-    one-long (s .args .a) (now (s .args .r)) _ _ _ h _ _ (headed _ _ _ _ (c .before .before .before .before .before .before .before .before .before .before .before .before .before .clear .ensures ∙ ap zeros (s .pre .1))) _ (c .before .before .before .before .before .origin .ensures) _ _ (c .before .before .before .fields .ensures))
+    let h = header (c .before .before .before .before .before .before .before) in (
+      record { kind-is = h .kind-is; eights = s .pre .0 .eights; answer-is = s .pre .0 .answer-is },
+      ap (λ (k : ℕ). length (now (s .args .r)) - k) (h .room-is),
+      one-long (s .args .a) (now (s .args .r)) _ _ _ h _ _ (headed _ _ _ _ (c .before .before .before .before .before .before .before .before .before .before .before .before .before .clear .ensures ∙ ap zeros (s .pre .1))) _ (c .before .before .before .before .before .origin .ensures) _ _ (c .before .before .before .fields .ensures),
+    )
 
 trail-requires : tie.Need-trail-requires
 trail-requires c κs =
