@@ -1,7 +1,11 @@
 /*
  * The reader of one record in careful C: record check as careful_check.c has it, then the 56 words, each straight into
- * its place. Record check has found every byte and every count, so nothing is asked again.
+ * its place. Record check has found every byte and every count, so nothing is asked again. Its pieces are compiled once
+ * more here, so that record check's own code stays as it is.
  */
+#define careful_drain_not_used careful_drain_not_read
+#define careful_once_drain_not_used careful_once_drain_not_read
+#define careful_drain_events_not_used careful_drain_events_not_read
 #define careful_check checked_first
 #include "careful_check.c"
 #undef careful_check
