@@ -100,7 +100,7 @@ pub extern "C" fn ollskuvan_read(
 {
     let a = given::attributes(sample, format, all, user, interrupt, branch);
     let e = edition as u64;
-    record::read_into(bytes, e, a, words) as u32
+    fast_read::read_into(bytes, e, a, words) as u32
 }
 
 // The writer's answer: after 2, 42 also for fewer than 56 words.

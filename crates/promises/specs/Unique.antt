@@ -74,6 +74,9 @@ use Rattle.rooms.proofs as rooms
 use Rattle.replaying.proofs as replaying
 use Rattle.given.proofs as given
 use Rattle.fast_check.proofs as checks
+use Rattle.fills.proofs as fills
+use Rattle.chains.proofs as chains
+use Rattle.fast_read.proofs as fast-read
 use Rattle.ollskuvan_loop.proofs as loop
 use Rattle.ollskuvan_table.proofs as tabled
 use Rattle.ollskuvan_events.proofs as recorded
@@ -308,6 +311,9 @@ answers-check κs a x y s t p q = same p q
 pub record-or-dirty : Result records.or_dirty.Kinds.ps records.or_dirty.Kinds.r records.or_dirty.Reads.Learnt
 record-or-dirty κs a x y s t p q = same p q
 
+pub record-stale-from : Result records.stale_from.Kinds.ps records.stale_from.Kinds.r records.stale_from.Reads.Learnt
+record-stale-from κs a x y s t p q = same p q
+
 pub record-read : Result records.read.Kinds.ps records.read.Kinds.r records.read.Reads.Learnt
 record-read κs a x y s t p q = same p q
 
@@ -404,6 +410,145 @@ fast-check-judge κs a x y s t p q = same p q
 
 pub fast-check-check : Result checks.check.Kinds.ps checks.check.Kinds.r checks.check.Reads.Learnt
 fast-check-check κs a x y s t p q = same p q
+
+-- ---- fills, chains: the words of one item and of each type's fields: where the cursor is then, and the words at exit
+
+pub fills-number8 : Result fills.number8.Kinds.ps fills.number8.Kinds.r fills.number8.Reads.Learnt
+fills-number8 κs a x y s t p q = same (p .walk-is) (q .walk-is)
+
+pub fills-number8-words : Seen fills.number8.Kinds.ps fills.number8.Kinds.r fills.number8.Reads.Learnt (λ κs x s. now (s .1 .1 .1 .0))
+fills-number8-words κs a x y s t p q = same (p .put-is) (q .put-is)
+
+pub fills-number4 : Result fills.number4.Kinds.ps fills.number4.Kinds.r fills.number4.Reads.Learnt
+fills-number4 κs a x y s t p q = same (p .walk-is) (q .walk-is)
+
+pub fills-number4-words : Seen fills.number4.Kinds.ps fills.number4.Kinds.r fills.number4.Reads.Learnt (λ κs x s. now (s .1 .1 .1 .0))
+fills-number4-words κs a x y s t p q = same (p .put-is) (q .put-is)
+
+pub fills-number2 : Result fills.number2.Kinds.ps fills.number2.Kinds.r fills.number2.Reads.Learnt
+fills-number2 κs a x y s t p q = same (p .walk-is) (q .walk-is)
+
+pub fills-number2-words : Seen fills.number2.Kinds.ps fills.number2.Kinds.r fills.number2.Reads.Learnt (λ κs x s. now (s .1 .1 .1 .0))
+fills-number2-words κs a x y s t p q = same (p .put-is) (q .put-is)
+
+pub fills-ignored : Result fills.ignored.Kinds.ps fills.ignored.Kinds.r fills.ignored.Reads.Learnt
+fills-ignored κs a x y s t p q = same (p .walk-is) (q .walk-is)
+
+pub fills-ignored-words : Seen fills.ignored.Kinds.ps fills.ignored.Kinds.r fills.ignored.Reads.Learnt (λ κs x s. now (s .1 .1 .1 .0))
+fills-ignored-words κs a x y s t p q = same (p .put-is) (q .put-is)
+
+pub fills-count8 : Result fills.count8.Kinds.ps fills.count8.Kinds.r fills.count8.Reads.Learnt
+fills-count8 κs a x y s t p q = same (p .walk-is) (q .walk-is)
+
+pub fills-count8-words : Seen fills.count8.Kinds.ps fills.count8.Kinds.r fills.count8.Reads.Learnt (λ κs x s. now (s .1 .1 .1 .0))
+fills-count8-words κs a x y s t p q = same (p .put-is) (q .put-is)
+
+pub fills-count2 : Result fills.count2.Kinds.ps fills.count2.Kinds.r fills.count2.Reads.Learnt
+fills-count2 κs a x y s t p q = same (p .walk-is) (q .walk-is)
+
+pub fills-count2-words : Seen fills.count2.Kinds.ps fills.count2.Kinds.r fills.count2.Reads.Learnt (λ κs x s. now (s .1 .1 .1 .0))
+fills-count2-words κs a x y s t p q = same (p .put-is) (q .put-is)
+
+pub fills-size4 : Result fills.size4.Kinds.ps fills.size4.Kinds.r fills.size4.Reads.Learnt
+fills-size4 κs a x y s t p q = same (p .walk-is) (q .walk-is)
+
+pub fills-size4-words : Seen fills.size4.Kinds.ps fills.size4.Kinds.r fills.size4.Reads.Learnt (λ κs x s. now (s .1 .1 .1 .0))
+fills-size4-words κs a x y s t p q = same (p .put-is) (q .put-is)
+
+pub fills-size8 : Result fills.size8.Kinds.ps fills.size8.Kinds.r fills.size8.Reads.Learnt
+fills-size8 κs a x y s t p q = same (p .walk-is) (q .walk-is)
+
+pub fills-size8-words : Seen fills.size8.Kinds.ps fills.size8.Kinds.r fills.size8.Reads.Learnt (λ κs x s. now (s .1 .1 .1 .0))
+fills-size8-words κs a x y s t p q = same (p .put-is) (q .put-is)
+
+pub fills-limit : Result fills.limit.Kinds.ps fills.limit.Kinds.r fills.limit.Reads.Learnt
+fills-limit κs a x y s t p q = same (p .walk-is) (q .walk-is)
+
+pub fills-limit-words : Seen fills.limit.Kinds.ps fills.limit.Kinds.r fills.limit.Reads.Learnt (λ κs x s. now (s .1 .1 .1 .0))
+fills-limit-words κs a x y s t p q = same (p .put-is) (q .put-is)
+
+pub fills-abi : Result fills.abi.Kinds.ps fills.abi.Kinds.r fills.abi.Reads.Learnt
+fills-abi κs a x y s t p q = same (p .walk-is) (q .walk-is)
+
+pub fills-abi-words : Seen fills.abi.Kinds.ps fills.abi.Kinds.r fills.abi.Reads.Learnt (λ κs x s. now (s .1 .1 .1 .0))
+fills-abi-words κs a x y s t p q = same (p .put-is) (q .put-is)
+
+pub fills-filled : Result fills.filled.Kinds.ps fills.filled.Kinds.r fills.filled.Reads.Learnt
+fills-filled κs a x y s t p q = same (p .walk-is) (q .walk-is)
+
+pub fills-filled-words : Seen fills.filled.Kinds.ps fills.filled.Kinds.r fills.filled.Reads.Learnt (λ κs x s. now (s .1 .1 .1 .0))
+fills-filled-words κs a x y s t p q = same (p .put-is) (q .put-is)
+
+pub fills-times : Result fills.times.Kinds.ps fills.times.Kinds.r fills.times.Reads.Learnt
+fills-times κs a x y s t p q = same (p .walk-is) (q .walk-is)
+
+pub fills-times-words : Seen fills.times.Kinds.ps fills.times.Kinds.r fills.times.Reads.Learnt (λ κs x s. now (s .1 .1 .1 .0))
+fills-times-words κs a x y s t p q = same (p .put-is) (q .put-is)
+
+pub fills-values : Result fills.values.Kinds.ps fills.values.Kinds.r fills.values.Reads.Learnt
+fills-values κs a x y s t p q = same (p .walk-is) (q .walk-is)
+
+pub fills-values-words : Seen fills.values.Kinds.ps fills.values.Kinds.r fills.values.Reads.Learnt (λ κs x s. now (s .1 .1 .1 .0))
+fills-values-words κs a x y s t p q = same (p .put-is) (q .put-is)
+
+pub fills-earlier : Result fills.earlier.Kinds.ps fills.earlier.Kinds.r fills.earlier.Reads.Learnt
+fills-earlier κs a x y s t p q = same (p .walk-is) (q .walk-is)
+
+pub fills-earlier-words : Seen fills.earlier.Kinds.ps fills.earlier.Kinds.r fills.earlier.Reads.Learnt (λ κs x s. now (s .1 .1 .1 .0))
+fills-earlier-words κs a x y s t p q = same (p .put-is) (q .put-is)
+
+pub fills-registers : Result fills.registers.Kinds.ps fills.registers.Kinds.r fills.registers.Reads.Learnt
+fills-registers κs a x y s t p q = same (p .walk-is) (q .walk-is)
+
+pub fills-registers-words : Seen fills.registers.Kinds.ps fills.registers.Kinds.r fills.registers.Reads.Learnt (λ κs x s. now (s .1 .1 .1 .0))
+fills-registers-words κs a x y s t p q = same (p .put-is) (q .put-is)
+
+pub fills-listed : Result fills.listed.Kinds.ps fills.listed.Kinds.r fills.listed.Reads.Learnt
+fills-listed κs a x y s t p q = same (p .walk-is) (q .walk-is)
+
+pub fills-listed-words : Seen fills.listed.Kinds.ps fills.listed.Kinds.r fills.listed.Reads.Learnt (λ κs x s. now (s .1 .1 .1 .0))
+fills-listed-words κs a x y s t p q = same (p .put-is) (q .put-is)
+
+pub fills-bytes : Result fills.bytes.Kinds.ps fills.bytes.Kinds.r fills.bytes.Reads.Learnt
+fills-bytes κs a x y s t p q = same (p .walk-is) (q .walk-is)
+
+pub fills-bytes-words : Seen fills.bytes.Kinds.ps fills.bytes.Kinds.r fills.bytes.Reads.Learnt (λ κs x s. now (s .1 .1 .1 .0))
+fills-bytes-words κs a x y s t p q = same (p .put-is) (q .put-is)
+
+pub fills-pad : Result fills.pad.Kinds.ps fills.pad.Kinds.r fills.pad.Reads.Learnt
+fills-pad κs a x y s t p q = same (p .walk-is) (q .walk-is)
+
+pub fills-pad-words : Seen fills.pad.Kinds.ps fills.pad.Kinds.r fills.pad.Reads.Learnt (λ κs x s. now (s .1 .1 .1 .0))
+fills-pad-words κs a x y s t p q = same (p .put-is) (q .put-is)
+
+pub fills-name : Result fills.name.Kinds.ps fills.name.Kinds.r fills.name.Reads.Learnt
+fills-name κs a x y s t p q = same (p .walk-is) (q .walk-is)
+
+pub fills-name-words : Seen fills.name.Kinds.ps fills.name.Kinds.r fills.name.Reads.Learnt (λ κs x s. now (s .1 .1 .1 .0))
+fills-name-words κs a x y s t p q = same (p .put-is) (q .put-is)
+
+pub chains-fields : Result chains.fields.Kinds.ps chains.fields.Kinds.r chains.fields.Reads.Learnt
+chains-fields κs a x y s t p q = same (p .walk-is) (q .walk-is)
+
+pub chains-fields-words : Seen chains.fields.Kinds.ps chains.fields.Kinds.r chains.fields.Reads.Learnt (λ κs x s. now (s .1 .1 .1 .1 .1 .0))
+chains-fields-words κs a x y s t p q = same (p .put-is) (q .put-is)
+
+pub chains-trail : Result chains.trail.Kinds.ps chains.trail.Kinds.r chains.trail.Reads.Learnt
+chains-trail κs a x y s t p q = same (p .walk-is) (q .walk-is)
+
+pub chains-trail-words : Seen chains.trail.Kinds.ps chains.trail.Kinds.r chains.trail.Reads.Learnt (λ κs x s. now (s .1 .1 .1 .1 .0))
+chains-trail-words κs a x y s t p q = same (p .put-is) (q .put-is)
+
+pub chains-flag-at : Result chains.flag_at.Kinds.ps chains.flag_at.Kinds.r chains.flag_at.Reads.Learnt
+chains-flag-at κs a x y s t p q = same p q
+
+-- ---- fast_read: the reader of one record into lent words by these: the answer, and the words at exit
+
+pub fast-read-read-into : Result fast-read.read_into.Kinds.ps fast-read.read_into.Kinds.r fast-read.read_into.Reads.Learnt
+fast-read-read-into κs a x y s t p q = same (p .0) (q .0)
+
+pub fast-read-read-into-words : Seen fast-read.read_into.Kinds.ps fast-read.read_into.Kinds.r fast-read.read_into.Reads.Learnt (λ κs x s. now (s .1 .1 .1 .0))
+fast-read-read-into-words κs a x y s t p q = same (p .1) (q .1)
 
 -- ---- names: the copier of names: the answer, and the buffer at exit
 
