@@ -193,32 +193,16 @@ unfolding bit
 plain-body kind misc a p =
     ⊎-elim (λ h. misc-body kind misc a h) (λ h. ap (λ (b : Bool). getD (before10 a ++ (mmap2 b ∷ drop 11 (schemas 0 a))) kind []) h) p
 
-plain-unreadable : (k : Known) (a : Attributes) (kind misc : ℕ) → Plain kind misc → unreadable k a kind misc ≡ unreadable k a kind 0
+pub plain-unreadable : (k : Known) (a : Attributes) (kind misc : ℕ) → Plain kind misc → unreadable k a kind misc ≡ unreadable k a kind 0
 unfolding unreadable first bit
 plain-unreadable k a kind misc p = ⊎-elim (λ h. misc-unreadable k a kind misc h) (λ h. rw h) p
 
-pub plain-of : (kind misc : ℕ) (b : Bool) → b ≡ bit misc 14 → (eqb kind 10 && b) ≡ false → Plain kind misc
-plain-of kind misc b e h = by (eqb kind 10) refl h
+pub plain-of : (kind misc : ℕ) → (eqb kind 10 && bit misc 14) ≡ false → Plain kind misc
+plain-of kind misc h = by (eqb kind 10) refl h
   where
-    by : (t : Bool) → eqb kind 10 ≡ t → (t && b) ≡ false → Plain kind misc
-    by true q g = inr (sym e ∙ g)
+    by : (t : Bool) → eqb kind 10 ≡ t → (t && bit misc 14) ≡ false → Plain kind misc
+    by true q g = inr g
     by false q g = inl (eqb-false kind 10 q)
-
--- 23 is the only one that misc decides
-pub reads-any : (k : Known) (a : Attributes) (kind misc : ℕ) → ((eqb kind 10 && bit misc 14) && not (k .builds)) ≡ false → unreadable k a kind 0 ≡ 0 → unreadable k a kind misc ≡ 0
-unfolding unreadable first
-reads-any k a kind misc h u =
-    by (eqb kind 0 || ltb (k .kinds) kind) (leb (2 ^ k .samples) (a .sample) && (eqb kind 9 || a .all))
-    (leb (2 ^ k .formats) (a .format) && (eqb kind 8 || (eqb kind 9 && bit (a .sample) 4)))
-    ((eqb kind 10 && bit misc 14) && not (k .builds)) ((eqb kind 10 && bit 0 14) && not (k .builds))
-    (cond ((eqb kind 9 && bit (a .sample) 11) && strangeBranch k a) 25 (cond (eqb kind 9 && weights a) 24 0)) h u
-  where
-    by : (x y z v o : Bool) (w : ℕ) → v ≡ false → cond x 20 (cond y 21 (cond z 22 (cond o 23 w))) ≡ 0 → cond x 20 (cond y 21 (cond z 22 (cond v 23 w))) ≡ 0
-    by true y z v o w q e = absurd (omega (arith, e))
-    by false true z v o w q e = absurd (omega (arith, e))
-    by false false true v o w q e = absurd (omega (arith, e))
-    by false false false v true w q e = absurd (omega (arith, e))
-    by false false false v false w q e = ap (λ (t : Bool). cond t 23 w) q ∙ e
 
 pub unreadable-most : (k : Known) (a : Attributes) (kind misc : ℕ) → unreadable k a kind misc ≤ 25
 unfolding unreadable first
@@ -427,9 +411,6 @@ module _ (a : Attributes) (kind : ℕ) (c : Counted a kind) where
 
   pub counted-poke : (kind ≡ 8 → ⊥) → (kind ≡ 16 → ⊥) → textPoke ≡ schema kind 0 a
   counted-poke x y = ap (λ (t : ℕ). schema t 0 a) (sym (⊎-elim (λ w. absurd (x (w .0))) (λ w. ⊎-elim (λ q. absurd (y q)) (λ q. q) w) c))
-
-  pub counted-plain : kind ≡ 10 → ⊥
-  counted-plain e = ⊎-elim (λ w. let y = w .0 in omega (arith, e, y)) (λ w. ⊎-elim (λ y. omega (arith, e, y)) (λ y. omega (arith, e, y)) w) c
 
 -- ---- tables
 

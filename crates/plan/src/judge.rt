@@ -1,9 +1,13 @@
 // The exact answer for a record's bytes, by its type's mark.
 ghost use mathlib.Core.Path.{_≡_};
+ghost use mathlib.Core.Bool.{true, _&&_};
 ghost use Prim.Native.Nat.{_%_, _≤_, _<_};
+ghost use lib.Dec.{eqb};
 ghost use lib.ListN.{length};
+ghost use Rattle.meaning.specs.Bytes.{bit};
+ghost use Rattle.meaning.specs.Editions.{unreadable};
 ghost use Rattle.meaning.specs.Schema.{schema, trailer};
-ghost use Rattle.meaning.specs.Records.{layout, room, kindOf, judge};
+ghost use Rattle.meaning.specs.Records.{layout, room, kindOf, miscOf, judge};
 ghost use Rattle.blocks.specs.Seen.{Closes};
 ghost use Rattle.exact.specs.Stretches.{groupFixed};
 ghost use Rattle.plan.specs.Sums.{sumsOf};
@@ -30,6 +34,37 @@ fn counted(f: &[u8], kind: u64, a: Attributes, fixed: usize) -> u16
     exact::types::text_poke(f)
 }
 
+// MMAP2 with a build id, by bit 14 of misc. It is asked in one place alone, so that it becomes two jumps: a flag that is kept costs each name six
+// instructions.
+fn has_build(r: &[u8], kind: u64) -> bool
+    requires { ⌜ 8 ≤ length (now r) ⌝ }
+    ensures { λ x. ⌜ x ≡ (eqb kind 10 && bit (miscOf (now (r .entry))) 14) ⌝ }
+{
+    (kind == 10) & wire::has_bit(wire::u16_at(r, 4), 14)
+}
+
+// The form with a build id: 23 where the edition does not know it.
+fn build_id(r: &[u8], known: Known, a: Attributes, trail: usize) -> u16
+    requires { ⌜ 8 ≤ length (now r) ⌝ }
+    requires { ⌜ length (now r) % 8 ≡ 0 ⌝ }
+    requires { ⌜ 10 ≡ kindOf (now r) ⌝ }
+    requires { ⌜ bit (miscOf (now r)) 14 ≡ true ⌝ }
+    requires { ⌜ unreadable known a 10 0 ≡ 0 ⌝ }
+    requires { ⌜ trail ≡ room (trailer 1 a) ⌝ }
+    requires { ⌜ trail ≤ 64 ⌝ }
+    ensures { λ x. ⌜ x ≡ judge (layout known a) (now (r .entry)) ⌝ }
+{
+    if !known.builds {
+        return 23;
+    }
+    if r.len() < 8 + trail {
+        return 30;
+    }
+    let end = r.len() - trail;
+    let f = &r[..end];
+    exact::types::built(f)
+}
+
 // A mark from OPEN on: a name, a build id, or a count decides.
 fn opened(
     r: &[u8],
@@ -53,18 +88,14 @@ fn opened(
     requires { ⌜ (mark ≡ 65537 → ⊥) ⌝ }
     ensures { λ x. ⌜ x ≡ judge (layout known a) (now (r .entry)) ⌝ }
 {
-    let build = (kind == 10) & wire::has_bit(wire::u16_at(r, 4), 14);
-    if build & !known.builds {
-        return 23;
+    if has_build(r, kind) {
+        return build_id(r, known, a, trail);
     }
     if r.len() < 8 + trail {
         return 30;
     }
     let end = r.len() - trail;
     let f = &r[..end];
-    if build {
-        return exact::types::built(f);
-    }
     if mark == marks::OPEN {
         return counted(f, kind, a, fixed);
     }
