@@ -73,7 +73,7 @@ pub extern "C" fn ollskuvan_read_one_events(
     ensures { λ _. ⌜ now (fields .exit) ≡ oneEventsWords eventLimit editions edition (eventsOf (now (events .entry))) (now (ring .entry)) head tail (now (scratch .entry)) (now (fields .entry)) ⌝ }
 {
     let e = edition as u64;
-    event_one::read_one_events(ring, head, tail, e, events, EVENTS, scratch, fields)
+    event_one::read_one_events(ring, head, tail, e, events, EVENTS as u32, scratch, fields)
 }
 
 // Two rings, each with its counts and its scratch, under one table (M-108).
@@ -270,7 +270,7 @@ pub extern "C" fn ollskuvan_check_events(bytes: &[u8], events: &[[u64; 7]], edit
     ensures { λ r. ⌜ r ≡ recordCheckEvents eventLimit editions edition (eventsOf (now (events .entry))) (now (bytes .entry)) ⌝ }
 {
     let e = edition as u64;
-    event_one::check_events(bytes, e, events, EVENTS)
+    event_one::check_events(bytes, e, events, EVENTS as u32)
 }
 
 // The words of a record under its event's attributes: as record check with a table, but for 44, where it is 0; then 40.
@@ -285,5 +285,5 @@ pub extern "C" fn ollskuvan_read_events(
     ensures { λ _. ⌜ now (fields .exit) ≡ readEventsWords eventLimit editions edition (eventsOf (now (events .entry))) (now (bytes .entry)) (now (fields .entry)) ⌝ }
 {
     let e = edition as u64;
-    event_one::read_events(bytes, e, events, EVENTS, fields)
+    event_one::read_events(bytes, e, events, EVENTS as u32, fields)
 }
