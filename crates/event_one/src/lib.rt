@@ -2,7 +2,7 @@
 // where it goes round the ring's end, is read under the attributes of its event. Record check: the same for a lent slice. A table's limit is a
 // number of 32 bits, as the number inspected is that is told.
 ghost use mathlib.Core.Path.{_≡_};
-ghost use Prim.Native.Nat.{_≤_};
+ghost use Prim.Native.Nat.{_≤_, _<_};
 ghost use lib.ListN.{length};
 ghost use Rattle.meaning.specs.Editions.{editions, known};
 ghost use Rattle.meaning.specs.Events.{eventsOf, oneEventsScratch, inspected, judged, unasked, recordCheckEvents, readEvents, readEventsWords};
