@@ -194,13 +194,7 @@ fn told(
 }
 
 // A record of a type that the edition has, long enough for an identifier: 21 where the edition does not know bit 16; 26; else the event's own answer.
-pub fn judge(
-    r: &[u8],
-    kind: u64,
-    known: Known,
-    rows: &[[u64; 7]],
-    memo: &mut [[u64; 8]],
-) -> u16
+pub fn judge(r: &[u8], kind: u64, known: Known, rows: &[[u64; 7]], memo: &mut [[u64; 8]]) -> u16
     requires { ⌜ 16 ≤ length (now r) ⌝ }
     requires { ⌜ length (now r) < 65536 ⌝ }
     requires { ⌜ length (now r) % 8 ≡ 0 ⌝ }

@@ -88,4 +88,3 @@ module _ (k : Known) (es : List Event) (r : List ℕ) (m : Match) (e : m ≡ mat
     match-own a ea =
         ap (λ (b : Attributes). judge (layout k b) r) (ea ∙ match-event)
         ∙ sym (judge-matched k es r ∙ ap (λ (b : Bool). cond b (judge (layoutFor k es r) r) (unmatched k es r)) (eq-eqb (unmatched k es r) 0 none))
-
