@@ -8,7 +8,7 @@ use meaning::Judged;
 use one::OneTold;
 
 // "1 to 32 of them", and with M-112 up to 1,024.
-pub const EVENTS: usize = 1024;
+pub const EVENTS: u32 = 1024;
 
 #[no_mangle]
 pub extern "C" fn ollskuvan_read_one_events(
