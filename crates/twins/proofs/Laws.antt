@@ -5,13 +5,15 @@ use mathlib.Core.List.{List}
 use Prim.Native.Nat.{ℕ, _+_, _-_, _*_, _<_, _≤_}
 use native.Mathlib.Omega.{arith}
 use lib.Bits.{bitAnd}
-use lib.Dec.{leb}
+use lib.Dec.{leb, eqb}
 use lib.ListN.{length, take, drop}
 use borrow.Author.Tests.{le-leb, lt-leb, leb-true}
 use Rattle.meaning.specs.Bytes.{bit, ones, numberAt, zeroIn}
 use Rattle.laws.specs.Bytes.{and-true}
+use Rattle.meaning.specs.declared.Attributes.{Attributes}
 use Rattle.compare.specs.Compared.{sameBytes}
-use Rattle.twins.specs.Same.{sameSpan, sameButFour, aroundRes, nameSame, buildSame, textSame}
+use Rattle.record.specs.Into.{orDirty}
+use Rattle.twins.specs.Same.{sameSpan, sameButFour, aroundRes, nameSame, buildSame, textSame, bodySame, trailBits, endOf, sameBut}
 
 no-and : (b : Bool) → false ≡ (b && false)
 no-and true = refl
@@ -83,3 +85,24 @@ module _ (s t : List ℕ) where
   pub text-is : (n : ℕ) → n ≡ numberAt 2 s 16 + numberAt 2 s 18 → sameSpan s t 8 (20 + n) ≡ textSame s t
   unfolding textSame
   text-is n e = rw e
+
+-- ---- the whole record
+
+module _ (xs ys : List ℕ) (kind misc : ℕ) (a : Attributes) where
+  abbrev body : Bool
+  body = bodySame (take (endOf xs kind a) xs) (take (endOf xs kind a) ys) kind misc (a .sample)
+
+  abbrev trail : Bool
+  trail = aroundRes xs ys (trailBits kind a) 582 (endOf xs kind a)
+
+  pub but-body : body ≡ false → false ≡ sameBut xs ys kind misc a
+  unfolding sameBut
+  but-body e = rw e
+
+  pub but-trail : body ≡ true → trail ≡ false → false ≡ sameBut xs ys kind misc a
+  unfolding sameBut
+  but-trail e f = rw (e, f)
+
+  pub but-flags : body ≡ true → trail ≡ true → eqb (orDirty 0 a xs) (orDirty 0 a ys) ≡ sameBut xs ys kind misc a
+  unfolding sameBut
+  but-flags e f = rw (e, f)

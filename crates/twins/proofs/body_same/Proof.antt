@@ -1,77 +1,35 @@
+-- `twins::body_same` meets its contract: type by type.
+use mathlib.Core.Path.{_≡_, sym, ap, _∙_}
+use mathlib.Core.Bool.{Bool, _&&_}
+use Prim.Native.Nat.{ℕ}
+use lib.Dec.{eqb}
+use denote.Ref.{now}
+use borrow.Author.Tests.{eq-eqb, ne-eqb}
+use Rattle.meaning.specs.Bytes.{bit}
+use Rattle.twins.specs.Same.{nameAt, nameSame}
 use borrow.Author.Needs.{needs}
 use Rattle.twins.proofs.body_same.Statement.{statement}
 use Rattle.twins.proofs.body_same.Tie as tie
-use Rattle.twins.proofs.body_same.Reads as reads
-use Rattle.twins.proofs.body_same.Lts as lts
-use Rattle.twins.proofs.around_res.Reads as around-res-reads
-use Rattle.twins.proofs.build_same.Reads as build-same-reads
-use Rattle.twins.proofs.name_at.Reads as name-at-reads
-use Rattle.twins.proofs.name_same.Reads as name-same-reads
-use Rattle.twins.proofs.same_span.Reads as same-span-reads
-use Rattle.twins.proofs.text_same.Reads as text-same-reads
-use Rattle.wire.proofs.has_bit.Reads as has-bit-reads
 
--- src/lib.rt:122:9
-around-res-requires : tie.Need-around-res-requires
-around-res-requires c κs = search needs
-
--- src/lib.rt:122:9
 returns : tie.Need-returns
-returns c = ?
+unfolding Rattle.twins.specs.Same.bodySame
+returns c = let a = c .before .before .before .before .args in rw (eq-eqb (a .kind) 9 (c .before .if1 .taken)) (c .around-res .ensures)
 
--- src/lib.rt:125:9
-text-same-requires : tie.Need-text-same-requires
-text-same-requires c κs = search needs
-
--- src/lib.rt:125:9
 returns-2 : tie.Need-returns-2
-returns-2 c = ?
+unfolding Rattle.twins.specs.Same.bodySame
+returns-2 c = let a = c .before .before .before .before .before .args in rw (ne-eqb (a .kind) 9 (c .before .before .if1 .left), eq-eqb (a .kind) 20 (c .before .if2 .taken)) (c .text-same .ensures)
 
--- src/lib.rt:127:23
-has-bit-requires : tie.Need-has-bit-requires
-has-bit-requires c κs = search needs
-
--- src/lib.rt:128:9
-build-same-requires : tie.Need-build-same-requires
-build-same-requires c κs = search needs
-
--- src/lib.rt:128:9
 returns-3 : tie.Need-returns-3
-returns-3 c = ?
+unfolding Rattle.twins.specs.Same.bodySame
+returns-3 c = let a = c .before .before .before .before .before .before .before .args in let e : (eqb (a .kind) 10 && bit (a .misc) 14) ≡ _ = ap (λ (b : Bool). eqb (a .kind) 10 && b) (sym (c .before .before .has-bit .ensures)) ∙ c .before .if3 .taken in rw (ne-eqb (a .kind) 9 (c .before .before .before .before .if1 .left), ne-eqb (a .kind) 20 (c .before .before .before .if2 .left), e) (c .build-same .ensures)
 
--- src/lib.rt:130:9
-name-at-requires : tie.Need-name-at-requires
-name-at-requires c κs = search needs
-
--- src/lib.rt:132:9
-same-span-requires : tie.Need-same-span-requires
-same-span-requires c κs = search needs
-
--- src/lib.rt:132:9
 returns-4 : tie.Need-returns-4
-returns-4 c = ?
+unfolding Rattle.twins.specs.Same.bodySame
+returns-4 c = let a = c .before .before .before .before .before .before .before .before .before .args in let e : (eqb (a .kind) 10 && bit (a .misc) 14) ≡ _ = ap (λ (b : Bool). eqb (a .kind) 10 && b) (sym (c .before .before .before .before .has-bit .ensures)) ∙ c .before .before .before .if3 .left in rw (ne-eqb (a .kind) 9 (c .before .before .before .before .before .before .if1 .left), ne-eqb (a .kind) 20 (c .before .before .before .before .before .if2 .left), e, eq-eqb (nameAt (a .kind)) 0 (sym (c .before .before .name-at .ensures) ∙ c .before .if4 .taken)) (c .same-span .ensures)
 
--- src/lib.rt:134:5
-name-same-requires : tie.Need-name-same-requires
-name-same-requires c κs = search needs
-
--- src/lib.rt:117:1
 returns-5 : tie.Need-returns-5
-returns-5 c = ?
+unfolding Rattle.twins.specs.Same.bodySame
+returns-5 c = let a = c .before .before .before .before .before .before .before .before .before .args in let e : (eqb (a .kind) 10 && bit (a .misc) 14) ≡ _ = ap (λ (b : Bool). eqb (a .kind) 10 && b) (sym (c .before .before .before .before .has-bit .ensures)) ∙ c .before .before .before .if3 .left in rw (ne-eqb (a .kind) 9 (c .before .before .before .before .before .before .if1 .left), ne-eqb (a .kind) 20 (c .before .before .before .before .before .if2 .left), e, ne-eqb (nameAt (a .kind)) 0 (λ q. c .before .if4 .left (c .before .before .name-at .ensures ∙ q))) (c .name-same .ensures ∙ ap (λ (n : ℕ). nameSame (now (a .s)) (now (a .t)) 8 n) (c .before .before .name-at .ensures))
 
 pub body-same-spec : {M : Type 1} → statement M
-body-same-spec =
-    tie.close
-    (tie.spec
-    around-res-requires
-    returns
-    text-same-requires
-    returns-2
-    has-bit-requires
-    build-same-requires
-    returns-3
-    name-at-requires
-    same-span-requires
-    returns-4
-    name-same-requires
-    returns-5)
+body-same-spec = tie.close (tie.spec (λ c κs. search needs) returns (λ c κs. search needs) returns-2 (λ c κs. search needs) (λ c κs. search needs) returns-3 (λ c κs. search needs) (λ c κs. search needs) returns-4 (λ c κs. search needs) returns-5)

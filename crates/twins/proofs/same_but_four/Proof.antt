@@ -1,46 +1,27 @@
+-- `twins::same_but_four` meets its contract: both spans, one after the other.
+use mathlib.Core.Path.{sym, ap, _∙_}
+use mathlib.Core.Bool.{Bool, _&&_}
+use Prim.Native.Nat.{_+_}
+use native.Mathlib.Omega.{arith}
+use lib.ListN.{length}
+use denote.Ref.{now}
+use borrow.Author.Tests.{not-true, not-false}
+use Rattle.twins.proofs.Laws.{span-past, span-back, span-there, four-no, four-is}
 use borrow.Author.Needs.{needs}
 use Rattle.twins.proofs.same_but_four.Statement.{statement}
 use Rattle.twins.proofs.same_but_four.Tie as tie
-use Rattle.twins.proofs.same_but_four.Reads as reads
-use Rattle.twins.proofs.same_but_four.Lts as lts
-use Rattle.twins.proofs.same_span.Reads as same-span-reads
 
--- src/lib.rt:38:9
-same-span-requires : tie.Need-same-span-requires
-same-span-requires c κs = search needs
-
--- src/lib.rt:39:9
 returns : tie.Need-returns
-returns c = ?
+returns c = let a = c .before .before .before .before .args in four-no (now (a .s)) (now (a .t)) (a .from) (a .res) (sym (c .before .same-span .ensures) ∙ not-true _ (c .if1 .taken))
 
--- src/lib.rt:41:8
 sub-if2 : tie.Need-sub-if2
-sub-if2 c = ?
+sub-if2 c = let a = c .before .before .before .before .args in let h = span-there (now (a .s)) (now (a .t)) (a .from) (a .res) (sym (c .before .same-span .ensures) ∙ not-false _ (c .if1 .left)) .1 in omega (arith, h)
 
--- src/lib.rt:42:9
 returns-2 : tie.Need-returns-2
-returns-2 c = ?
+returns-2 c = let a = c .before .before .before .before .before .args in let h = c .if2 .taken in span-back (now (a .s)) (now (a .t)) (a .res + 4) (length (now (a .s))) (omega (arith, h)) ∙ four-is (now (a .s)) (now (a .t)) (a .from) (a .res) (sym (c .before .before .same-span .ensures) ∙ not-false _ (c .before .if1 .left))
 
--- src/lib.rt:44:21
-add-same-span : tie.Need-add-same-span
-add-same-span c = search needs
-
--- src/lib.rt:44:5
-same-span-requires-2 : tie.Need-same-span-requires-2
-same-span-requires-2 c κs = search needs
-
--- src/lib.rt:35:1
 returns-3 : tie.Need-returns-3
-returns-3 c = ?
+returns-3 c = let a = c .before .before .before .before .before .before .args in c .same-span2 .ensures ∙ four-is (now (a .s)) (now (a .t)) (a .from) (a .res) (sym (c .before .before .before .same-span .ensures) ∙ not-false _ (c .before .before .if1 .left))
 
 pub same-but-four-spec : {M : Type 1} → statement M
-same-but-four-spec =
-    tie.close
-    (tie.spec
-    same-span-requires
-    returns
-    sub-if2
-    returns-2
-    add-same-span
-    same-span-requires-2
-    returns-3)
+same-but-four-spec = tie.close (tie.spec (λ c κs. search needs) returns sub-if2 returns-2 (λ c. search needs) (λ c κs. search needs) returns-3)

@@ -1,29 +1,22 @@
+-- `twins::same_span` meets its contract: where the bytes are there they are compared.
+use mathlib.Core.Path.{_∙_}
+use denote.Ref.{now}
+use Rattle.twins.proofs.Laws.{span-back, span-past, span-past-right, span-is}
 use borrow.Author.Needs.{needs}
 use Rattle.twins.proofs.same_span.Statement.{statement}
 use Rattle.twins.proofs.same_span.Tie as tie
-use Rattle.twins.proofs.same_span.Reads as reads
-use Rattle.twins.proofs.same_span.Lts as lts
-use Rattle.extents.proofs.same_bytes.Reads as same-bytes-reads
 
--- src/lib.rt:23:9
 returns : tie.Need-returns
-returns c = ?
+returns c = let a = c .before .before .before .args in span-back (now (a .s)) (now (a .t)) (a .i) (a .j) (c .if1 .taken)
 
--- src/lib.rt:26:9
 returns-2 : tie.Need-returns-2
-returns-2 c = ?
+returns-2 c = let a = c .before .before .before .before .args in span-past (now (a .s)) (now (a .t)) (a .i) (a .j) (c .if2 .taken)
 
--- src/lib.rt:29:9
 returns-3 : tie.Need-returns-3
-returns-3 c = ?
+returns-3 c = let a = c .before .before .before .before .before .args in span-past-right (now (a .s)) (now (a .t)) (a .i) (a .j) (c .if3 .taken)
 
--- src/lib.rt:31:5
-same-bytes-requires : tie.Need-same-bytes-requires
-same-bytes-requires c κs = search needs
-
--- src/lib.rt:19:1
 returns-4 : tie.Need-returns-4
-returns-4 c = ?
+returns-4 c = let a = c .before .before .before .before .before .before .args in c .same-bytes .ensures ∙ span-is (now (a .s)) (now (a .t)) (a .i) (a .j) (c .before .before .before .if1 .left) (c .before .before .if2 .left) (c .before .if3 .left)
 
 pub same-span-spec : {M : Type 1} → statement M
-same-span-spec = tie.close (tie.spec returns returns-2 returns-3 same-bytes-requires returns-4)
+same-span-spec = tie.close (tie.spec returns returns-2 returns-3 (λ c κs. search needs) returns-4)

@@ -1,47 +1,24 @@
+-- `twins::text_same` meets its contract: the lengths are those of the left one.
+use mathlib.Core.Path.{ap₂, _∙_}
+use Prim.Native.Nat.{_+_}
+use native.Mathlib.Omega.{arith}
+use denote.Ref.{now}
+use Rattle.twins.proofs.Laws.{text-none, text-is}
 use borrow.Author.Needs.{needs}
 use Rattle.twins.proofs.text_same.Statement.{statement}
 use Rattle.twins.proofs.text_same.Tie as tie
-use Rattle.twins.proofs.text_same.Reads as reads
-use Rattle.twins.proofs.text_same.Lts as lts
-use Rattle.twins.proofs.same_span.Reads as same-span-reads
-use Rattle.wire.proofs.u16_at.Reads as u16-at-reads
 
--- src/lib.rt:94:9
 returns : tie.Need-returns
-returns c = ?
+returns c = let a = c .before .before .before .args in text-none (now (a .s)) (now (a .t)) (c .if1 .taken)
 
--- src/lib.rt:96:17
 u16-at-requires : tie.Need-u16-at-requires
-u16-at-requires c κs = search needs
+u16-at-requires c κs = let h = c .if1 .left in omega (arith, h)
 
--- src/lib.rt:96:39
 u16-at-requires-2 : tie.Need-u16-at-requires-2
-u16-at-requires-2 c κs = search needs
+u16-at-requires-2 c κs = let h = c .before .if1 .left in omega (arith, h)
 
--- src/lib.rt:96:17
-add-texts : tie.Need-add-texts
-add-texts c = search needs
-
--- src/lib.rt:97:24
-add-same-span : tie.Need-add-same-span
-add-same-span c = search needs
-
--- src/lib.rt:97:5
-same-span-requires : tie.Need-same-span-requires
-same-span-requires c κs = search needs
-
--- src/lib.rt:90:1
 returns-2 : tie.Need-returns-2
-returns-2 c = ?
+returns-2 c = let a = c .before .before .before .before .before .before .args in c .same-span .ensures ∙ text-is (now (a .s)) (now (a .t)) (c .before .before .u16-at .result + c .before .u16-at2 .result) (ap₂ _+_ (c .before .before .u16-at .ensures .0) (c .before .u16-at2 .ensures .0))
 
 pub text-same-spec : {M : Type 1} → statement M
-text-same-spec =
-    tie.close
-    (tie.spec
-    returns
-    u16-at-requires
-    u16-at-requires-2
-    add-texts
-    add-same-span
-    same-span-requires
-    returns-2)
+text-same-spec = tie.close (tie.spec returns u16-at-requires u16-at-requires-2 (λ c. search needs) (λ c. search needs) (λ c κs. search needs) returns-2)
