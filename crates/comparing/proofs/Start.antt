@@ -32,10 +32,10 @@ use Rattle.compare.specs.Fields.{first, otherFields, Reads, fields}
 use Rattle.compare.specs.Compared.{sameBytes, alike, agree, eventReads}
 use Rattle.compare.specs.Pairs.{same-bytes, same-alike}
 use Rattle.compare.specs.Others.{five}
+use Rattle.twins.specs.Twins.{Beside, Like}
 use Rattle.comparing.specs.declared.Pos.{Pos}
 use Rattle.comparing.specs.Inner.{Begun, Pair, Stands}
 use Rattle.comparing.specs.Table.{accepted-event}
-use Rattle.comparing.specs.Twins.{Beside, Like}
 use Rattle.comparing.proofs.Fields.{begun-stands}
 
 -- ---- bytes

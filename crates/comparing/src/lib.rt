@@ -18,8 +18,6 @@ use meaning::Attributes;
 use meaning::Cursor;
 use meaning::Frame;
 
-mod twins;
-
 // Where the loop over the fields of a pair stands: k of them are equal. `done`: there are no more or, where `same` is false, field
 // k differs. Else both records are accepted, of one type, misc and event, and the rows from `row` up to `to` come next, in the
 // first `end` bytes of both: those of the body or, where `last` is set, those of the trailer. w and x are the numbers of the items
@@ -175,7 +173,7 @@ fn like(x: &[u8], y: &[u8], e: u64, rows: &[[u64; 7]]) -> bool
         return false;
     }
     let a = events::attributes_at(rows, events::find(rows, id));
-    twins::record_alike(x, y, kind, misc, a)
+    twins::same_but(x, y, kind, misc, a)
 }
 
 // A pair: nothing is left to be looked at where the bytes are equal, or all but ignored ones; only where a field differs are the

@@ -64,6 +64,7 @@ use Rattle.event_one.proofs as single
 use Rattle.salvaging.proofs as salvaging
 use Rattle.extents.proofs as extents
 use Rattle.extents.specs.Extent.{passed-one}
+use Rattle.twins.proofs as twins
 use Rattle.comparing.proofs as comparing
 use Rattle.compare.specs.declared.Compared.{Compared}
 use Rattle.compare.specs.Compared.{Side, sideOf, scratchThen}
@@ -799,7 +800,7 @@ event-one-read-events κs a x y s t p q = same (p .0) (q .0)
 pub event-one-read-events-words : Seen single.read_events.Kinds.ps single.read_events.Kinds.r single.read_events.Reads.Learnt (λ κs x s. now (s .1 .1 .1 .1 .0))
 event-one-read-events-words κs a x y s t p q = same (p .1) (q .1)
 
--- ---- two rings compared: bytes of two records, one item of both, what is told, and both scratches at exit
+-- ---- two rings compared: bytes of two records, one item of both, all but ignored bytes, what is told, and both scratches at exit
 
 -- what a scratch holds is an equation over what is told, which is one thing
 told-scratch : (l : Side) (x y z : Compared) (u v : List ℕ) → x ≡ z → y ≡ z → u ≡ scratchThen x l → v ≡ scratchThen y l → u ≡ v
@@ -808,11 +809,11 @@ told-scratch l x y z u v p q a b = a ∙ ap (λ (c : Compared). scratchThen c l)
 pub extents-same-bytes : Result extents.same_bytes.Kinds.ps extents.same_bytes.Kinds.r extents.same_bytes.Reads.Learnt
 extents-same-bytes κs a x y s t p q = same p q
 
-pub extents-same-until : Result extents.same_until.Kinds.ps extents.same_until.Kinds.r extents.same_until.Reads.Learnt
-extents-same-until κs a x y s t p q = same p q
-
 pub extents-pass-item : Result extents.pass_item.Kinds.ps extents.pass_item.Kinds.r extents.pass_item.Reads.Learnt
 extents-pass-item κs a x y s t p q = passed-one _ _ _ _ _ _ _ x y p q
+
+pub twins-same-but : Result twins.same_but.Kinds.ps twins.same_but.Kinds.r twins.same_but.Reads.Learnt
+twins-same-but κs a x y s t p q = same p q
 
 pub comparing-compare-rings : Result comparing.compare_rings.Kinds.ps comparing.compare_rings.Kinds.r comparing.compare_rings.Reads.Learnt
 comparing-compare-rings κs a x y s t p q = same (p .0) (q .0)
