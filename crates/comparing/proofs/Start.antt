@@ -25,7 +25,7 @@ use Rattle.laws.specs.Matched.{carried, judge-matched}
 use Rattle.runs.specs.Cutting.{framed}
 use Rattle.table.specs.declared.Part.{Part}
 use Rattle.table.specs.Rows.{rows, itemOf}
-use Rattle.table.specs.Same.{Holds}
+use Rattle.table.specs.Same.{LaidOut}
 use Rattle.table.specs.Turns.{rows-next, rows-over}
 use Rattle.events.specs.Match.{matched-has}
 use Rattle.compare.specs.Fields.{first, otherFields, Reads, fields}
@@ -90,7 +90,7 @@ first-one kind = by (eqb kind 9)
     by false = omega arith
 
 -- the rows of a body after a SAMPLE's identifier
-module _ (kind misc : ℕ) (a : Attributes) (p : Part) (h : Holds kind p) where
+module _ (kind misc : ℕ) (a : Attributes) (p : Part) (h : LaidOut kind p) where
   abbrev f : ℕ → Item
   f = itemOf a misc kind
 

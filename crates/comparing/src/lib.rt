@@ -9,7 +9,7 @@ ghost use Rattle.meaning.specs.Editions.{editions, known};
 ghost use Rattle.meaning.specs.Events.{eventsOf, allMarked, askedEvents};
 ghost use Rattle.runs.specs.Cutting.{framed};
 ghost use Rattle.compare.specs.Fields.{fields};
-ghost use Rattle.compare.specs.Compared.{told, alike, agree, sameBytes, eventReads, sideOf, compared, scratchThen};
+ghost use Rattle.compare.specs.Compared.{report, alike, agree, sameBytes, eventReads, sideOf, compared, scratchThen};
 ghost use Rattle.compare.specs.Turns.{endOf};
 ghost use Rattle.comparing.specs.Inner.{Settled, Begun, moved, trailing, Ready, Stands, isAlike, isField, toGo};
 use compare::Compared;
@@ -293,7 +293,7 @@ fn next(x: &[u8], y: &[u8], p: Pos) -> Pos
 // ---- the loop over records
 
 fn tell(what: u32, stop: u16, records: u64, field: u32) -> Compared
-    ensures { λ r. ⌜ r ≡ told what stop records field ⌝ }
+    ensures { λ r. ⌜ r ≡ report what stop records field ⌝ }
 {
     let stop = stop as u32;
     Compared {

@@ -19,8 +19,8 @@ use Rattle.meaning.specs.Records.{layout, kindOf, judge}
 use Rattle.meaning.specs.Events.{attributesOf, eventAt, eventOf, eventsOf, identifiers, distinct, identifierOf, indexOf, layoutFor, judgeEvents}
 use Rattle.laws.specs.Bytes.{apart}
 use Rattle.laws.specs.Lookup.{identifiers-length, identifier-at, in-there, in-none, index-unique, rows-length, row-at}
-use Rattle.plan.specs.Sums.{sumOver, sumsOf, ones-most, trail-small, first-small, last-small}
-use Rattle.plan.specs.Marks.{Marked}
+use Rattle.sums.specs.Sums.{sumOver, sumsOf, ones-most, trail-small, first-small, last-small}
+use Rattle.marks.specs.Marks.{Marked}
 
 -- ---- eight sums in two words
 

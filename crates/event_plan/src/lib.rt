@@ -13,8 +13,8 @@ ghost use lib.ListN.{length, getD};
 ghost use Rattle.meaning.specs.Editions.{unreadable};
 ghost use Rattle.meaning.specs.Records.{kindOf, layout, judge};
 ghost use Rattle.meaning.specs.Events.{identifiers, eventsOf, distinct, identifierOf, indexOf, judgeEvents};
-ghost use Rattle.plan.specs.Sums.{sumsOf};
-ghost use Rattle.plan.specs.Marks.{lastType, Marked};
+ghost use Rattle.sums.specs.Sums.{sumsOf};
+ghost use Rattle.marks.specs.Marks.{lastType, Marked};
 ghost use Rattle.event_plan.specs.Slots.{Four, unpacked, Filled, Slot, Memo, Planned, attributesFor};
 use meaning::Known;
 
@@ -49,10 +49,10 @@ fn planned(known: Known, rows: &[[u64; 7]], id: u64, i: usize) -> [u64; 8]
     ensures { λ r. ⌜ Filled known (eventsOf (now (rows .entry))) id r ⌝ }
 {
     let a = events::attributes_at(rows, i);
-    let sums = plan::sums::sums(a);
+    let sums = sums::sums(a);
     let why = record::unreadable(known, a, 1, 0);
-    let sample = plan::marks::sample_mark(known, a, &sums);
-    let read = plan::marks::read_mark(known, a, sums[exact::TRAIL]);
+    let sample = marks::sample_mark(known, a, &sums);
+    let read = marks::read_mark(known, a, sums[exact::TRAIL]);
     let early = packed(sums[0], sums[1], sums[2], sums[3]);
     let late = packed(sums[4], sums[5], sums[6], sums[7]);
     [id, 2, why as u64, sample, read, i as u64, early, late]
@@ -139,7 +139,7 @@ fn mark_of(known: Known, rows: &[[u64; 7]], kind: u64, slot: &[u64; 8], id: u64)
         return slot[4];
     }
     let a = events::attributes_at(rows, slot[5] as usize);
-    plan::marks::type_mark(known, a, kind, slot[2] as u16, slot[6] % 65536)
+    marks::type_mark(known, a, kind, slot[2] as u16, slot[6] % 65536)
 }
 
 // A record whose event is in the table, by the event's slot.
@@ -161,7 +161,7 @@ fn found(r: &[u8], kind: u64, known: Known, rows: &[[u64; 7]], slot: &[u64; 8], 
     }
     let a = events::attributes_at(rows, slot[5] as usize);
     let sums = unpacked(slot[6], slot[7]);
-    plan::judge::judge(r, kind, mark, known, a, &sums)
+    plan::judge(r, kind, mark, known, a, &sums)
 }
 
 // A record by the slot at h, which is its identifier's: what the slot says, or its event's own answer.

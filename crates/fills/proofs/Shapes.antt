@@ -18,7 +18,7 @@ use Rattle.meaning.specs.Bytes.{num, zeroIn, put, zeros}
 use Rattle.meaning.specs.Items.{cursor, span, rule, holds, counted, before, past, part, step, walk}
 use Rattle.meaning.specs.Schema.{item}
 use Rattle.meaning.specs.Values.{slot, slotShape, tell, wordsOf, width, words}
-use Rattle.laws.specs.Again.{Taken, fine₁}
+use Rattle.laws.specs.Again.{ItemPassed, fine₁}
 use Rattle.laws.specs.Bytes.{and-true, unbroken}
 use Rattle.laws.specs.Put.{put-nil, put-snoc, put-fits}
 use Rattle.laws.specs.Told.{take-zeros, drop-zeros}
@@ -78,7 +78,7 @@ module _ {on : Bool} {sh : Shape} {xs : List ℕ} {c : Cursor} {d : List ℕ} {a
       }
 
   module _ (o : on ≡ true) where
-    pub took : Taken sh c (drop (c .at) xs)
+    pub took : ItemPassed sh c (drop (c .at) xs)
     unfolding walk
     took = step-taken xs (item on sh) c (g .fine) o
 

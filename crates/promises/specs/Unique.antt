@@ -45,6 +45,8 @@ use Rattle.events.proofs as events
 use Rattle.event_list.proofs as list
 use Rattle.blocks.proofs as blocks
 use Rattle.exact.proofs as exact
+use Rattle.sums.proofs as sums
+use Rattle.marks.proofs as marks
 use Rattle.plan.proofs as plan
 use Rattle.names.proofs as names
 use Rattle.ring.proofs as ring
@@ -391,19 +393,19 @@ pub exact-types-text-poke : Result exact.types.text_poke.Kinds.ps exact.types.te
 unfolding Closes
 exact-types-text-poke κs a x y s t p q = same (p 0 0) (q 0 0)
 
-pub plan-judge-judge : Result plan.judge.judge.Kinds.ps plan.judge.judge.Kinds.r plan.judge.judge.Reads.Learnt
+pub plan-judge-judge : Result plan.judge.Kinds.ps plan.judge.Kinds.r plan.judge.Reads.Learnt
 plan-judge-judge κs a x y s t p q = same p q
 
-pub plan-judge-other : Result plan.judge.other.Kinds.ps plan.judge.other.Kinds.r plan.judge.other.Reads.Learnt
+pub plan-judge-other : Result plan.other.Kinds.ps plan.other.Kinds.r plan.other.Reads.Learnt
 plan-judge-other κs a x y s t p q = same p q
 
-pub plan-sums-read-values : Result plan.sums.read_values.Kinds.ps plan.sums.read_values.Kinds.r plan.sums.read_values.Reads.Learnt
+pub plan-sums-read-values : Result sums.read_values.Kinds.ps sums.read_values.Kinds.r sums.read_values.Reads.Learnt
 plan-sums-read-values κs a x y s t p q = same (p .0) (q .0)
 
-pub plan-sums-group : Result plan.sums.group.Kinds.ps plan.sums.group.Kinds.r plan.sums.group.Reads.Learnt
+pub plan-sums-group : Result sums.group.Kinds.ps sums.group.Kinds.r sums.group.Reads.Learnt
 plan-sums-group κs a x y s t p q = same (p .0) (q .0)
 
-pub plan-sums-sums : Result plan.sums.sums.Kinds.ps plan.sums.sums.Kinds.r plan.sums.sums.Reads.Learnt
+pub plan-sums-sums : Result sums.sums.Kinds.ps sums.sums.Kinds.r sums.sums.Reads.Learnt
 plan-sums-sums κs a x y s t p q = same p q
 
 pub fast-check-judge : Result checks.judge.Kinds.ps checks.judge.Kinds.r checks.judge.Reads.Learnt

@@ -20,7 +20,7 @@ use Rattle.meaning.specs.Items.{Con, con, cursor, refuse, span, rule, holds, pa
 use Rattle.meaning.specs.Records.{origin}
 use Rattle.laws.specs.Bytes.{apart, and-true, le-or-lt}
 use Rattle.laws.specs.There.{item}
-use Rattle.laws.specs.Again.{fine, stepped, Taken, taken, outcome}
+use Rattle.laws.specs.Again.{fine, stepped, ItemPassed, item-passed, outcome}
 use Rattle.blocks.specs.Seen.{walk-append}
 use Rattle.blocks.specs.Steady.{steady, total, steady-in, steady-out}
 use Rattle.compare.specs.Compared.{sameBytes}
@@ -95,7 +95,7 @@ zero-same (x ∷ xs) (y ∷ ys) l e = by (eqb y 0) refl l e (zero-same xs ys)
         rw (ne-eqb x 0 (λ z. eqb-false y 0 f (sym h ∙ z))) (ap suc (r m (ap (λ (q : List ℕ). drop 1 q) e)))
 
 -- a name up to its zero
-module _ (s : List ℕ) (sh : Shape) (c : Cursor) (e : sh ≡ Name) (k : Taken sh c (drop (c .at) s)) where
+module _ (s : List ℕ) (sh : Shape) (c : Cursor) (e : sh ≡ Name) (k : ItemPassed sh c (drop (c .at) s)) where
   name-part : (l : List ℕ) → part sh c (drop (c .at) l) ≡ drop (c .at) l
   unfolding part span
   name-part l = ap (λ (z : Shape). part z c (drop (c .at) l)) e ∙ take-all (length (drop (c .at) l)) (drop (c .at) l) (omega arith)
@@ -244,13 +244,13 @@ unfolding walk
 walk-far s [] c = omega arith
 walk-far s (i ∷ is) c = let f = step-far s i c .is in let r = walk-far s is (step s i c) in omega (arith, f, r)
 
-taken-far : (sh : Shape) (s : List ℕ) (c : Cursor) → Taken sh c (drop (c .at) s) → shapeStep sh c (drop (c .at) s) .at ≡ c .at + span sh c (length (drop (c .at) s))
+taken-far : (sh : Shape) (s : List ℕ) (c : Cursor) → ItemPassed sh c (drop (c .at) s) → shapeStep sh c (drop (c .at) s) .at ≡ c .at + span sh c (length (drop (c .at) s))
 unfolding past
 taken-far sh s c k = ap (λ (d : Cursor). d .at) (k .is) ∙ ap (λ (n : ℕ). c .at + n) (k .long)
 
 -- the place behind an item that is selected and taken
 pub step-far-on : (s : List ℕ) (sh : Shape) (c : Cursor) → c .why ≡ 0 → step s (item true sh) c .why ≡ 0 → step s (item true sh) c .at ≡ c .at + span sh c (length (drop (c .at) s))
-step-far-on s sh c z h = ap (λ (d : Cursor). d .at) (stepped true sh s c z) ∙ taken-far sh s c (taken sh c (drop (c .at) s) (shape-why s sh c z h))
+step-far-on s sh c z h = ap (λ (d : Cursor). d .at) (stepped true sh s c z) ∙ taken-far sh s c (item-passed sh c (drop (c .at) s) (shape-why s sh c z h))
 
 -- an item where no byte differs up to its end
 within-one : (s t : List ℕ) (i : Item) (c : Cursor) (f : ℕ) → c .why ≡ 0 → step s i c .why ≡ 0 → step s i c .at ≤ f → Abreast s t (c .at) f
@@ -261,7 +261,7 @@ within-one s t i c f z h l b = by (i .on) refl
     by : (on : Bool) → i .on ≡ on → (step t i c ≡ step s i c) × (content t i c ≡ content s i c)
     by true o =
         let p : (w : List ℕ) → step w i c ≡ shapeStep (i .shape) c (drop (c .at) w) = λ (w : List ℕ). stepped (i .on) (i .shape) w c z ∙ ap (λ (v : Bool). cond v (shapeStep (i .shape) c (drop (c .at) w)) c) o in
-        let k = taken (i .shape) c (drop (c .at) s) (ap (λ (d : Cursor). d .why) (sym (p s)) ∙ h) in
+        let k = item-passed (i .shape) c (drop (c .at) s) (ap (λ (d : Cursor). d .why) (sym (p s)) ∙ h) in
         let e : step s i c .at ≡ c .at + span (i .shape) c (length (drop (c .at) s)) = ap (λ (d : Cursor). d .at) (p s) ∙ taken-far (i .shape) s c k in
         let r = read-whole s t (b .long) (i .shape) c (abreast-take s t (c .at) f b (span (i .shape) c (length (drop (c .at) s))) (omega (arith, e, l))) in
         let q : (w : List ℕ) → content w i c ≡ holds (i .shape) c (part (i .shape) c (drop (c .at) w)) = λ (w : List ℕ). ap (λ (v : Bool). cond v (holds (i .shape) c (part (i .shape) c (drop (c .at) w))) (con 0 [])) o in
@@ -348,5 +348,5 @@ twins-name s t is begin n old from w e long z h =
     let f : walk s is (cursor begin n old 0) ≡ c = front-is s is rest begin n old w l z ∙ ap (λ (q : ℕ). cursor q n old 0) e in
     let y : step s (item true Name) c .why ≡ 0 = ap (λ (q : ℕ). walk s rest (cursor q n old 0) .why) (sym e) ∙ after-fine s is rest begin n old w l z in
     let b = abreast-on s t begin (from + zeroIn (drop from s) + 1) a from (omega (arith, e)) (omega arith) in
-    let r = name-read s Name c refl (taken Name c (drop from s) (shape-why s Name c refl y)) t long (abreast-take s t from (from + zeroIn (drop from s) + 1) b (zeroIn (drop from s) + 1) (omega arith)) in
+    let r = name-read s Name c refl (item-passed Name c (drop from s) (shape-why s Name c refl y)) t long (abreast-take s t from (from + zeroIn (drop from s) + 1) b (zeroIn (drop from s) + 1) (omega arith)) in
     twins-append s t is rest (cursor begin n old 0) c (sym f) (front-twins s is rest begin n old w l z t (from + zeroIn (drop from s) + 1) (omega (arith, e)) a) (twins-one s t Name c refl r)

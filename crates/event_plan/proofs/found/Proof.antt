@@ -11,8 +11,8 @@ use Rattle.meaning.specs.Records.{layout, judge}
 use Rattle.meaning.specs.Events.{attributesOf, eventAt, eventsOf}
 use Rattle.laws.specs.Lookup.{rows-length}
 use Rattle.blocks.specs.Steady.{sizes-same}
-use Rattle.plan.specs.Sums.{sumsOf}
-use Rattle.plan.specs.Marks.{Wanted, Marked, size-judged}
+use Rattle.sums.specs.Sums.{sumsOf}
+use Rattle.marks.specs.Marks.{Wanted, Marked, size-judged}
 use Rattle.event_plan.specs.Slots.{Filled, attributesFor}
 use Rattle.event_plan.proofs.found.Statement.{statement}
 use Rattle.event_plan.proofs.found.Tie as tie

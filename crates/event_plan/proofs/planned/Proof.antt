@@ -8,7 +8,7 @@ use borrow.Author.Needs.{needs}
 use Rattle.meaning.specs.declared.Attributes.{Attributes}
 use Rattle.meaning.specs.Events.{eventsOf}
 use Rattle.laws.specs.Lookup.{rows-length}
-use Rattle.plan.specs.Sums.{trail-small, sums-given}
+use Rattle.sums.specs.Sums.{trail-small, sums-given}
 use Rattle.event_plan.specs.Slots.{narrow, unpacks, Planned, filled-found}
 use Rattle.event_plan.proofs.planned.Statement.{statement}
 use Rattle.event_plan.proofs.planned.Tie as tie
