@@ -250,12 +250,12 @@ one-told false sh src F m c s n old rest e l z h g a =
     }
 
 -- all of them: the words of a walk that refuses nothing, told back
-pub words-told : (is : List Item) (src F : List ℕ) (m : ℕ) (c : Cursor) (s : Seen) (n old : ℕ) (rest : List ℕ) → F ≡ take m src → c .at ≤ length F
+pub items-told : (is : List Item) (src F : List ℕ) (m : ℕ) (c : Cursor) (s : Seen) (n old : ℕ) (rest : List ℕ) → F ≡ take m src → c .at ≤ length F
     → walk F is c .why ≡ 0 → Agree s n old c → steady is s ≡ true
     → (means src is (slotsTold is (words F is c ++ rest) n old) ≡ contents F is c) × (anyBeyond src is (slotsTold is (words F is c ++ rest) n old) ≡ false)
 unfolding walk words slotsTold means anyBeyond contents steady
-words-told [] src F m c s n old rest e l h g a = (refl, refl)
-words-told (i ∷ is) src F m c s n old rest e l h g a =
+items-told [] src F m c s n old rest e l h g a = (refl, refl)
+items-told (i ∷ is) src F m c s n old rest e l h g a =
     let h₁ : step F i c .why ≡ 0 = fine F is (step F i c) h in
     let z : c .why ≡ 0 = fine₁ F i c h₁ in
     let sh : Shape = i .shape in
@@ -266,6 +266,6 @@ words-told (i ∷ is) src F m c s n old rest e l h g a =
     let o = one-told (i .on) sh src F m c s n old (W ++ rest) e l z h₁ g (b .0) in
     let n′ : ℕ = cond (i .on) (lastTold sh n (getD ws 0 0)) n in
     let old′ : ℕ = cond (i .on) (beforeTold sh n old) old in
-    let r = words-told is src F m (step F i c) (seen (i .on) sh s) n′ old′ rest e (o .within) h (o .agree) (b .1) in
+    let r = items-told is src F m (step F i c) (seen (i .on) sh s) n′ old′ rest e (o .within) h (o .agree) (b .1) in
     let q : drop (wordsOf sh) ws ≡ W ++ rest = drop-at T (W ++ rest) (wordsOf sh) (tell-length sh (slotItem F i c)) in
     rw (append-assoc T W rest, q) (ap₂ (λ (x : Con) (y : List Con). x ∷ y) (o .means) (r .0), rw (o .inside) (r .1))
