@@ -158,6 +158,8 @@ fi
 # shellcheck disable=SC2086
 part "what ringdump prints" "$out/reader" images $ringdump --rings rings --folder "$out" --seed "$seed" --count 400
 part "damaged real rings: 5000 cases, seed $seed" "$out/reader" damaged --rings rings --seed "$seed" --count 5000
-[ $mode = standin ] || part "fuzzing, if clang is there" tests/fuzz/run.sh 100000 "$seed"
+# under an emulator it is some forty times slower
+[ -z "${OLLSKUVAN_EMULATED:-}" ] && fuzzed=100000 || fuzzed=10000
+[ $mode = standin ] || part "fuzzing, if clang is there" tests/fuzz/run.sh $fuzzed "$seed"
 
 echo "outside tests: $parts parts done in $(($(date +%s) - begun)) s, none failed"
