@@ -144,6 +144,8 @@ part "salvage of damaged streams: $((values / 5)) streams, seed $seed" \
     "$out/reader" salvages --count $((values / 5)) --seed "$seed"
 part "two rings compared: $((values / 5)) pairs, seed $seed" \
     "$out/reader" compares --count $((values / 5)) --seed "$seed"
+part "where two requests meet: $((values / 5)) meetings, seed $seed" \
+    "$out/reader" meets --count $((values / 5)) --seed "$seed"
 part "what misc means" "$out/reader" meanings --count "$values" --seed "$seed"
 part "real rings" "$out/reader" rings rings
 part "real rings of several events" "$out/reader" table-rings rings/events --seed "$seed"
