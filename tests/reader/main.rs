@@ -541,9 +541,7 @@ fn run_replays(o: &Options) -> Result<(), String> {
     }
     run_cases("replays", o, count, &mut tally, replays::one_case)?;
     tally.print_answers("replay");
-    for (what, count) in &tally.notes {
-        println!("{count:>9} {what}");
-    }
+    tally.print_notes();
     let mut missing = tally.missing(replays::MUST, &[], false);
     missing.extend(replays::missing_notes(&tally));
     all_reached(missing, count, 2_000)?;
@@ -594,9 +592,7 @@ fn run_salvages(o: &Options) -> Result<(), String> {
     }
     run_cases("salvages", o, count, &mut tally, salvages::one_case)?;
     tally.print_answers("salvage");
-    for (what, count) in &tally.notes {
-        println!("{count:>9} {what}");
-    }
+    tally.print_notes();
     let mut missing = tally.missing(salvages::MUST, &[], false);
     missing.extend(salvages::missing_notes(&tally));
     all_reached(missing, count, 2_000)?;
@@ -621,9 +617,7 @@ fn run_compares(o: &Options) -> Result<(), String> {
     for call in compares::CALLS {
         tally.print_answers(call);
     }
-    for (what, count) in &tally.notes {
-        println!("{count:>9} {what}");
-    }
+    tally.print_notes();
     let mut missing = tally.missing(compares::MUST, &[], false);
     missing.extend(compares::missing(&tally));
     all_reached(missing, count, 2_000)?;
