@@ -329,6 +329,7 @@ case "$part" in
     case "$part" in all | compare) "$program" rings $rounds || exit 1; alike || exit 1 ;; esac
     case "$part" in all | sizes) "$program" sizes $rounds || exit 1 ;; esac
     case "$part" in all | values) "$program" values $rounds || exit 1 ;; esac
+    case "$part" in all | reads) reads || exit 1 ;; esac
     case "$part" in all | instructions) instructions && instructions 1 && checks || exit 1 ;; esac
     case "$part" in all | stores) stores || exit 1 ;; esac
     case "$part" in all | instructions | tables) tables && tables 0 && tables 1 && tables 32 || exit 1 ;; esac

@@ -31,7 +31,7 @@ slice-aggregate-stale-from : tie.Need-slice-aggregate-stale-from
 slice-aggregate-stale-from c = let h = long (c .before .before .before .before .before) in sym (length-take-le _ _ (h .1))
 
 sub-stale-from : tie.Need-sub-stale-from
-sub-stale-from c = long (c .before .before .before .before .before) .0
+sub-stale-from c = let h = long (c .before .before .before .before .before) .0 in omega (arith, h)
 
 stale-from-requires : tie.Need-stale-from-requires
 stale-from-requires c κs =
