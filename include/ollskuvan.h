@@ -59,8 +59,8 @@ extern "C" {
 #endif
 
 /* The version of this header and its library: 4.2.0 is 40200. */
-#define OLLSKUVAN_VERSION "4.0.0"
-#define OLLSKUVAN_VERSION_NUMBER 40000
+#define OLLSKUVAN_VERSION "4.1.0"
+#define OLLSKUVAN_VERSION_NUMBER 40100
 
 /* ------------------------------------------------------------------------
  * Editions: what is known of sample bits and record types.
