@@ -26,7 +26,7 @@ use Rattle.blocks.specs.Seen.{walk-append}
 use Rattle.blocks.specs.Steady.{oneWidth, widthOf, steady, total, steady-in}
 use Rattle.blocks.specs.Blocks.{count-in, times-in, goes}
 use Rattle.twins.specs.Twins.{Twins}
-use Rattle.twins.specs.Same.{sameSpan, sameButFour, aroundRes, nameSame, buildSame, textSame, nameAt, bodySame, trailBits}
+use Rattle.twins.specs.Same.{sameSpan, sameButFour, aroundRes, nameSame, buildSame, textSame, nameAt, beforeRes, bodySame, trailBits}
 use Rattle.twins.specs.Pieces.{read-ignored, read-pad, read-listed, abreast-take, abreast-all, span-abreast, twins-one, twins-append, twins-all, twins-within, front-is, after-fine, front-twins, twins-around, twins-name}
 
 twice : (b : Bool) → cond b 4 0 + cond b 4 0 ≡ cond b 8 0
@@ -52,8 +52,8 @@ module _ (s t : List ℕ) (long : length t ≡ length s) where
 
   -- ---- SAMPLE
 
-  abbrev beforeRes : Attributes → List Item
-  beforeRes a =
+  abbrev resFront : Attributes → List Item
+  resFront a =
       selected a 16 (Number W8)
       ∷ selected a 0 (Number W8)
       ∷ selected a 1 (Number W4)
@@ -68,16 +68,16 @@ module _ (s t : List ℕ) (long : length t ≡ length s) where
   abbrev afterRes : Attributes → List Item
   afterRes a = selected a 8 (Number W8) ∷ (readValues a (bit (a .sample) 4) ++ (sampleLists a ++ sampleLast a))
 
-  before-count : (a : Attributes) → bit (a .sample) 7 ≡ true → total (beforeRes a) ≡ ones 64 (bitAnd (a .sample) 66127) * 8 + 4
+  before-count : (a : Attributes) → bit (a .sample) 7 ≡ true → total (resFront a) ≡ ones 64 (bitAnd (a .sample) beforeRes) * 8 + 4
   unfolding total widthOf span bitsFrom eights
   before-count a h =
-      let e : 8 * ones 64 (bitAnd (a .sample) 66127) ≡ eights (a .sample) (0 ∷ 1 ∷ 2 ∷ 3 ∷ 6 ∷ 9 ∷ 16 ∷ []) = eights-ones (a .sample) 66127 in
+      let e : 8 * ones 64 (bitAnd (a .sample) beforeRes) ≡ eights (a .sample) (0 ∷ 1 ∷ 2 ∷ 3 ∷ 6 ∷ 9 ∷ 16 ∷ []) = eights-ones (a .sample) beforeRes in
       let p = twice (bit (a .sample) 1) in
       rw h (omega (arith, e, p))
 
-  sample-twins : (a : Attributes) → walk s (sample a) (origin 8) .why ≡ 0 → aroundRes s t (a .sample) 66127 8 ≡ true → Twins s t (sample a) (origin 8)
+  sample-twins : (a : Attributes) → walk s (sample a) (origin 8) .why ≡ 0 → aroundRes s t (a .sample) beforeRes 8 ≡ true → Twins s t (sample a) (origin 8)
   unfolding steady oneWidth
-  sample-twins a z h = twins-res (beforeRes a) (afterRes a) 8 (a .sample) 66127 refl (before-count a) z h
+  sample-twins a z h = twins-res (resFront a) (afterRes a) 8 (a .sample) beforeRes refl (before-count a) z h
 
   -- ---- a trailer
 
@@ -249,7 +249,7 @@ module _ (s t : List ℕ) (long : length t ≡ length s) where
     body-twins h = by (eqb kind 9) (eqb kind 20) refl refl h
       where
         by : (b c : Bool) → eqb kind 9 ≡ b → eqb kind 20 ≡ c
-            → cond b (aroundRes s t (a .sample) 66127 8) (cond c (textSame s t) (cond (eqb kind 10 && bit misc 14) (buildSame s t) (cond (eqb (nameAt kind) 0) (sameSpan s t 8 (length s)) (nameSame s t 8 (nameAt kind))))) ≡ true
+            → cond b (aroundRes s t (a .sample) beforeRes 8) (cond c (textSame s t) (cond (eqb kind 10 && bit misc 14) (buildSame s t) (cond (eqb (nameAt kind) 0) (sameSpan s t 8 (length s)) (nameSame s t 8 (nameAt kind))))) ≡ true
             → Twins s t (schema kind misc a) (origin 8)
         by true c e f h = of-type 9 (eqb-true kind 9 e) (λ y. sample-twins a y h)
         by false true e f h = of-type 20 (eqb-true kind 20 f) (λ y. text-twins h)

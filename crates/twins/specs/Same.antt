@@ -40,10 +40,14 @@ textSame s t = sameSpan s t 8 (20 + (numberAt 2 s 16 + numberAt 2 s 18))
 unfoldable pub nameAt : ℕ → ℕ
 nameAt kind = cond (eqb kind 1) 40 (cond (eqb kind 3 || eqb kind 19) 16 (cond (eqb kind 10) 72 (cond (eqb kind 17) 24 0)))
 
--- the fields, x the sample type. Before a SAMPLE's res: identifier, ip, pid and tid, time, addr, id, stream id (16, 0 to 3, 6, 9)
+-- before a SAMPLE's res: identifier, ip, pid and tid, time, addr, id, stream id (16, 0 to 3, 6, 9)
+abbrev pub beforeRes : ℕ
+beforeRes = 66127
+
+-- the fields, x the sample type
 unfoldable pub bodySame : List ℕ → List ℕ → ℕ → ℕ → ℕ → Bool
 bodySame s t kind misc x =
-    cond (eqb kind 9) (aroundRes s t x 66127 8)
+    cond (eqb kind 9) (aroundRes s t x beforeRes 8)
     (cond (eqb kind 20) (textSame s t)
     (cond (eqb kind 10 && bit misc 14) (buildSame s t)
     (cond (eqb (nameAt kind) 0) (sameSpan s t 8 (length s)) (nameSame s t 8 (nameAt kind)))))
