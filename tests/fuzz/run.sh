@@ -38,7 +38,7 @@ seed=${2:-1}
 
 command -v clang >/dev/null || skip "clang is missing (Debian: apt-get install clang)"
 command -v "$rustc" >/dev/null || skip "$rustc is missing: the independent reader is written in Rust"
-sanitizers=fuzzer,address,undefined objcopy=objcopy machine= of= compares='-C llvm-args=-sanitizer-coverage-trace-compares'
+sanitizers=fuzzer,address,undefined objcopy=objcopy machine= of= signals= compares='-C llvm-args=-sanitizer-coverage-trace-compares'
 touched='AddressSanitizer: SEGV|AddressSanitizer: .*overflow' # what is said of a byte outside a slice
 if [ -n "${OLLSKUVAN_EMULATED:-}" ]; then
     sanitizers=fuzzer,undefined objcopy=x86_64-linux-gnu-objcopy machine='--target=x86_64-linux-gnu -DEMULATED' of=:amd64
@@ -46,6 +46,8 @@ if [ -n "${OLLSKUVAN_EMULATED:-}" ]; then
     # more than half of the time would go into telling libFuzzer of each comparison, and into wide vectors
     machine="$machine -fno-sanitize-coverage=trace-cmp" compares=
     export QEMU_CPU=qemu64,+popcnt
+    # see align_handlers in target.c: a signal that only ends the run needs no handler
+    signals='-handle_term=0 -handle_int=0'
 fi
 command -v $objcopy >/dev/null || skip "$objcopy is missing (Debian: apt-get install binutils)"
 mkdir -p "$out"
@@ -102,7 +104,8 @@ newer "$out/seeds/made-0" tests/reader rings || {
 mkdir -p "$out/corpus" "$out/found"
 
 if [ "$runs" = again ]; then
-    exec "$out/target" "$2"
+    # shellcheck disable=SC2086
+    exec "$out/target" $signals "$2"
 fi
 if [ "$runs" = faults ]; then
     build -c -o "$out/target.o" tests/fuzz/target.c
@@ -113,7 +116,8 @@ if [ "$runs" = faults ]; then
         # shellcheck disable=SC2086
         build -DFAULT=$number -o "$out/faulty" "$out/target.o" tests/fuzz/faults.c "$out/ringdump.o" \
             "$out/libindependent.a" $libraries
-        if "$out/faulty" -runs=1000000 -seed="$seed" -max_len="$max_len" -detect_leaks=0 -artifact_prefix="$out/planted-" \
+        # shellcheck disable=SC2086
+        if "$out/faulty" $signals -runs=1000000 -seed="$seed" -max_len="$max_len" -detect_leaks=0 -artifact_prefix="$out/planted-" \
             -dict=tests/fuzz/ollskuvan.dict "$out/seeds" >"$out/log" 2>&1; then
             stop "planted fault $number was not found"
         fi
@@ -133,7 +137,8 @@ fi
 [ -z "$without" ] || echo "== the archive has no read and write: they are left out"
 begun=$(date +%s)
 # libFuzzer counts the corpus it starts from as executions too.
-"$out/target" -runs="$runs" -seed="$seed" -max_len="$max_len" -max_total_time="${SECONDS_AT_MOST:-0}" \
+# shellcheck disable=SC2086
+"$out/target" $signals -runs="$runs" -seed="$seed" -max_len="$max_len" -max_total_time="${SECONDS_AT_MOST:-0}" \
     -dict=tests/fuzz/ollskuvan.dict -detect_leaks=0 -print_final_stats=1 -artifact_prefix="$out/found/" \
     "$out/corpus" "$out/seeds" 2>"$out/log" || {
     grep -v '^#' "$out/log" | head -c 60000 >&2

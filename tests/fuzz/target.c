@@ -975,6 +975,11 @@ static void try_compare(void)
     compare(&left, in.tail, &right, in.tail + shift, scratch_len);
     if (distance == 0 || distance > left.length)
         return;
+    /* the right side ends behind its first record */
+    right.head = in.tail + shift + (other[(in.tail + shift + 6) % left.length] & ~7u) % distance;
+    compare(&left, in.tail, &right, in.tail + shift, scratch_len);
+    compare(&right, in.tail + shift, &left, in.tail, scratch_len);
+    right.head = left.head + shift;
     {
         /* where the input says; in the first header; in a body; at the last record's end: identifier, and what is before */
         const uint64_t places[] = { in.control[5] | (uint64_t)in.control[7] << 8, 4, 6, 17, distance / 2, distance - 1,
