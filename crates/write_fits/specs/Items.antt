@@ -56,7 +56,7 @@ no-false : {A : Type 0} → false ≡ true → A
 no-false e = absurd (apart e)
 
 -- what a slot that fits says
-ok-parts : (f : Form) (src : List ℕ) (s : Slot) (c : Cursor) → okForm f src s c ≡ true
+pub ok-parts : (f : Form) (src : List ℕ) (s : Slot) (c : Cursor) → okForm f src s c ≡ true
     → (passesEnd src (f .list) (f .unit) (s .place) (s .count) ≡ false) × (fitsForm f src s ≡ true) × (formNext f s c .at ≤ 65535)
 unfolding okForm
 ok-parts f src s c h =
@@ -65,17 +65,17 @@ ok-parts f src s c h =
     (not-true (passesEnd src (f .list) (f .unit) (s .place) (s .count)) (q .0), q .1, leb-true (formNext f s c .at) 65535 (p .1))
 
 module _ (i : Item) (src ws : List ℕ) (w : ℕ) (c : Walked) where
-  abbrev slotHere : Slot
+  abbrev pub slotHere : Slot
   slotHere = givenSlot ws (toldTo w c) i
 
-  abbrev formHere : Form
+  abbrev pub formHere : Form
   formHere = form i (stateOf c) slotHere
 
-  abbrev pastHere : Walked
+  abbrev pub pastHere : Walked
   pastHere =
       walked (formNext formHere slotHere (stateOf c) .at) (formHere .n) (formHere .old) (reachedAfter ws (toldTo w c) i .n) (reachedAfter ws (toldTo w c) i .old) (c .bad)
 
-  abbrev fitsHere : Bool
+  abbrev pub fitsHere : Bool
   fitsHere = okForm formHere src slotHere (stateOf c)
 
   module _ (bytesOnly : small src ≡ true) (narrow : slotHere .num < 2 ^ 64) where
@@ -96,7 +96,7 @@ module _ (i : Item) (src ws : List ℕ) (w : ℕ) (c : Walked) where
         ∙ ap (λ (x : Cursor). tryItems src js (slotsFrom js (reachedAfter ws (toldTo w c) i) ws) x)
           (next-is i (stateOf c) src slotHere (p .1) (passes-is i (stateOf c) src slotHere ∙ p .0))
 
-    walk-misfits : fitsHere ≡ false → (js : List Item) → tryFrom src ws (i ∷ js) w c ≡ unfit
+    pub walk-misfits : fitsHere ≡ false → (js : List Item) → tryFrom src ws (i ∷ js) w c ≡ unfit
     walk-misfits h js =
         walk-one js
         ∙ ap (λ (b : Bool). cond b (tryItems src js (slotsFrom js (reachedAfter ws (toldTo w c) i) ws) (next i (held src i slotHere) (stateOf c))) unfit) (good-here ∙ h)
@@ -222,14 +222,14 @@ nameOk src place count pad c = (not (ltb (length src) (place + count * 1)) && no
 abbrev pub stay : ℕ → Walked → Walked
 stay k c = walked (c .at + k) (c .n) (c .old) (c .told) (c .before) (c .bad)
 
-number-ok : (v width top n old : ℕ) (eights : Bool) (src : List ℕ) (c : Walked)
+pub number-ok : (v width top n old : ℕ) (eights : Bool) (src : List ℕ) (c : Walked)
     → okForm (numberForm width top eights n old) src (slot v 0 0) (stateOf c) ≡ numberOk v width eights top c
 unfolding okForm fitsForm passesEnd formNext listBytes
 number-ok v width top n old eights src c =
     ap₂ (λ (a : Bool) (k : ℕ). a && leb (c .at + k) 65535) (and-ones (leb v top) (cond eights (eqb ((v + width) % 8) 0) true))
     (let e : width + 0 + 0 ≡ width = omega arith in e)
 
-list-ok : (place count want unit pad : ℕ) (src : List ℕ) (c : Walked)
+pub list-ok : (place count want unit pad : ℕ) (src : List ℕ) (c : Walked)
     → okForm (listForm (stateOf c) unit want pad) src (slot 0 place count) (stateOf c) ≡ listOk (length src) place count want unit pad c
 unfolding okForm fitsForm passesEnd formNext listBytes
 list-ok place count want unit pad src c =
@@ -240,14 +240,14 @@ list-ok place count want unit pad src c =
     one true = refl
     one false = refl
 
-name-ok : (place count pad : ℕ) (src : List ℕ) (c : Walked)
+pub name-ok : (place count pad : ℕ) (src : List ℕ) (c : Walked)
     → okForm (nameForm (stateOf c) count pad) src (slot 0 place count) (stateOf c) ≡ nameOk src place count pad c
 unfolding okForm fitsForm passesEnd formNext listBytes
 name-ok place count pad src c =
     ap₂ (λ (b : Bool) (k : ℕ). (not (ltb (length src) (place + count * 1)) && ((b || false) && nonzero (take count (drop place src)))) && leb (c .at + k) 65535)
     (eq-eqb count count refl) (let e : 0 + count * 1 + pad ≡ count * 1 + pad = omega arith in e)
 
-pad-ok : (pad : ℕ) (src : List ℕ) (c : Walked) → okForm (blankForm (stateOf c) pad) src (slot 0 0 0) (stateOf c) ≡ leb (c .at + pad) 65535
+pub pad-ok : (pad : ℕ) (src : List ℕ) (c : Walked) → okForm (blankForm (stateOf c) pad) src (slot 0 0 0) (stateOf c) ≡ leb (c .at + pad) 65535
 unfolding okForm fitsForm passesEnd formNext listBytes
 pad-ok pad src c = ap (λ (k : ℕ). leb (c .at + k) 65535) (let e : 0 + 0 + pad ≡ pad = omega arith in e)
 

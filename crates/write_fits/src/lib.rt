@@ -138,7 +138,7 @@ pub fn limit(ws: &[u64], source: &[u8], c: Walked, on: bool, w: usize) -> Walked
 }
 
 // "If the abi is 0, none follow"; else as many registers as the mask has ones.
-fn registers_by(abi: u64, mask: u64) -> u64
+pub fn registers_by(abi: u64, mask: u64) -> u64
     ensures { λ r. ⌜ r ≡ cond (eqb abi 0) 0 (ones 64 mask) ⌝ }
 {
     if abi == 0 {
@@ -224,7 +224,7 @@ pub fn times(ws: &[u64], source: &[u8], c: Walked, on: bool, w: usize, k: usize)
 }
 
 // The bytes of a group's entry: value, id and lost count, of 8 bytes each.
-fn group_bytes(f: u64) -> usize
+pub fn group_bytes(f: u64) -> usize
     ensures { λ r. ⌜ (r ≡ groupBytes f) × (1 ≤ r) × (r ≤ 4096) ⌝ }
 {
     let ids = wire::has_bit(f, 2);
