@@ -1,10 +1,11 @@
 -- Numbers put byte by byte. Assumes nothing.
 use mathlib.Core.Path.{_≡_, refl, sym, ap, ap₂, _∙_}
 use mathlib.Core.List.{List, [], _∷_, _++_, append-assoc}
-use Prim.Native.Nat.{ℕ, _+_, _/_, _%_, _≤_, _<_}
+use Prim.Native.Nat.{ℕ, _+_, _-_, _/_, _%_, _≤_, _<_}
 use native.Mathlib.Nat.{add-zero}
 use native.Mathlib.Omega.{arith}
-use lib.ListN.{length, set, length-append}
+use lib.ListN.{length, take, drop, set, length-append, length-drop}
+use lib.Seq.{length-take-le}
 use Rattle.meaning.specs.Bytes.{spell, put}
 use Rattle.laws.specs.Bytes.{length-spell}
 use Rattle.laws.specs.Put.{put-nil, put-snoc, put-put}
@@ -49,3 +50,7 @@ put-header kind misc size b b₁ b₂ b₃ h e₁ e₂ e₃ =
     let lA = length-append (spell 4 kind) (spell 2 misc) in
     two-puts b b₂ b₃ 0 6 (spell 4 kind ++ spell 2 misc) (spell 2 size) _ (omega (arith, lK, lM, lA))
     (two-puts b b₁ b₂ 0 4 (spell 4 kind) (spell 2 misc) _ lK e₁ e₂ (omega (arith, lM, h)) refl) e₃ (omega (arith, lS, h)) (append-assoc (spell 4 kind) (spell 2 misc) (spell 2 size))
+
+-- a part that lies inside
+pub part-long : (src : List ℕ) (place n : ℕ) → place + n ≤ length src → length (take n (drop place src)) ≡ n
+part-long src place n h = let d = length-drop place src in length-take-le n (drop place src) (omega (arith, d, h))

@@ -149,9 +149,10 @@ pub fn limit(ws: &[u64], source: &[u8], c: Walked, on: bool, w: usize, buffer: &
     }
     let at = c.at;
     let v = ws[w];
-    buffer[at] = (v % 256) as u8;
+    store(buffer, at, v, Width::W1);
+    let d = past(c, 1);
     Walked {
-        at: at + 1,
+        at: d.at,
         n: v,
         old: c.old,
         told: v,
