@@ -6,21 +6,23 @@ use Prim.Native.Nat.{ℕ, _+_, _-_, _%_, _<_, _≤_}
 use native.Mathlib.Omega.{arith}
 use lib.ListN.{length, take, drop, getD}
 use lib.Dec.{leb, eqb}
+use Rattle.meaning.specs.declared.Attributes.{Attributes}
 use Rattle.meaning.specs.declared.Cursor.{Cursor}
 use Rattle.meaning.specs.declared.Item.{Item}
 use Rattle.meaning.specs.Bytes.{allZero, spell, put}
 use Rattle.meaning.specs.Writing.{next}
 use Rattle.meaning.specs.Records.{fixed, origin, room, written}
 use Rattle.meaning.specs.Values.{Slot, held, anyBeyond, slotsTold, spareBy, bodyWords, trailWords}
-use Rattle.laws.specs.Bytes.{apart}
 use Rattle.writer_words.specs.Tellings.{startAt}
 use Rattle.writer_items.specs.Tries.{unfit, good}
 use Rattle.writer_parts.specs.Parts.{tryItems, slotsFrom}
 use Rattle.writer_parts.specs.Turns.{good-parts, no-state}
-use Rattle.writer_record.specs.Measures.{valueMeant, measured}
-use Rattle.writer_record.specs.Measuring.{bad-body, bad-tail, measured-yes, measured-no, tried-most}
+use Rattle.writer_record.specs.Measures.{valueMeant, measured, sizeMeant, bytesMeant}
+use Rattle.writer_record.specs.Measuring.{bad-body, bad-tail, measured-yes, measured-no}
 use Rattle.writer_record.specs.Records.{Sized, sized, all-put}
 use Rattle.writer_record.specs.Spare.{zerosFrom, zero-turn}
+use Rattle.writer.specs.Known.{passes}
+use Rattle.writer.specs.Answers.{Known, known-41, known-42, known-40, known-0}
 use Rattle.write_fits.specs.declared.Walked.{Walked}
 use Rattle.write_fits.specs.Steps.{walked, stateOf, tryFrom, writeFrom, Tried}
 use Rattle.write_puts.specs.Puts.{Ready, Placed, all-placed}
@@ -110,10 +112,6 @@ pub measured-some : (b : Bool) (n m : ℕ) → m ≡ cond b 0 n → (m ≡ 0 →
 measured-some true n m e z = absurd (z e)
 measured-some false n m e z = (refl, e)
 
-pub measured-none : (b : Bool) (n : ℕ) → 0 ≡ cond b 0 n → b ≡ false → n ≡ 0
-measured-none true n e h = absurd (apart (sym h))
-measured-none false n e h = sym e
-
 -- ---- a chain that puts
 
 ready-all : {is : List Item} {src ws : List ℕ} {w : ℕ} {c : Walked} {b : List ℕ} → tryFrom src ws is w c .why ≡ 0 → tryFrom src ws is w c .at ≤ length b → Ready is src ws w c b
@@ -189,3 +187,30 @@ zero-next ws from to k ok v h l e =
     go : (a b c : Bool) → (a && b) && c ≡ a && (b && c)
     go true b c = refl
     go false b c = refl
+
+-- ---- the answers
+
+module _ (src ws buffer : List ℕ) (a : Attributes) (kind misc : ℕ) (end : ℕ) (e : end ≡ cond (passes src ws a kind misc) 0 (sizeMeant src ws a kind misc)) where
+  -- nothing was measured
+  pub known-refused : (r : ℕ) → r ≡ cond (passes src ws a kind misc) 41 42 → end ≡ 0 → Known src ws buffer a kind misc r buffer
+  known-refused r eᵣ z = go (passes src ws a kind misc) refl
+    where
+      go : (b : Bool) → passes src ws a kind misc ≡ b → Known src ws buffer a kind misc r buffer
+      go true h =
+          subst (λ (x : ℕ). Known src ws buffer a kind misc x buffer) (sym (eᵣ ∙ ap (λ (b : Bool). cond b 41 42) h)) (known-41 src ws buffer a kind misc true h refl)
+      go false h =
+          subst (λ (x : ℕ). Known src ws buffer a kind misc x buffer) (sym (eᵣ ∙ ap (λ (b : Bool). cond b 41 42) h))
+          (known-42 src ws buffer a kind misc false h refl end (e ∙ ap (λ (b : Bool). cond b 0 (sizeMeant src ws a kind misc)) h) z)
+
+  module _ (n : end ≡ 0 → ⊥) where
+    pub measured-inside : passes src ws a kind misc ≡ false
+    measured-inside = measured-some (passes src ws a kind misc) (sizeMeant src ws a kind misc) end e n .0
+
+    pub measured-size : end ≡ sizeMeant src ws a kind misc
+    measured-size = measured-some (passes src ws a kind misc) (sizeMeant src ws a kind misc) end e n .1
+
+    pub known-small : length buffer < end → Known src ws buffer a kind misc 40 buffer
+    known-small h = known-40 src ws buffer a kind misc false measured-inside refl end measured-size n h
+
+    pub known-written : end ≤ length buffer → (b : List ℕ) → b ≡ put buffer 0 (bytesMeant src ws a kind misc) → Known src ws buffer a kind misc 0 b
+    known-written h b q = known-0 src ws buffer a kind misc false measured-inside refl end measured-size n h b q
