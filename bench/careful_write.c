@@ -30,21 +30,22 @@ struct given {
 
 /* ---- the size ---- */
 
+/* wrong: what must be 0, one over the other. */
 struct sum {
-    uint64_t at;
+    uint64_t at, wrong;
     bool beyond, unfit;
 };
 
 static inline void fit(const struct given *g, struct sum *s, unsigned word, unsigned bytes)
 {
     if (bytes < 8)
-        s->unfit |= g->w[word] >> 8 * bytes != 0;
+        s->wrong |= g->w[word] >> 8 * bytes;
     s->at += bytes;
 }
 
 static inline void none(const struct given *g, struct sum *s, unsigned word)
 {
-    s->unfit |= g->w[word] != 0;
+    s->wrong |= g->w[word];
 }
 
 static inline void fit_if(const struct given *g, struct sum *s, bool on, unsigned word, unsigned bytes)
@@ -109,7 +110,7 @@ static inline void fit_registers(const struct given *g, struct sum *s, unsigned 
         return;
     }
     fit(g, s, word, 8);
-    s->unfit |= g->w[word + 2] != (g->w[word] == 0 ? 0 : (uint64_t)__builtin_popcountll(mask));
+    s->wrong |= g->w[word + 2] ^ (g->w[word] == 0 ? 0 : (uint64_t)__builtin_popcountll(mask));
     fit_list(g, s, word + 1, g->w[word + 2], 8);
 }
 
@@ -121,7 +122,7 @@ static inline void fit_sized(const struct given *g, struct sum *s, unsigned word
         return;
     }
     fit(g, s, word, bytes);
-    s->unfit |= (g->w[word] + bytes) % 8 != 0;
+    s->wrong |= (g->w[word] + bytes) % 8;
     fit_list(g, s, word + 1, g->w[word], 1);
 }
 
@@ -253,7 +254,7 @@ static unsigned fit_fields(const struct given *g, struct sum *s, uint64_t type, 
         return 10;
     case 18:
         fit(g, s, 3, 2), fit(g, s, 4, 2), fit(g, s, 5, 4);
-        s->unfit |= g->w[7] != 8;
+        s->wrong |= g->w[7] ^ 8;
         fit_list(g, s, 6, g->w[7], 1);
         return 8;
     case 19:
@@ -383,13 +384,6 @@ static void put_trailer(const struct given *g, uint8_t *at, uint64_t x)
     put(g, at, has(x, 16), 54, 8);
 }
 
-static inline uint8_t *put_row(const struct given *g, uint8_t *at, unsigned word, const char *widths)
-{
-    for (; *widths != 0; widths++, word++)
-        at = put(g, at, true, word, (unsigned)(*widths - '0'));
-    return at;
-}
-
 static uint8_t *put_mmap2(const struct given *g, uint8_t *at, bool build, const uint8_t *start)
 {
     at = put(g, at, true, 3, 4), at = put(g, at, true, 4, 4);
@@ -411,40 +405,53 @@ static uint8_t *put_fields(const struct given *g, uint8_t *at, uint64_t type, ui
 {
     switch (type) {
     case 1:
-        return put_name(g, put_row(g, at, 3, "44888"), 8, start);
+        at = put(g, at, true, 3, 4), at = put(g, at, true, 4, 4), at = put(g, at, true, 5, 8), at = put(g, at, true, 6, 8), at = put(g, at, true, 7, 8);
+        return put_name(g, at, 8, start);
     case 2:
-        return put_row(g, at, 3, "88");
+        at = put(g, at, true, 3, 8), at = put(g, at, true, 4, 8);
+        return at;
     case 3:
-        return put_name(g, put_row(g, at, 3, "44"), 5, start);
+        at = put(g, at, true, 3, 4), at = put(g, at, true, 4, 4);
+        return put_name(g, at, 5, start);
     case 4:
     case 7:
-        return put_row(g, at, 3, "44448");
+        at = put(g, at, true, 3, 4), at = put(g, at, true, 4, 4), at = put(g, at, true, 5, 4), at = put(g, at, true, 6, 4), at = put(g, at, true, 7, 8);
+        return at;
     case 5:
     case 6:
     case 11:
-        return put_row(g, at, 3, "888");
+        at = put(g, at, true, 3, 8), at = put(g, at, true, 4, 8), at = put(g, at, true, 5, 8);
+        return at;
     case 8:
-        return put_values(g, put_row(g, at, 3, "44"), 5);
+        at = put(g, at, true, 3, 4), at = put(g, at, true, 4, 4);
+        return put_values(g, at, 5);
     case 9:
         return put_sample(g, at);
     case 10:
         return put_mmap2(g, at, has(misc, 14), start);
     case 12:
     case 15:
-        return put_row(g, at, 3, "44");
+        at = put(g, at, true, 3, 4), at = put(g, at, true, 4, 4);
+        return at;
     case 13:
     case 21:
-        return put_row(g, at, 3, "8");
+        at = put(g, at, true, 3, 8);
+        return at;
     case 16:
-        return put_list(g, put_row(g, at, 3, "448"), 6, g->w[5] * 16);
+        at = put(g, at, true, 3, 4), at = put(g, at, true, 4, 4), at = put(g, at, true, 5, 8);
+        return put_list(g, at, 6, g->w[5] * 16);
     case 17:
-        return put_name(g, put_row(g, at, 3, "8422"), 7, start);
+        at = put(g, at, true, 3, 8), at = put(g, at, true, 4, 4), at = put(g, at, true, 5, 2), at = put(g, at, true, 6, 2);
+        return put_name(g, at, 7, start);
     case 18:
-        return put_list(g, put_row(g, at, 3, "224"), 6, 8);
+        at = put(g, at, true, 3, 2), at = put(g, at, true, 4, 2), at = put(g, at, true, 5, 4);
+        return put_list(g, at, 6, 8);
     case 19:
-        return put_name(g, put_row(g, at, 3, "8"), 4, start);
+        at = put(g, at, true, 3, 8);
+        return put_name(g, at, 4, start);
     case 20:
-        at = put_list(g, put_row(g, at, 3, "822"), 6, g->w[4]);
+        at = put(g, at, true, 3, 8), at = put(g, at, true, 4, 2), at = put(g, at, true, 5, 2);
+        at = put_list(g, at, 6, g->w[4]);
         at = put_list(g, at, 7, g->w[5]);
         return put_zeros(at, (8 - (uint64_t)(at - start) % 8) % 8);
     }
@@ -503,13 +510,17 @@ uint32_t careful_write(const uint64_t *fields, size_t fields_len, const uint8_t 
     if (flagged(fields))
         return 43;
     struct given g = { fields, source, source_len, sample_type, read_format, user_mask, interrupt_mask, branch_sample_type };
-    struct sum s = { 8, false, false };
+    struct sum s = { 8, 0, false, false };
     unsigned own = fit_fields(&g, &s, type, misc);
     if (s.beyond)
         return 41;
     uint64_t trailer = sample_id_all != 0 && type != 9 ? sample_type : 0;
-    fit_trailer(&g, &s, trailer);
-    uint64_t spare = fields[FREE_WORD];
+    if (trailer != 0)
+        fit_trailer(&g, &s, trailer);
+    else
+        for (unsigned k = TRAILER_AT; k < FREE_WORD; k++)
+            s.wrong |= fields[k];
+    uint64_t spare = s.wrong | fields[FREE_WORD];
     for (unsigned k = own; k < TRAILER_AT; k++)
         spare |= fields[k];
     if (s.unfit || spare != 0 || misc > 65535 || size != s.at || size > MOST || size % 8 != 0)
@@ -520,6 +531,8 @@ uint32_t careful_write(const uint64_t *fields, size_t fields_len, const uint8_t 
     uint16_t two[2] = { (uint16_t)misc, (uint16_t)size };
     memcpy(buffer, &kind, 4);
     memcpy(buffer + 4, two, 4);
-    put_trailer(&g, put_fields(&g, buffer + 8, type, misc, buffer), trailer);
+    uint8_t *end = put_fields(&g, buffer + 8, type, misc, buffer);
+    if (trailer != 0)
+        put_trailer(&g, end, trailer);
     return 0;
 }

@@ -64,7 +64,7 @@ class Chains:
                 else 'Rattle.write_fits.specs.Steps.{tried-none, tried-next}\nuse Rattle.fit_chains.specs.Types.{tried-then}')
         self.files[f'proofs/{fn}/Proof.antt'] = f'''-- `{self.crate}::{fn}` meets its contract. Assumes nothing.
 {MADE}.
-use mathlib.Core.Path.{{refl, ap, ap₂}}
+use mathlib.Core.Path.{{refl, ap, ap₂{', _∙_' if self.puts else ''}}}
 use mathlib.Core.Bool.{{not, _&&_, _||_}}
 use mathlib.Core.List.{{_++_}}
 use native.Mathlib.Omega.{{arith}}
@@ -114,7 +114,8 @@ pub {name}-spec : {{M : Type 1}} → statement M
     def ended(self, steps, ev, single):
         t = self.done(steps, ev, single)
         u = 'unfolding tell width\n'
-        same = f'\nsame-length : tie.Need-same-length\n{u}same-length c = {t} .long\n' if self.puts else ''
+        long = ' ∙ '.join(f'{ev.at(where)} .ensures .long' for _, where in reversed(steps))
+        same = f'\nsame-length : tie.Need-same-length\nsame-length c = {long}\n' if self.puts else ''
         return same + f'\nreturns : tie.Need-returns\n{u}returns c = {t}\n'
 
     def chain(self, fn, title, rs):

@@ -20,7 +20,7 @@ use Rattle.writer_parts.specs.Turns.{good-parts, no-state}
 use Rattle.writer_record.specs.Measures.{valueMeant, measured, sizeMeant, bytesMeant}
 use Rattle.writer_record.specs.Measuring.{bad-body, bad-tail, measured-yes, measured-no}
 use Rattle.writer_record.specs.Records.{Sized, sized, all-put}
-use Rattle.writer_record.specs.Spare.{zerosFrom, zero-turn}
+use Rattle.writer_record.specs.Spare.{zerosFrom, zero-turn, zero-end}
 use Rattle.writer.specs.Known.{passes}
 use Rattle.writer.specs.Answers.{Known, known-41, known-42, known-40, known-0}
 use Rattle.write_fits.specs.declared.Walked.{Walked}
@@ -179,14 +179,20 @@ module _ (is ts : List Item) (src ws : List ℕ) (plain : fixed ts ≡ true) (in
 abbrev pub zeroSoFar : List ℕ → ℕ → ℕ → ℕ → Bool → Type 0
 zeroSoFar ws from to k ok = ok && zerosFrom ws to k ≡ zerosFrom ws to from
 
-pub zero-next : (ws : List ℕ) (from to k : ℕ) (ok : Bool) (v : ℕ) → zeroSoFar ws from to k ok → k < to → v ≡ getD ws k 0 → zeroSoFar ws from to (k + 1) (ok && eqb v 0)
-zero-next ws from to k ok v h l e =
-    go ok (eqb v 0) (zerosFrom ws to (k + 1))
-    ∙ ap (λ (b : Bool). ok && b) (ap (λ (n : ℕ). eqb n 0 && zerosFrom ws to (k + 1)) e ∙ sym (zero-turn ws to k l)) ∙ h
+pub zero-next : (ws : List ℕ) (from to k : ℕ) (ok r : Bool) → zeroSoFar ws from to k ok → k < to → r ≡ eqb (getD ws k 0) 0 → zeroSoFar ws from to (k + 1) (ok && r)
+zero-next ws from to k ok r h l e =
+    go ok r (zerosFrom ws to (k + 1)) ∙ ap (λ (b : Bool). ok && b) (ap (λ (b : Bool). b && zerosFrom ws to (k + 1)) e ∙ sym (zero-turn ws to k l)) ∙ h
   where
     go : (a b c : Bool) → (a && b) && c ≡ a && (b && c)
     go true b c = refl
     go false b c = refl
+
+pub zero-all : (ws : List ℕ) (from to k : ℕ) (ok : Bool) → zeroSoFar ws from to k ok → to ≤ k → ok ≡ zerosFrom ws to from
+zero-all ws from to k ok h l = go ok ∙ ap (λ (b : Bool). ok && b) (zero-end ws k to k refl l) ∙ h
+  where
+    go : (b : Bool) → b ≡ b && true
+    go true = refl
+    go false = refl
 
 -- ---- the answers
 

@@ -5,6 +5,7 @@ ghost use mathlib.Core.Path.{_≡_};
 ghost use mathlib.Core.Bool.{true, false, cond};
 ghost use Prim.Native.Nat.{_≤_, _<_};
 ghost use lib.ListN.{length, take, drop, getD};
+ghost use lib.Dec.{eqb};
 ghost use Rattle.meaning.specs.Bytes.{allZero, put};
 ghost use Rattle.meaning.specs.Editions.{editions, allowed};
 ghost use Rattle.meaning.specs.Schema.{schema, trailer};
@@ -17,7 +18,7 @@ use meaning::Attributes;
 use write_fits::Walked;
 
 // Before the first item of a part: nothing is remembered.
-fn start(at: usize) -> Walked
+fn begin_at(at: usize) -> Walked
     ensures { λ r. ⌜ r ≡ walked at 0 0 0 0 false ⌝ }
 {
     Walked {
@@ -30,6 +31,13 @@ fn start(at: usize) -> Walked
     }
 }
 
+fn zero_word(ws: &[u64], k: usize) -> bool
+    requires { ⌜ k < length (now ws) ⌝ }
+    ensures { λ r. ⌜ r ≡ eqb (getD (now (ws .entry)) k 0) 0 ⌝ }
+{
+    ws[k] == 0
+}
+
 // Every word is looked at, whatever the others are: the compiler takes several at once.
 fn all_zero(ws: &[u64], from: usize, to: usize) -> bool
     requires { ⌜ to ≤ length (now ws) ⌝ }
@@ -38,7 +46,7 @@ fn all_zero(ws: &[u64], from: usize, to: usize) -> bool
     let mut zero = true;
     let mut k = from;
     while k < to {
-        zero = zero & (ws[k] == 0);
+        zero = zero & zero_word(ws, k);
         k += 1;
     }
     zero
@@ -59,12 +67,12 @@ fn measure(ws: &[u64], source: &[u8], a: Attributes, kind: u64, misc: u64) -> us
     requires { ⌜ (kind ≡ getD (now ws) 0 0) × (misc ≡ getD (now ws) 1 0) × (56 ≤ length (now ws)) ⌝ }
     ensures { λ r. ⌜ r ≡ cond (passes (now (source .entry)) (now (ws .entry)) a kind misc) 0 (sizeMeant (now (source .entry)) (now (ws .entry)) a kind misc) ⌝ }
 {
-    let c = fit_chains::fields(ws, source, kind, misc, a, start(8));
+    let c = fit_chains::fields(ws, source, kind, misc, a, begin_at(8));
     let bad = c.bad;
     if bad {
         return 0;
     }
-    let d = fit_chains::trail(ws, source, kind, a, start(c.at));
+    let d = fit_chains::trail(ws, source, kind, a, begin_at(c.at));
     let bad = d.bad;
     if bad {
         return 0;
@@ -94,8 +102,8 @@ fn put_record(
     ensures { λ _. ⌜ now (buffer .exit) ≡ put (now (buffer .entry)) 0 (bytesMeant (now (source .entry)) (now (ws .entry)) a kind misc) ⌝ }
 {
     write_puts::header(kind, misc, ws[2], buffer);
-    let d = put_chains::fields(ws, source, kind, misc, a, start(8), buffer);
-    put_chains::trail(ws, source, kind, a, start(d.at), buffer);
+    let d = put_chains::fields(ws, source, kind, misc, a, begin_at(8), buffer);
+    put_chains::trail(ws, source, kind, a, begin_at(d.at), buffer);
 }
 
 // Nothing was measured: 41 or 42, as the plain walk says.
@@ -156,8 +164,8 @@ fn write_value(ws: &[u64], source: &[u8], e: u64, a: Attributes, buffer: &mut [u
     ensures { λ r. ⌜ r ≡ writeAnswer editions e a (now (source .entry)) (now (ws .entry)) (length (now (buffer .entry))) ⌝ }
     ensures { λ _. ⌜ now (buffer .exit) ≡ writeBuffer editions e a (now (source .entry)) (now (ws .entry)) (now (buffer .entry)) ⌝ }
 {
-    let kind = ws[0];
-    let misc = ws[1];
+    let kind = writer_words::word(ws, 0);
+    let misc = writer_words::word(ws, 1);
     let why = record::unreadable(record::edition(e), a, kind, misc);
     if why != 0 {
         return why;

@@ -1,6 +1,6 @@
 -- `put_chains::comm` meets its contract. Assumes nothing.
 -- Written by tools/write_chains.py from the rows of crate table.
-use mathlib.Core.Path.{refl, ap, ap₂}
+use mathlib.Core.Path.{refl, ap, ap₂, _∙_}
 use mathlib.Core.Bool.{not, _&&_, _||_}
 use mathlib.Core.List.{_++_}
 use native.Mathlib.Omega.{arith}
@@ -25,8 +25,7 @@ unfolding tell
 name-requires c κs = (head₁ refl (next₁ refl (next₁ refl (c .before .before .before .before .before .before .before .before .before .before .before .before .pre .0) (c .before .before .before .before .before .before .before .number .ensures)) (c .before .before .before .number2 .ensures)), omega (arith, c .before .before .before .before .before .before .before .before .before .before .before .before .pre .1))
 
 same-length : tie.Need-same-length
-unfolding tell width
-same-length c = (placed₁ refl (placed₁ refl (placed₁ refl placed-none (c .before .before .before .before .before .before .before .before .before .before .number .ensures)) (c .before .before .before .before .before .before .number2 .ensures)) (c .before .before .name .ensures)) .long
+same-length c = c .before .before .name .ensures .long ∙ c .before .before .before .before .before .before .number2 .ensures .long ∙ c .before .before .before .before .before .before .before .before .before .before .number .ensures .long
 
 returns : tie.Need-returns
 unfolding tell width

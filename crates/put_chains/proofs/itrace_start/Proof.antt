@@ -1,6 +1,6 @@
 -- `put_chains::itrace_start` meets its contract. Assumes nothing.
 -- Written by tools/write_chains.py from the rows of crate table.
-use mathlib.Core.Path.{refl, ap, ap₂}
+use mathlib.Core.Path.{refl, ap, ap₂, _∙_}
 use mathlib.Core.Bool.{not, _&&_, _||_}
 use mathlib.Core.List.{_++_}
 use native.Mathlib.Omega.{arith}
@@ -21,8 +21,7 @@ unfolding tell
 number-requires-2 c κs = (head₁ refl (next₁ refl (c .before .before .before .before .before .before .before .before .pre .0) (c .before .before .before .number .ensures)), omega (arith, c .before .before .before .before .before .before .before .before .pre .1))
 
 same-length : tie.Need-same-length
-unfolding tell width
-same-length c = (placed₁ refl (placed₁ refl placed-none (c .before .before .before .before .before .before .number .ensures)) (c .before .before .number2 .ensures)) .long
+same-length c = c .before .before .number2 .ensures .long ∙ c .before .before .before .before .before .before .number .ensures .long
 
 returns : tie.Need-returns
 unfolding tell width

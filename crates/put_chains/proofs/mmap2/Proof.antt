@@ -1,6 +1,6 @@
 -- `put_chains::mmap2` meets its contract. Assumes nothing.
 -- Written by tools/write_chains.py from the rows of crate table.
-use mathlib.Core.Path.{refl, ap, ap₂}
+use mathlib.Core.Path.{refl, ap, ap₂, _∙_}
 use mathlib.Core.Bool.{not, _&&_, _||_}
 use mathlib.Core.List.{_++_}
 use native.Mathlib.Omega.{arith}
@@ -25,8 +25,7 @@ unfolding tell width
 mmap2-3-requires c κs = ((ready-after (lists.mmap2-2 (c .before .before .before .before .before .before .before .before .before .before .before .before .args .misc)) ((lists.mmap2-3 (c .before .before .before .before .before .before .before .before .before .before .before .before .args .misc))) (c .before .before .before .mmap2-2 .ensures) (ready-after lists.mmap2-1 ((lists.mmap2-2 (c .before .before .before .before .before .before .before .before .before .before .before .before .args .misc)) ++ ((lists.mmap2-3 (c .before .before .before .before .before .before .before .before .before .before .before .before .args .misc)))) (c .before .before .before .before .before .before .before .mmap2-1 .ensures) (c .before .before .before .before .before .before .before .before .before .before .before .before .pre .0))), c .before .before .before .before .before .before .before .before .before .before .before .before .pre .1)
 
 same-length : tie.Need-same-length
-unfolding tell width
-same-length c = (placed-then (placed-then (placed-then placed-none (c .before .before .before .before .before .before .before .before .before .before .mmap2-1 .ensures)) (c .before .before .before .before .before .before .mmap2-2 .ensures)) (c .before .before .mmap2-3 .ensures)) .long
+same-length c = c .before .before .mmap2-3 .ensures .long ∙ c .before .before .before .before .before .before .mmap2-2 .ensures .long ∙ c .before .before .before .before .before .before .before .before .before .before .mmap2-1 .ensures .long
 
 returns : tie.Need-returns
 unfolding tell width

@@ -1,6 +1,6 @@
 -- `put_chains::read` meets its contract. Assumes nothing.
 -- Written by tools/write_chains.py from the rows of crate table.
-use mathlib.Core.Path.{refl, ap, ap₂}
+use mathlib.Core.Path.{refl, ap, ap₂, _∙_}
 use mathlib.Core.Bool.{not, _&&_, _||_}
 use mathlib.Core.List.{_++_}
 use native.Mathlib.Omega.{arith}
@@ -21,8 +21,7 @@ unfolding tell width
 read-2-requires c κs = ((ready-after (lists.read-1 (c .before .before .before .before .before .before .before .before .args .f)) ((lists.read-2 (c .before .before .before .before .before .before .before .before .args .f))) (c .before .before .before .read-1 .ensures) (c .before .before .before .before .before .before .before .before .pre .0)), c .before .before .before .before .before .before .before .before .pre .1)
 
 same-length : tie.Need-same-length
-unfolding tell width
-same-length c = (placed-then (placed-then placed-none (c .before .before .before .before .before .before .read-1 .ensures)) (c .before .before .read-2 .ensures)) .long
+same-length c = c .before .before .read-2 .ensures .long ∙ c .before .before .before .before .before .before .read-1 .ensures .long
 
 returns : tie.Need-returns
 unfolding tell width

@@ -1,6 +1,6 @@
 -- `put_chains::sample_6` meets its contract. Assumes nothing.
 -- Written by tools/write_chains.py from the rows of crate table.
-use mathlib.Core.Path.{refl, ap, ap₂}
+use mathlib.Core.Path.{refl, ap, ap₂, _∙_}
 use mathlib.Core.Bool.{not, _&&_, _||_}
 use mathlib.Core.List.{_++_}
 use native.Mathlib.Omega.{arith}
@@ -37,8 +37,7 @@ unfolding tell
 number-requires-4 c κs = (head₁ (c .before .has-bit7 .ensures) (next₁ (c .before .before .before .before .before .before .has-bit6 .ensures) (next₁ (c .before .before .before .before .before .before .before .before .before .before .before .has-bit5 .ensures) (next₁ (c .before .before .before .before .before .before .before .before .before .before .before .before .before .before .before .before .has-bit4 .ensures) (next₁ (c .before .before .before .before .before .before .before .before .before .before .before .before .before .before .before .before .before .before .before .before .before .has-bit3 .ensures) (next₁ (ap₂ _||_ (c .before .before .before .before .before .before .before .before .before .before .before .before .before .before .before .before .before .before .before .before .before .before .before .before .before .before .before .has-bit .ensures) (c .before .before .before .before .before .before .before .before .before .before .before .before .before .before .before .before .before .before .before .before .before .before .before .before .before .before .has-bit2 .ensures)) (c .before .before .before .before .before .before .before .before .before .before .before .before .before .before .before .before .before .before .before .before .before .before .before .before .before .before .before .before .before .before .before .pre .0) (c .before .before .before .before .before .before .before .before .before .before .before .before .before .before .before .before .before .before .before .before .before .before .before .before .number .ensures)) (c .before .before .before .before .before .before .before .before .before .before .before .before .before .before .before .before .before .before .before .number2 .ensures)) (c .before .before .before .before .before .before .before .before .before .before .before .before .before .before .number3 .ensures)) (c .before .before .before .before .before .before .before .before .before .abi .ensures)) (c .before .before .before .before .registers .ensures)), omega (arith, c .before .before .before .before .before .before .before .before .before .before .before .before .before .before .before .before .before .before .before .before .before .before .before .before .before .before .before .before .before .before .before .pre .1))
 
 same-length : tie.Need-same-length
-unfolding tell width
-same-length c = (placed₁ (c .before .before .before .before .has-bit7 .ensures) (placed₁ (c .before .before .before .before .before .before .before .before .before .has-bit6 .ensures) (placed₁ (c .before .before .before .before .before .before .before .before .before .before .before .before .before .before .has-bit5 .ensures) (placed₁ (c .before .before .before .before .before .before .before .before .before .before .before .before .before .before .before .before .before .before .before .has-bit4 .ensures) (placed₁ (c .before .before .before .before .before .before .before .before .before .before .before .before .before .before .before .before .before .before .before .before .before .before .before .before .has-bit3 .ensures) (placed₁ (ap₂ _||_ (c .before .before .before .before .before .before .before .before .before .before .before .before .before .before .before .before .before .before .before .before .before .before .before .before .before .before .before .before .before .before .has-bit .ensures) (c .before .before .before .before .before .before .before .before .before .before .before .before .before .before .before .before .before .before .before .before .before .before .before .before .before .before .before .before .before .has-bit2 .ensures)) placed-none (c .before .before .before .before .before .before .before .before .before .before .before .before .before .before .before .before .before .before .before .before .before .before .before .before .before .before .before .number .ensures)) (c .before .before .before .before .before .before .before .before .before .before .before .before .before .before .before .before .before .before .before .before .before .before .number2 .ensures)) (c .before .before .before .before .before .before .before .before .before .before .before .before .before .before .before .before .before .number3 .ensures)) (c .before .before .before .before .before .before .before .before .before .before .before .before .abi .ensures)) (c .before .before .before .before .before .before .before .registers .ensures)) (c .before .before .number4 .ensures)) .long
+same-length c = c .before .before .number4 .ensures .long ∙ c .before .before .before .before .before .before .before .registers .ensures .long ∙ c .before .before .before .before .before .before .before .before .before .before .before .before .abi .ensures .long ∙ c .before .before .before .before .before .before .before .before .before .before .before .before .before .before .before .before .before .number3 .ensures .long ∙ c .before .before .before .before .before .before .before .before .before .before .before .before .before .before .before .before .before .before .before .before .before .before .number2 .ensures .long ∙ c .before .before .before .before .before .before .before .before .before .before .before .before .before .before .before .before .before .before .before .before .before .before .before .before .before .before .before .number .ensures .long
 
 returns : tie.Need-returns
 unfolding tell width

@@ -1,6 +1,6 @@
 -- `put_chains::trailer` meets its contract. Assumes nothing.
 -- Written by tools/write_chains.py from the rows of crate table.
-use mathlib.Core.Path.{refl, ap, ap₂}
+use mathlib.Core.Path.{refl, ap, ap₂, _∙_}
 use mathlib.Core.Bool.{not, _&&_, _||_}
 use mathlib.Core.List.{_++_}
 use native.Mathlib.Omega.{arith}
@@ -21,8 +21,7 @@ unfolding tell width
 trailer-2-requires c κs = ((ready-after (lists.trailer-1 (c .before .before .before .before .before .before .before .before .args .x)) ((lists.trailer-2 (c .before .before .before .before .before .before .before .before .args .x))) (c .before .before .before .trailer-1 .ensures) (c .before .before .before .before .before .before .before .before .pre .0)), c .before .before .before .before .before .before .before .before .pre .1)
 
 same-length : tie.Need-same-length
-unfolding tell width
-same-length c = (placed-then (placed-then placed-none (c .before .before .before .before .before .before .trailer-1 .ensures)) (c .before .before .trailer-2 .ensures)) .long
+same-length c = c .before .before .trailer-2 .ensures .long ∙ c .before .before .before .before .before .before .trailer-1 .ensures .long
 
 returns : tie.Need-returns
 unfolding tell width
