@@ -34,4 +34,4 @@ returns-4 c =
     size-no (schema (c .before .before .before .before .before .before .before .before .before .before .before .args .kind) (c .before .before .before .before .before .before .before .before .before .before .before .args .misc) (c .before .before .before .before .before .before .before .before .before .before .before .args .a)) (trailer (c .before .before .before .before .before .before .before .before .before .before .before .args .kind) (c .before .before .before .before .before .before .before .before .before .before .before .args .a)) (now (c .before .before .before .before .before .before .before .before .before .before .before .args .source)) (now (c .before .before .before .before .before .before .before .before .before .before .before .args .ws)) (trailer-fixed (c .before .before .before .before .before .before .before .before .before .before .before .args .kind) (c .before .before .before .before .before .before .before .before .before .before .before .args .a)) (c .before .before .before .before .before .before .before .before .begin-at .ensures) (c .before .before .before .before .before .before .before .fields .ensures) (c .before .before .before .before .before .before .if1 .left) (c .before .before .before .before .before .begin-at2 .ensures) (c .before .before .before .before .trail .ensures) (c .before .before .before .if2 .left) (a .kind) (a .misc) (getD (now (a .ws)) 2 0) (c .before .spare-zero .result) (c .before .before .before .before .before .before .before .before .before .before .before .pre .0) (c .before .before .before .before .before .before .before .before .before .before .before .pre .1) refl (c .before .spare-zero .ensures) (c .if3 .left)
 
 pub measure-spec : {M : Type 1} → statement M
-measure-spec = tie.close (tie.spec (λ c κs. search needs) fields-requires returns (λ c κs. search needs) trail-requires returns-2 (λ c. search needs) (λ c. search needs) (λ c κs. search needs) returns-3 returns-4)
+measure-spec = tie.close (tie.spec (λ c κs. search needs) fields-requires returns (λ c κs. search needs) trail-requires returns-2 (λ c. search needs) (λ c κs. search needs) returns-3 returns-4)

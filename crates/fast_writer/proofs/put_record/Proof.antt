@@ -29,4 +29,4 @@ returns : tie.Need-returns
 returns c = record-put (schema (c .before .before .before .before .before .before .before .before .before .before .before .before .before .before .before .before .before .before .args .kind) (c .before .before .before .before .before .before .before .before .before .before .before .before .before .before .before .before .before .before .args .misc) (c .before .before .before .before .before .before .before .before .before .before .before .before .before .before .before .before .before .before .args .a)) (trailer (c .before .before .before .before .before .before .before .before .before .before .before .before .before .before .before .before .before .before .args .kind) (c .before .before .before .before .before .before .before .before .before .before .before .before .before .before .before .before .before .before .args .a)) (now (c .before .before .before .before .before .before .before .before .before .before .before .before .before .before .before .before .before .before .args .source)) (now (c .before .before .before .before .before .before .before .before .before .before .before .before .before .before .before .before .before .before .args .ws)) (trailer-fixed (c .before .before .before .before .before .before .before .before .before .before .before .before .before .before .before .before .before .before .args .kind) (c .before .before .before .before .before .before .before .before .before .before .before .before .before .before .before .before .before .before .args .a)) (c .before .before .before .before .before .before .before .before .before .before .before .before .before .before .before .before .before .before .pre .3 .2) (c .before .before .before .before .before .before .before .before .before .before .before .before .before .before .before .before .before .before .args .end) (c .before .before .before .before .before .before .before .before .before .before .before .before .before .before .before .before .before .before .pre .0) (c .before .before .before .before .before .before .before .before .before .before .before .before .before .before .before .before .before .before .pre .1) (now (c .before .before .before .before .before .before .before .before .before .before .before .before .before .before .before .before .before .before .args .buffer)) (c .before .before .before .before .before .before .before .before .before .before .before .before .before .before .before .before .before .before .pre .2) (c .before .before .before .before .before .before .before .before .before .begin-at .ensures) (c .before .before .before .before .before .before .before .before .before .before .before .before .header .ensures ∙ ap₂ (λ (x y : ℕ). put (now (c .before .before .before .before .before .before .before .before .before .before .before .before .before .before .before .before .before .before .args .buffer)) 0 (spell 4 x ++ (spell 2 y ++ spell 2 (getD (now (c .before .before .before .before .before .before .before .before .before .before .before .before .before .before .before .before .before .before .args .ws)) 2 0)))) (c .before .before .before .before .before .before .before .before .before .before .before .before .before .before .before .before .before .before .pre .3 .0) (c .before .before .before .before .before .before .before .before .before .before .before .before .before .before .before .before .before .before .pre .3 .1)) (ap length (c .before .before .before .before .before .before .before .before .before .before .before .before .header .ensures) ∙ length-put (now (c .before .before .before .before .before .before .before .before .before .before .before .before .before .before .before .before .before .before .args .buffer)) 0 (spell 4 (c .before .before .before .before .before .before .before .before .before .before .before .before .before .before .before .before .before .before .args .kind) ++ (spell 2 (c .before .before .before .before .before .before .before .before .before .before .before .before .before .before .before .before .before .before .args .misc) ++ spell 2 (getD (now (c .before .before .before .before .before .before .before .before .before .before .before .before .before .before .before .before .before .before .args .ws)) 2 0)))) (c .before .before .before .before .before .before .before .fields .ensures) (c .before .before .before .before .begin-at2 .ensures) (c .before .before .trail .ensures)
 
 pub put-record-spec : {M : Type 1} → statement M
-put-record-spec = tie.close (tie.spec (λ c. search needs) (λ c. search needs) header-requires (λ c κs. search needs) fields-requires (λ c κs. search needs) trail-requires same-length returns)
+put-record-spec = tie.close (tie.spec (λ c. search needs) header-requires (λ c κs. search needs) fields-requires (λ c κs. search needs) trail-requires same-length returns)
