@@ -135,6 +135,8 @@ pub {name}-spec : {{M : Type 1}} → statement M
             shape, more = shape_fn(r)
             given = ['ws', 'source', last, on, str(r.word)] + (['buffer'] if self.puts else []) + ([more] if more else [])
             call = f'{self.calls}::{shape}({", ".join(given)})'
+            if len(', '.join(given)) > 60:  # as `rt fmt` breaks it
+                call = f'{self.calls}::{shape}(\n' + ''.join(f'        {g},\n' for g in given) + '    )'
             tail = n == len(rs) - 1
             out.append(f'    {call} // {r.comment}' if tail else f'    let c{n} = {call}; // {r.comment}')
             last = f'c{n}'

@@ -244,10 +244,42 @@ fn mmap2_2(ws: &[u64], source: &[u8], misc: u64, c: Walked, buffer: &mut [u8]) -
     requires { ⌜ Ready (mmap2-2 misc) (now source) (now ws) 8 c (now buffer) × (56 ≤ length (now ws)) ⌝ }
     ensures { λ r. ⌜ Placed (mmap2-2 misc) (now (source .entry)) (now (ws .entry)) 8 c (now (buffer .entry)) (now (buffer .exit)) r ⌝ }
 {
-    let c0 = write_puts::number(ws, source, c, !wire::has_bit(misc, 14), 8, buffer, Width::W4); // maj
-    let c1 = write_puts::number(ws, source, c0, !wire::has_bit(misc, 14), 9, buffer, Width::W4); // min
-    let c2 = write_puts::number(ws, source, c1, !wire::has_bit(misc, 14), 10, buffer, Width::W8); // ino
-    let c3 = write_puts::number(ws, source, c2, !wire::has_bit(misc, 14), 11, buffer, Width::W8); // generation
+    let c0 = write_puts::number(
+        ws,
+        source,
+        c,
+        !wire::has_bit(misc, 14),
+        8,
+        buffer,
+        Width::W4,
+    ); // maj
+    let c1 = write_puts::number(
+        ws,
+        source,
+        c0,
+        !wire::has_bit(misc, 14),
+        9,
+        buffer,
+        Width::W4,
+    ); // min
+    let c2 = write_puts::number(
+        ws,
+        source,
+        c1,
+        !wire::has_bit(misc, 14),
+        10,
+        buffer,
+        Width::W8,
+    ); // ino
+    let c3 = write_puts::number(
+        ws,
+        source,
+        c2,
+        !wire::has_bit(misc, 14),
+        11,
+        buffer,
+        Width::W8,
+    ); // generation
     write_puts::limit(ws, source, c3, wire::has_bit(misc, 14), 12, buffer) // build id size
 }
 

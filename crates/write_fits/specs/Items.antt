@@ -94,7 +94,7 @@ module _ (i : Item) (src ws : List ℕ) (w : ℕ) (c : Walked) where
         walk-one js
         ∙ ap (λ (b : Bool). cond b (tryItems src js (slotsFrom js (reachedAfter ws (toldTo w c) i) ws) (next i (held src i slotHere) (stateOf c))) unfit) (good-here ∙ h)
         ∙ ap (λ (x : Cursor). tryItems src js (slotsFrom js (reachedAfter ws (toldTo w c) i) ws) x)
-          (next-is i (stateOf c) src slotHere (p .1) (passes-is i (stateOf c) src slotHere ∙ p .0))
+        (next-is i (stateOf c) src slotHere (p .1) (passes-is i (stateOf c) src slotHere ∙ p .0))
 
     pub walk-misfits : fitsHere ≡ false → (js : List Item) → tryFrom src ws (i ∷ js) w c ≡ unfit
     walk-misfits h js =

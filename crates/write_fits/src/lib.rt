@@ -108,7 +108,15 @@ pub fn count(ws: &[u64], source: &[u8], c: Walked, on: bool, w: usize, width: Wi
     if !on {
         return none(c, v);
     }
-    past(c, v <= largest(width), fields::width_of(width), v, c.n, v, c.told)
+    past(
+        c,
+        v <= largest(width),
+        fields::width_of(width),
+        v,
+        c.n,
+        v,
+        c.told,
+    )
 }
 
 // "Raw size plus 4 is a multiple of 8; stack and aux sizes are multiples of 8."
@@ -122,7 +130,15 @@ pub fn size(ws: &[u64], source: &[u8], c: Walked, on: bool, w: usize, width: Wid
     }
     let k = fields::width_of(width);
     let over = (v % 8 + k as u64) % 8;
-    past(c, (v <= largest(width)) & (over == 0), k, v, c.old, v, c.before)
+    past(
+        c,
+        (v <= largest(width)) & (over == 0),
+        k,
+        v,
+        c.old,
+        v,
+        c.before,
+    )
 }
 
 // "Build id size at most 20."
@@ -155,7 +171,15 @@ pub fn abi(ws: &[u64], source: &[u8], c: Walked, on: bool, w: usize, mask: u64) 
     if !on {
         return none(c, v);
     }
-    past(c, v <= largest(Width::W8), 8, registers_by(v, mask), c.old, c.told, c.before)
+    past(
+        c,
+        v <= largest(Width::W8),
+        8,
+        registers_by(v, mask),
+        c.old,
+        c.told,
+        c.before,
+    )
 }
 
 // "Filled length at most stack size"; a stack of size 0 has none.
@@ -200,7 +224,15 @@ pub fn pad(ws: &[u64], source: &[u8], c: Walked, on: bool, w: usize) -> Walked
 
 // Inside the source, as many elements as are wanted, then so many zero bytes. "41 .. by place plus bytes unwrapped": the place is subtracted, so that
 // nothing wraps; and a count that no record has room for is not multiplied.
-fn list(c: Walked, room: usize, place: u64, count: u64, want: u64, unit: usize, pad: usize) -> Walked
+fn list(
+    c: Walked,
+    room: usize,
+    place: u64,
+    count: u64,
+    want: u64,
+    unit: usize,
+    pad: usize,
+) -> Walked
     requires { ⌜ (c .at ≤ 65535) × (1 ≤ unit) × (unit ≤ 4096) × (pad ≤ 4096) ⌝ }
     ensures { λ r. ⌜ r ≡ cond (listOk room place count want unit pad c) (stay (count * unit + pad) c) (refused c) ⌝ }
 {

@@ -85,7 +85,15 @@ fn past(c: Walked, k: usize) -> Walked
     }
 }
 
-pub fn number(ws: &[u64], source: &[u8], c: Walked, on: bool, w: usize, buffer: &mut [u8], width: Width) -> Walked
+pub fn number(
+    ws: &[u64],
+    source: &[u8],
+    c: Walked,
+    on: bool,
+    w: usize,
+    buffer: &mut [u8],
+    width: Width,
+) -> Walked
     requires { ⌜ Ready (item on (Number width) ∷ []) (now source) (now ws) w c (now buffer) × (w + 2 ≤ length (now ws)) ⌝ }
     ensures { λ r. ⌜ Placed (item on (Number width) ∷ []) (now (source .entry)) (now (ws .entry)) w c (now (buffer .entry)) (now (buffer .exit)) r ⌝ }
 {
@@ -98,7 +106,15 @@ pub fn number(ws: &[u64], source: &[u8], c: Walked, on: bool, w: usize, buffer: 
 }
 
 // A count leaves the one before it remembered too.
-pub fn count(ws: &[u64], source: &[u8], c: Walked, on: bool, w: usize, buffer: &mut [u8], width: Width) -> Walked
+pub fn count(
+    ws: &[u64],
+    source: &[u8],
+    c: Walked,
+    on: bool,
+    w: usize,
+    buffer: &mut [u8],
+    width: Width,
+) -> Walked
     requires { ⌜ Ready (item on (Count width) ∷ []) (now source) (now ws) w c (now buffer) × (w + 2 ≤ length (now ws)) ⌝ }
     ensures { λ r. ⌜ Placed (item on (Count width) ∷ []) (now (source .entry)) (now (ws .entry)) w c (now (buffer .entry)) (now (buffer .exit)) r ⌝ }
 {
@@ -119,7 +135,15 @@ pub fn count(ws: &[u64], source: &[u8], c: Walked, on: bool, w: usize, buffer: &
     }
 }
 
-pub fn size(ws: &[u64], source: &[u8], c: Walked, on: bool, w: usize, buffer: &mut [u8], width: Width) -> Walked
+pub fn size(
+    ws: &[u64],
+    source: &[u8],
+    c: Walked,
+    on: bool,
+    w: usize,
+    buffer: &mut [u8],
+    width: Width,
+) -> Walked
     requires { ⌜ Ready (item on (Size width) ∷ []) (now source) (now ws) w c (now buffer) × (w + 2 ≤ length (now ws)) ⌝ }
     ensures { λ r. ⌜ Placed (item on (Size width) ∷ []) (now (source .entry)) (now (ws .entry)) w c (now (buffer .entry)) (now (buffer .exit)) r ⌝ }
 {
@@ -161,7 +185,15 @@ pub fn limit(ws: &[u64], source: &[u8], c: Walked, on: bool, w: usize, buffer: &
     }
 }
 
-pub fn abi(ws: &[u64], source: &[u8], c: Walked, on: bool, w: usize, buffer: &mut [u8], mask: u64) -> Walked
+pub fn abi(
+    ws: &[u64],
+    source: &[u8],
+    c: Walked,
+    on: bool,
+    w: usize,
+    buffer: &mut [u8],
+    mask: u64,
+) -> Walked
     requires { ⌜ Ready (item on (Abi mask) ∷ []) (now source) (now ws) w c (now buffer) × (w + 2 ≤ length (now ws)) ⌝ }
     ensures { λ r. ⌜ Placed (item on (Abi mask) ∷ []) (now (source .entry)) (now (ws .entry)) w c (now (buffer .entry)) (now (buffer .exit)) r ⌝ }
 {
@@ -198,7 +230,15 @@ pub fn filled(ws: &[u64], source: &[u8], c: Walked, on: bool, w: usize, buffer: 
 }
 
 // Written as zero.
-pub fn ignored(ws: &[u64], source: &[u8], c: Walked, on: bool, w: usize, buffer: &mut [u8], k: usize) -> Walked
+pub fn ignored(
+    ws: &[u64],
+    source: &[u8],
+    c: Walked,
+    on: bool,
+    w: usize,
+    buffer: &mut [u8],
+    k: usize,
+) -> Walked
     requires { ⌜ Ready (item on (Ignored k) ∷ []) (now source) (now ws) w c (now buffer) × (w + 2 ≤ length (now ws)) ⌝ }
     ensures { λ r. ⌜ Placed (item on (Ignored k) ∷ []) (now (source .entry)) (now (ws .entry)) w c (now (buffer .entry)) (now (buffer .exit)) r ⌝ }
 {
@@ -233,7 +273,15 @@ fn copy(source: &[u8], place: u64, many: usize, buffer: &mut [u8], at: usize)
     wire::copy_at(&source[from..from + many], buffer, at);
 }
 
-pub fn times(ws: &[u64], source: &[u8], c: Walked, on: bool, w: usize, buffer: &mut [u8], k: usize) -> Walked
+pub fn times(
+    ws: &[u64],
+    source: &[u8],
+    c: Walked,
+    on: bool,
+    w: usize,
+    buffer: &mut [u8],
+    k: usize,
+) -> Walked
     requires { ⌜ Ready (item on (Times k) ∷ []) (now source) (now ws) w c (now buffer) × (w + 2 ≤ length (now ws)) ⌝ }
     ensures { λ r. ⌜ Placed (item on (Times k) ∷ []) (now (source .entry)) (now (ws .entry)) w c (now (buffer .entry)) (now (buffer .exit)) r ⌝ }
 {
@@ -246,14 +294,29 @@ pub fn times(ws: &[u64], source: &[u8], c: Walked, on: bool, w: usize, buffer: &
     past(c, many)
 }
 
-pub fn values(ws: &[u64], source: &[u8], c: Walked, on: bool, w: usize, buffer: &mut [u8], f: u64) -> Walked
+pub fn values(
+    ws: &[u64],
+    source: &[u8],
+    c: Walked,
+    on: bool,
+    w: usize,
+    buffer: &mut [u8],
+    f: u64,
+) -> Walked
     requires { ⌜ Ready (item on (Times (groupBytes f)) ∷ []) (now source) (now ws) w c (now buffer) × (w + 2 ≤ length (now ws)) ⌝ }
     ensures { λ r. ⌜ Placed (item on (Times (groupBytes f)) ∷ []) (now (source .entry)) (now (ws .entry)) w c (now (buffer .entry)) (now (buffer .exit)) r ⌝ }
 {
     times(ws, source, c, on, w, buffer, write_fits::group_bytes(f))
 }
 
-pub fn earlier(ws: &[u64], source: &[u8], c: Walked, on: bool, w: usize, buffer: &mut [u8]) -> Walked
+pub fn earlier(
+    ws: &[u64],
+    source: &[u8],
+    c: Walked,
+    on: bool,
+    w: usize,
+    buffer: &mut [u8],
+) -> Walked
     requires { ⌜ Ready (item on (Earlier 1) ∷ []) (now source) (now ws) w c (now buffer) × (w + 2 ≤ length (now ws)) ⌝ }
     ensures { λ r. ⌜ Placed (item on (Earlier 1) ∷ []) (now (source .entry)) (now (ws .entry)) w c (now (buffer .entry)) (now (buffer .exit)) r ⌝ }
 {
@@ -266,7 +329,14 @@ pub fn earlier(ws: &[u64], source: &[u8], c: Walked, on: bool, w: usize, buffer:
     past(c, many)
 }
 
-pub fn registers(ws: &[u64], source: &[u8], c: Walked, on: bool, w: usize, buffer: &mut [u8]) -> Walked
+pub fn registers(
+    ws: &[u64],
+    source: &[u8],
+    c: Walked,
+    on: bool,
+    w: usize,
+    buffer: &mut [u8],
+) -> Walked
     requires { ⌜ Ready (item on Registers ∷ []) (now source) (now ws) w c (now buffer) × (w + 2 ≤ length (now ws)) ⌝ }
     ensures { λ r. ⌜ Placed (item on Registers ∷ []) (now (source .entry)) (now (ws .entry)) w c (now (buffer .entry)) (now (buffer .exit)) r ⌝ }
 {

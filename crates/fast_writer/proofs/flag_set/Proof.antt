@@ -10,7 +10,7 @@ returns : tie.Need-returns
 returns c = let s = c .before .before .before in set-none (now (s .args .ws)) (s .args .kind) (sym (c .before .flag-at .ensures) ∙ c .if1 .taken)
 
 returns-2 : tie.Need-returns-2
-returns-2 c = 
+returns-2 c =
     let s = c .before .before .before .before in
     set-some (now (s .args .ws)) (s .args .kind) _ _ (c .before .before .flag-at .ensures) (c .before .if1 .left) (c .word .ensures)
 

@@ -24,12 +24,12 @@ returns-2 : tie.Need-returns-2
 returns-2 c = tail-bad (schema (c .before .before .before .before .before .before .before .before .args .kind) (c .before .before .before .before .before .before .before .before .args .misc) (c .before .before .before .before .before .before .before .before .args .a)) (trailer (c .before .before .before .before .before .before .before .before .args .kind) (c .before .before .before .before .before .before .before .before .args .a)) (now (c .before .before .before .before .before .before .before .before .args .source)) (now (c .before .before .before .before .before .before .before .before .args .ws)) (trailer-fixed (c .before .before .before .before .before .before .before .before .args .kind) (c .before .before .before .before .before .before .before .before .args .a)) (c .before .before .before .before .before .begin-at .ensures) (c .before .before .before .before .fields .ensures) (c .before .before .before .if1 .left) (c .before .before .begin-at2 .ensures) (c .before .trail .ensures) (c .if2 .taken)
 
 returns-3 : tie.Need-returns-3
-returns-3 c = 
+returns-3 c =
     let a = c .before .before .before .before .before .before .before .before .before .before .before .args in
     size-yes (schema (c .before .before .before .before .before .before .before .before .before .before .before .args .kind) (c .before .before .before .before .before .before .before .before .before .before .before .args .misc) (c .before .before .before .before .before .before .before .before .before .before .before .args .a)) (trailer (c .before .before .before .before .before .before .before .before .before .before .before .args .kind) (c .before .before .before .before .before .before .before .before .before .before .before .args .a)) (now (c .before .before .before .before .before .before .before .before .before .before .before .args .source)) (now (c .before .before .before .before .before .before .before .before .before .before .before .args .ws)) (trailer-fixed (c .before .before .before .before .before .before .before .before .before .before .before .args .kind) (c .before .before .before .before .before .before .before .before .before .before .before .args .a)) (c .before .before .before .before .before .before .before .before .begin-at .ensures) (c .before .before .before .before .before .before .before .fields .ensures) (c .before .before .before .before .before .before .if1 .left) (c .before .before .before .before .before .begin-at2 .ensures) (c .before .before .before .before .trail .ensures) (c .before .before .before .if2 .left) (a .kind) (a .misc) (getD (now (a .ws)) 2 0) (c .before .spare-zero .result) (c .before .before .before .before .before .before .before .before .before .before .before .pre .0) (c .before .before .before .before .before .before .before .before .before .before .before .pre .1) refl (c .before .spare-zero .ensures) (c .if3 .taken)
 
 returns-4 : tie.Need-returns-4
-returns-4 c = 
+returns-4 c =
     let a = c .before .before .before .before .before .before .before .before .before .before .before .args in
     size-no (schema (c .before .before .before .before .before .before .before .before .before .before .before .args .kind) (c .before .before .before .before .before .before .before .before .before .before .before .args .misc) (c .before .before .before .before .before .before .before .before .before .before .before .args .a)) (trailer (c .before .before .before .before .before .before .before .before .before .before .before .args .kind) (c .before .before .before .before .before .before .before .before .before .before .before .args .a)) (now (c .before .before .before .before .before .before .before .before .before .before .before .args .source)) (now (c .before .before .before .before .before .before .before .before .before .before .before .args .ws)) (trailer-fixed (c .before .before .before .before .before .before .before .before .before .before .before .args .kind) (c .before .before .before .before .before .before .before .before .before .before .before .args .a)) (c .before .before .before .before .before .before .before .before .begin-at .ensures) (c .before .before .before .before .before .before .before .fields .ensures) (c .before .before .before .before .before .before .if1 .left) (c .before .before .before .before .before .begin-at2 .ensures) (c .before .before .before .before .trail .ensures) (c .before .before .before .if2 .left) (a .kind) (a .misc) (getD (now (a .ws)) 2 0) (c .before .spare-zero .result) (c .before .before .before .before .before .before .before .before .before .before .before .pre .0) (c .before .before .before .before .before .before .before .before .before .before .before .pre .1) refl (c .before .spare-zero .ensures) (c .if3 .left)
 

@@ -11,7 +11,7 @@ use Rattle.fast_writer.proofs.refused.Statement.{statement}
 use Rattle.fast_writer.proofs.refused.Tie as tie
 
 any-beyond-requires : tie.Need-any-beyond-requires
-any-beyond-requires c κs = 
+any-beyond-requires c κs =
     let b = c .before .body .ensures in
     let t = ap (λ (x : Reached). x .at) (c .start-at .ensures) in
     (b .ordered, b .within, omega (arith, t))

@@ -13,7 +13,7 @@ returns-2 : tie.Need-returns-2
 returns-2 c = known-small (now (c .before .before .before .before .before .before .args .source)) (now (c .before .before .before .before .before .before .args .ws)) (now (c .before .before .before .before .before .before .args .buffer)) (c .before .before .before .before .before .before .args .a) (c .before .before .before .before .before .before .args .kind) (c .before .before .before .before .before .before .args .misc) (c .before .before .measure .result) (c .before .before .measure .ensures) (c .before .if1 .left) (c .if2 .taken)
 
 put-record-requires : tie.Need-put-record-requires
-put-record-requires c κs = 
+put-record-requires c κs =
     let n = c .before .before .if1 .left in
     (measured-size (now (c .before .before .before .before .before .before .before .args .source)) (now (c .before .before .before .before .before .before .before .args .ws)) (now (c .before .before .before .before .before .before .before .args .buffer)) (c .before .before .before .before .before .before .before .args .a) (c .before .before .before .before .before .before .before .args .kind) (c .before .before .before .before .before .before .before .args .misc) (c .before .before .before .measure .result) (c .before .before .before .measure .ensures) n, omega (arith, n), c .before .if2 .left, (c .before .before .before .before .before .before .before .pre .0, c .before .before .before .before .before .before .before .pre .1, measured-inside (now (c .before .before .before .before .before .before .before .args .source)) (now (c .before .before .before .before .before .before .before .args .ws)) (now (c .before .before .before .before .before .before .before .args .buffer)) (c .before .before .before .before .before .before .before .args .a) (c .before .before .before .before .before .before .before .args .kind) (c .before .before .before .before .before .before .before .args .misc) (c .before .before .before .measure .result) (c .before .before .before .measure .ensures) n), c .before .before .before .before .before .before .before .pre .2)
 

@@ -19,7 +19,7 @@ returns c = off-number (small-of _ (c .before .before .before .shared-slice-know
 
 returns-2 : tie.Need-returns-2
 unfolding shapeForm slotTold lastTold beforeTold
-returns-2 c = 
+returns-2 c =
     let a = c .before .before .before .before .before .before .before .args in
     by-plain (small-of _ (c .before .before .before .before .before .shared-slice-known2 .given)) (λ k. c .before .before .before .before .before .before .shared-slice-known .given k .fits) (c .before .before .before .before .before .before .before .pre .0) (not-false _ (c .before .before .before .if1 .left)) (ap (λ (v : ℕ). numberForm (bytes (a .width)) (top (bytes (a .width))) false v (a .c .n)) (word-at (now (c .before .before .before .before .before .before .before .args .ws)) (c .before .before .before .before .before .before .before .args .w))) (ap (λ (v : ℕ). slot v 0 0) (word-at (now (c .before .before .before .before .before .before .before .args .ws)) (c .before .before .before .before .before .before .before .args .w))) (word-at (now (c .before .before .before .before .before .before .before .args .ws)) (c .before .before .before .before .before .before .before .args .w)) refl (c .before .before .largest .ensures) (c .before .width-of .ensures .0) (c .past .ensures)
 

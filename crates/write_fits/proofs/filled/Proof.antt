@@ -18,13 +18,13 @@ returns c = off-number (small-of _ (c .before .before .before .shared-slice-know
 
 returns-2 : tie.Need-returns-2
 unfolding shapeForm slotTold lastTold beforeTold
-returns-2 c = 
+returns-2 c =
     let a = c .before .before .before .before .before .before .before .before .args in
     by-plain (small-of _ (c .before .before .before .before .before .before .shared-slice-known2 .given)) (λ k. c .before .before .before .before .before .before .before .shared-slice-known .given k .fits) (c .before .before .before .before .before .before .before .before .pre .0) (not-false _ (c .before .before .before .before .if1 .left)) (ap (λ (t : Bool). numberForm (cond t 0 8) (a .c .n) false (a .c .n) (a .c .old)) (eq-eqb _ 0 (c .before .before .if2 .taken))) (ap (λ (v : ℕ). slot v 0 0) (word-at (now (c .before .before .before .before .before .before .before .before .args .ws)) (c .before .before .before .before .before .before .before .before .args .w))) refl refl refl refl (c .over .ensures)
 
 returns-3 : tie.Need-returns-3
 unfolding shapeForm slotTold lastTold beforeTold
-returns-3 c = 
+returns-3 c =
     let a = c .before .before .before .before .before .before .before .before .args in
     by-plain (small-of _ (c .before .before .before .before .before .before .shared-slice-known2 .given)) (λ k. c .before .before .before .before .before .before .before .shared-slice-known .given k .fits) (c .before .before .before .before .before .before .before .before .pre .0) (not-false _ (c .before .before .before .before .if1 .left)) (ap (λ (t : Bool). numberForm (cond t 0 8) (a .c .n) false (a .c .n) (a .c .old)) (ne-eqb _ 0 (c .before .before .if2 .left))) (ap (λ (v : ℕ). slot v 0 0) (word-at (now (c .before .before .before .before .before .before .before .before .args .ws)) (c .before .before .before .before .before .before .before .before .args .w))) refl refl refl refl (c .over2 .ensures)
 

@@ -18,7 +18,7 @@ returns c = off-free (small-of _ (c .before .shared-slice-known2 .given)) (λ k.
 
 returns-2 : tie.Need-returns-2
 unfolding shapeForm slotTold lastTold beforeTold
-returns-2 c = 
+returns-2 c =
     let a = c .before .before .before .before .before .before .args in
     by-list (small-of _ (c .before .before .before .before .shared-slice-known2 .given)) (λ k. c .before .before .before .before .before .shared-slice-known .given k .fits) (c .before .before .before .before .before .before .pre .0) (not-false _ (c .before .before .before .if1 .left)) (ap (λ (n : ℕ). listForm (stateOf (a .c)) 1 n (20 - n)) (sym (c .before .before .smaller .ensures .0))) (ap (λ (v : ℕ). slot 0 v (c .before .before .before .before .before .before .args .c .told)) (word-at (now (c .before .before .before .before .before .before .args .ws)) (c .before .before .before .before .before .before .args .w))) refl refl (c .list .ensures)
 

@@ -22,7 +22,7 @@ returns c = off-counted (small-of _ (c .before .before .before .shared-slice-kno
 
 returns-2 : tie.Need-returns-2
 unfolding shapeForm slotTold lastTold beforeTold
-returns-2 c = 
+returns-2 c =
     let a = c .before .before .before .before .before .before .before .args in
     by-name (small-of _ (c .before .before .before .before .before .shared-slice-known2 .given)) (λ k. c .before .before .before .before .before .before .shared-slice-known .given k .fits) (c .before .before .before .before .before .before .before .pre .0) (not-false _ (c .before .before .before .if1 .left)) (ap (λ (k : ℕ). nameForm (stateOf (a .c)) k (8 - (a .c .at + k) % 8)) (word-after (now (a .ws)) (a .w))) (ap₂ (λ (v k : ℕ). slot 0 v k) (word-at (now (c .before .before .before .before .before .before .before .args .ws)) (c .before .before .before .before .before .before .before .args .w)) (word-after (now (c .before .before .before .before .before .before .before .args .ws)) (c .before .before .before .before .before .before .before .args .w))) refl refl
     (c .refuse .ensures ∙ ap (λ (t : Bool). cond t (stay ((getD (now (a .ws)) (a .w + 1) 0) * 1 + (8 - (a .c .at + (getD (now (a .ws)) (a .w + 1) 0)) % 8)) (a .c)) (refused (a .c))) (name-none (now (c .before .before .before .before .before .before .before .args .source)) (getD (now (c .before .before .before .before .before .before .before .args .ws)) (c .before .before .before .before .before .before .before .args .w) 0) (getD (now (c .before .before .before .before .before .before .before .args .ws)) (c .before .before .before .before .before .before .before .args .w + 1) 0) (8 - (a .c .at + (getD (now (a .ws)) (a .w + 1) 0)) % 8) (a .c) (c .before .if2 .taken)))
@@ -32,7 +32,7 @@ sub-if3 c = list-within (length (now (c .before .before .before .before .before 
 
 returns-3 : tie.Need-returns-3
 unfolding shapeForm slotTold lastTold beforeTold
-returns-3 c = 
+returns-3 c =
     let a = c .before .before .before .before .before .before .before .before .args in
     by-name (small-of _ (c .before .before .before .before .before .before .shared-slice-known2 .given)) (λ k. c .before .before .before .before .before .before .before .shared-slice-known .given k .fits) (c .before .before .before .before .before .before .before .before .pre .0) (not-false _ (c .before .before .before .before .if1 .left)) (ap (λ (k : ℕ). nameForm (stateOf (a .c)) k (8 - (a .c .at + k) % 8)) (word-after (now (a .ws)) (a .w))) (ap₂ (λ (v k : ℕ). slot 0 v k) (word-at (now (c .before .before .before .before .before .before .before .before .args .ws)) (c .before .before .before .before .before .before .before .before .args .w)) (word-after (now (c .before .before .before .before .before .before .before .before .args .ws)) (c .before .before .before .before .before .before .before .before .args .w))) refl refl
     (c .refuse2 .ensures ∙ ap (λ (t : Bool). cond t (stay ((getD (now (a .ws)) (a .w + 1) 0) * 1 + (8 - (a .c .at + (getD (now (a .ws)) (a .w + 1) 0)) % 8)) (a .c)) (refused (a .c))) (name-far (now (c .before .before .before .before .before .before .before .before .args .source)) (getD (now (c .before .before .before .before .before .before .before .before .args .ws)) (c .before .before .before .before .before .before .before .before .args .w) 0) (getD (now (c .before .before .before .before .before .before .before .before .args .ws)) (c .before .before .before .before .before .before .before .before .args .w + 1) 0) (8 - (a .c .at + (getD (now (a .ws)) (a .w + 1) 0)) % 8) (a .c) (let p = list-within (length (now (c .before .before .before .before .before .before .before .before .args .source))) (getD (now (c .before .before .before .before .before .before .before .before .args .ws)) (c .before .before .before .before .before .before .before .before .args .w) 0) (getD (now (c .before .before .before .before .before .before .before .before .args .ws)) (c .before .before .before .before .before .before .before .before .args .w + 1) 0) (c .before .before .if2 .left) in let q = c .before .if3 .taken in omega (arith, p .0, p .1, q))))
@@ -48,7 +48,7 @@ over-requires c κs = let p = list-within (length (now (c .before .before .befor
 
 returns-4 : tie.Need-returns-4
 unfolding shapeForm slotTold lastTold beforeTold
-returns-4 c = 
+returns-4 c =
     let a = c .before .before .before .before .before .before .before .before .before .before .args in
     by-name (small-of _ (c .before .before .before .before .before .before .before .before .shared-slice-known2 .given)) (λ k. c .before .before .before .before .before .before .before .before .before .shared-slice-known .given k .fits) (c .before .before .before .before .before .before .before .before .before .before .pre .0) (not-false _ (c .before .before .before .before .before .before .if1 .left)) (ap (λ (k : ℕ). nameForm (stateOf (a .c)) k (8 - (a .c .at + k) % 8)) (word-after (now (a .ws)) (a .w))) (ap₂ (λ (v k : ℕ). slot 0 v k) (word-at (now (c .before .before .before .before .before .before .before .before .before .before .args .ws)) (c .before .before .before .before .before .before .before .before .before .before .args .w)) (word-after (now (c .before .before .before .before .before .before .before .before .before .before .args .ws)) (c .before .before .before .before .before .before .before .before .before .before .args .w))) refl refl
     (
@@ -60,7 +60,7 @@ returns-4 c =
     let y : k + (8 - (a .c .at + (getD (now (a .ws)) (a .w + 1) 0)) % 8) ≡ k * 1 + (8 - (a .c .at + (getD (now (a .ws)) (a .w + 1) 0)) % 8) = omega arith in
     c .over .ensures
     ∙ ap₂ (λ (t : Bool) (n : ℕ). cond t (stay n (a .c)) (refused (a .c)))
-      (name-some (now (c .before .before .before .before .before .before .before .before .before .before .args .source)) (getD (now (c .before .before .before .before .before .before .before .before .before .before .args .ws)) (c .before .before .before .before .before .before .before .before .before .before .args .w) 0) (getD (now (c .before .before .before .before .before .before .before .before .before .before .args .ws)) (c .before .before .before .before .before .before .before .before .before .before .args .w + 1) 0) (8 - (a .c .at + (getD (now (a .ws)) (a .w + 1) 0)) % 8) (k + (8 - (a .c .at + (getD (now (a .ws)) (a .w + 1) 0)) % 8)) (c .before .no-zero .result) (a .c) (omega (arith, p .0, p .1, q)) (c .before .no-zero .ensures ∙ ap (λ (n : ℕ). nonzero (take n (drop v (now (a .source))))) z) refl) y)
+    (name-some (now (c .before .before .before .before .before .before .before .before .before .before .args .source)) (getD (now (c .before .before .before .before .before .before .before .before .before .before .args .ws)) (c .before .before .before .before .before .before .before .before .before .before .args .w) 0) (getD (now (c .before .before .before .before .before .before .before .before .before .before .args .ws)) (c .before .before .before .before .before .before .before .before .before .before .args .w + 1) 0) (8 - (a .c .at + (getD (now (a .ws)) (a .w + 1) 0)) % 8) (k + (8 - (a .c .at + (getD (now (a .ws)) (a .w + 1) 0)) % 8)) (c .before .no-zero .result) (a .c) (omega (arith, p .0, p .1, q)) (c .before .no-zero .ensures ∙ ap (λ (n : ℕ). nonzero (take n (drop v (now (a .source))))) z) refl) y)
 
 pub name-spec : {M : Type 1} → statement M
 name-spec = tie.close (tie.spec (λ c. search needs) (λ c. search needs) (λ c. search needs) (λ c κs. search needs) returns (λ c. search needs) (λ c. search needs) (λ c κs. search needs) returns-2 sub-if3 (λ c κs. search needs) returns-3 add-no-zero (λ c. search needs) (λ c. search needs) part-no-zero-end (λ c κs. search needs) (λ c. search needs) (λ c. search needs) (λ c. search needs) over-requires returns-4)

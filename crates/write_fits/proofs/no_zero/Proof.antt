@@ -12,7 +12,7 @@ use Rattle.write_fits.proofs.no_zero.Statement.{statement}
 use Rattle.write_fits.proofs.no_zero.Tie as tie
 
 returns : tie.Need-returns
-returns c = 
+returns c =
     let xs = now (c .before .before .args .s) in
     let e : c .zero-from .result ≡ zeroIn xs = omega (arith, c .zero-from .ensures .0) in
     ap (λ (n : ℕ). eqb n (length xs)) e ∙ no-zeros xs

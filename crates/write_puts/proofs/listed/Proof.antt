@@ -23,30 +23,30 @@ returns c = off (small-of _ (c .before .before .shared-slice-known2 .given)) (λ
 
 copy-requires : tie.Need-copy-requires
 unfolding shapeForm slotTold lastTold beforeTold
-copy-requires c κs = 
+copy-requires c κs =
     let i = list-inside (small-of _ (c .before .before .before .before .shared-slice-known2 .given)) (λ k. c .before .before .before .before .before .shared-slice-known .given k .fits) (c .before .before .before .before .before .before .pre .0) (not-false _ (c .before .before .if1 .left)) refl (ap (λ (v : ℕ). slot 0 v (c .before .before .before .before .before .before .args .c .told)) (word-at (now (c .before .before .before .before .before .before .args .ws)) (c .before .before .before .before .before .before .args .w))) in let m = list-most (small-of _ (c .before .before .before .before .shared-slice-known2 .given)) (λ k. c .before .before .before .before .before .shared-slice-known .given k .fits) (c .before .before .before .before .before .before .pre .0) (not-false _ (c .before .before .if1 .left)) refl (ap (λ (v : ℕ). slot 0 v (c .before .before .before .before .before .before .args .c .told)) (word-at (now (c .before .before .before .before .before .before .args .ws)) (c .before .before .before .before .before .before .args .w))) in let g = list-wanted (small-of _ (c .before .before .before .before .shared-slice-known2 .given)) (λ k. c .before .before .before .before .before .shared-slice-known .given k .fits) (c .before .before .before .before .before .before .pre .0) (not-false _ (c .before .before .if1 .left)) refl (ap (λ (v : ℕ). slot 0 v (c .before .before .before .before .before .before .args .c .told)) (word-at (now (c .before .before .before .before .before .before .args .ws)) (c .before .before .before .before .before .before .args .w))) (omega arith) in omega (arith, i)
 
 add-zero-at : tie.Need-add-zero-at
 unfolding shapeForm slotTold lastTold beforeTold
-add-zero-at c = 
+add-zero-at c =
     let i = list-inside (small-of _ (c .before .before .before .before .before .before .before .before .shared-slice-known2 .given)) (λ k. c .before .before .before .before .before .before .before .before .before .shared-slice-known .given k .fits) (c .before .before .before .before .before .before .before .before .before .before .pre .0) (not-false _ (c .before .before .before .before .before .before .if1 .left)) refl (ap (λ (v : ℕ). slot 0 v (c .before .before .before .before .before .before .before .before .before .before .args .c .told)) (word-at (now (c .before .before .before .before .before .before .before .before .before .before .args .ws)) (c .before .before .before .before .before .before .before .before .before .before .args .w))) in let m = list-most (small-of _ (c .before .before .before .before .before .before .before .before .shared-slice-known2 .given)) (λ k. c .before .before .before .before .before .before .before .before .before .shared-slice-known .given k .fits) (c .before .before .before .before .before .before .before .before .before .before .pre .0) (not-false _ (c .before .before .before .before .before .before .if1 .left)) refl (ap (λ (v : ℕ). slot 0 v (c .before .before .before .before .before .before .before .before .before .before .args .c .told)) (word-at (now (c .before .before .before .before .before .before .before .before .before .before .args .ws)) (c .before .before .before .before .before .before .before .before .before .before .args .w))) in let g = list-wanted (small-of _ (c .before .before .before .before .before .before .before .before .shared-slice-known2 .given)) (λ k. c .before .before .before .before .before .before .before .before .before .shared-slice-known .given k .fits) (c .before .before .before .before .before .before .before .before .before .before .pre .0) (not-false _ (c .before .before .before .before .before .before .if1 .left)) refl (ap (λ (v : ℕ). slot 0 v (c .before .before .before .before .before .before .before .before .before .before .args .c .told)) (word-at (now (c .before .before .before .before .before .before .before .before .before .before .args .ws)) (c .before .before .before .before .before .before .before .before .before .before .args .w))) (omega arith) in omega (arith, m)
 
 sub-zero-at : tie.Need-sub-zero-at
 unfolding shapeForm slotTold lastTold beforeTold
-sub-zero-at c = 
+sub-zero-at c =
     let i = list-inside (small-of _ (c .before .before .before .before .before .before .before .before .shared-slice-known2 .given)) (λ k. c .before .before .before .before .before .before .before .before .before .shared-slice-known .given k .fits) (c .before .before .before .before .before .before .before .before .before .before .pre .0) (not-false _ (c .before .before .before .before .before .before .if1 .left)) refl (ap (λ (v : ℕ). slot 0 v (c .before .before .before .before .before .before .before .before .before .before .args .c .told)) (word-at (now (c .before .before .before .before .before .before .before .before .before .before .args .ws)) (c .before .before .before .before .before .before .before .before .before .before .args .w))) in let m = list-most (small-of _ (c .before .before .before .before .before .before .before .before .shared-slice-known2 .given)) (λ k. c .before .before .before .before .before .before .before .before .before .shared-slice-known .given k .fits) (c .before .before .before .before .before .before .before .before .before .before .pre .0) (not-false _ (c .before .before .before .before .before .before .if1 .left)) refl (ap (λ (v : ℕ). slot 0 v (c .before .before .before .before .before .before .before .before .before .before .args .c .told)) (word-at (now (c .before .before .before .before .before .before .before .before .before .before .args .ws)) (c .before .before .before .before .before .before .before .before .before .before .args .w))) in let g = list-wanted (small-of _ (c .before .before .before .before .before .before .before .before .shared-slice-known2 .given)) (λ k. c .before .before .before .before .before .before .before .before .before .shared-slice-known .given k .fits) (c .before .before .before .before .before .before .before .before .before .before .pre .0) (not-false _ (c .before .before .before .before .before .before .if1 .left)) refl (ap (λ (v : ℕ). slot 0 v (c .before .before .before .before .before .before .before .before .before .before .args .c .told)) (word-at (now (c .before .before .before .before .before .before .before .before .before .before .args .ws)) (c .before .before .before .before .before .before .before .before .before .before .args .w))) (omega arith) in omega (arith, g)
 
 past-requires : tie.Need-past-requires
 unfolding shapeForm slotTold lastTold beforeTold
-past-requires c κs = 
+past-requires c κs =
     let i = list-inside (small-of _ (c .before .before .before .before .before .before .before .before .before .before .before .shared-slice-known2 .given)) (λ k. c .before .before .before .before .before .before .before .before .before .before .before .before .shared-slice-known .given k .fits) (c .before .before .before .before .before .before .before .before .before .before .before .before .before .pre .0) (not-false _ (c .before .before .before .before .before .before .before .before .before .if1 .left)) refl (ap (λ (v : ℕ). slot 0 v (c .before .before .before .before .before .before .before .before .before .before .before .before .before .args .c .told)) (word-at (now (c .before .before .before .before .before .before .before .before .before .before .before .before .before .args .ws)) (c .before .before .before .before .before .before .before .before .before .before .before .before .before .args .w))) in let m = list-most (small-of _ (c .before .before .before .before .before .before .before .before .before .before .before .shared-slice-known2 .given)) (λ k. c .before .before .before .before .before .before .before .before .before .before .before .before .shared-slice-known .given k .fits) (c .before .before .before .before .before .before .before .before .before .before .before .before .before .pre .0) (not-false _ (c .before .before .before .before .before .before .before .before .before .if1 .left)) refl (ap (λ (v : ℕ). slot 0 v (c .before .before .before .before .before .before .before .before .before .before .before .before .before .args .c .told)) (word-at (now (c .before .before .before .before .before .before .before .before .before .before .before .before .before .args .ws)) (c .before .before .before .before .before .before .before .before .before .before .before .before .before .args .w))) in let g = list-wanted (small-of _ (c .before .before .before .before .before .before .before .before .before .before .before .shared-slice-known2 .given)) (λ k. c .before .before .before .before .before .before .before .before .before .before .before .before .shared-slice-known .given k .fits) (c .before .before .before .before .before .before .before .before .before .before .before .before .before .pre .0) (not-false _ (c .before .before .before .before .before .before .before .before .before .if1 .left)) refl (ap (λ (v : ℕ). slot 0 v (c .before .before .before .before .before .before .before .before .before .before .before .before .before .args .c .told)) (word-at (now (c .before .before .before .before .before .before .before .before .before .before .before .before .before .args .ws)) (c .before .before .before .before .before .before .before .before .before .before .before .before .before .args .w))) (omega arith) in omega (arith, m, g)
 
 returns-2 : tie.Need-returns-2
 unfolding shapeForm slotTold lastTold beforeTold
-returns-2 c = 
+returns-2 c =
     let a = c .before .before .before .before .before .before .before .before .before .before .before .before .before .before .args in
     let L : List ℕ = take (c .before .before .before .before .before .before .before .before .before .before .before .before .before .before .args .c .told) (drop (getD (now (c .before .before .before .before .before .before .before .before .before .before .before .before .before .before .args .ws)) (c .before .before .before .before .before .before .before .before .before .before .before .before .before .before .args .w) 0) (now (a .source))) in
-    let i = list-inside (small-of _ (c .before .before .before .before .before .before .before .before .before .before .before .before .shared-slice-known2 .given)) (λ k. c .before .before .before .before .before .before .before .before .before .before .before .before .before .shared-slice-known .given k .fits) (c .before .before .before .before .before .before .before .before .before .before .before .before .before .before .pre .0) (not-false _ (c .before .before .before .before .before .before .before .before .before .before .if1 .left)) refl (ap (λ (v : ℕ). slot 0 v (c .before .before .before .before .before .before .before .before .before .before .before .before .before .before .args .c .told)) (word-at (now (c .before .before .before .before .before .before .before .before .before .before .before .before .before .before .args .ws)) (c .before .before .before .before .before .before .before .before .before .before .before .before .before .before .args .w))) in let m = list-most (small-of _ (c .before .before .before .before .before .before .before .before .before .before .before .before .shared-slice-known2 .given)) (λ k. c .before .before .before .before .before .before .before .before .before .before .before .before .before .shared-slice-known .given k .fits) (c .before .before .before .before .before .before .before .before .before .before .before .before .before .before .pre .0) (not-false _ (c .before .before .before .before .before .before .before .before .before .before .if1 .left)) refl (ap (λ (v : ℕ). slot 0 v (c .before .before .before .before .before .before .before .before .before .before .before .before .before .before .args .c .told)) (word-at (now (c .before .before .before .before .before .before .before .before .before .before .before .before .before .before .args .ws)) (c .before .before .before .before .before .before .before .before .before .before .before .before .before .before .args .w))) in let g = list-wanted (small-of _ (c .before .before .before .before .before .before .before .before .before .before .before .before .shared-slice-known2 .given)) (λ k. c .before .before .before .before .before .before .before .before .before .before .before .before .before .shared-slice-known .given k .fits) (c .before .before .before .before .before .before .before .before .before .before .before .before .before .before .pre .0) (not-false _ (c .before .before .before .before .before .before .before .before .before .before .if1 .left)) refl (ap (λ (v : ℕ). slot 0 v (c .before .before .before .before .before .before .before .before .before .before .before .before .before .before .args .c .told)) (word-at (now (c .before .before .before .before .before .before .before .before .before .before .before .before .before .before .args .ws)) (c .before .before .before .before .before .before .before .before .before .before .before .before .before .before .args .w))) (omega arith) in 
+    let i = list-inside (small-of _ (c .before .before .before .before .before .before .before .before .before .before .before .before .shared-slice-known2 .given)) (λ k. c .before .before .before .before .before .before .before .before .before .before .before .before .before .shared-slice-known .given k .fits) (c .before .before .before .before .before .before .before .before .before .before .before .before .before .before .pre .0) (not-false _ (c .before .before .before .before .before .before .before .before .before .before .if1 .left)) refl (ap (λ (v : ℕ). slot 0 v (c .before .before .before .before .before .before .before .before .before .before .before .before .before .before .args .c .told)) (word-at (now (c .before .before .before .before .before .before .before .before .before .before .before .before .before .before .args .ws)) (c .before .before .before .before .before .before .before .before .before .before .before .before .before .before .args .w))) in let m = list-most (small-of _ (c .before .before .before .before .before .before .before .before .before .before .before .before .shared-slice-known2 .given)) (λ k. c .before .before .before .before .before .before .before .before .before .before .before .before .before .shared-slice-known .given k .fits) (c .before .before .before .before .before .before .before .before .before .before .before .before .before .before .pre .0) (not-false _ (c .before .before .before .before .before .before .before .before .before .before .if1 .left)) refl (ap (λ (v : ℕ). slot 0 v (c .before .before .before .before .before .before .before .before .before .before .before .before .before .before .args .c .told)) (word-at (now (c .before .before .before .before .before .before .before .before .before .before .before .before .before .before .args .ws)) (c .before .before .before .before .before .before .before .before .before .before .before .before .before .before .args .w))) in let g = list-wanted (small-of _ (c .before .before .before .before .before .before .before .before .before .before .before .before .shared-slice-known2 .given)) (λ k. c .before .before .before .before .before .before .before .before .before .before .before .before .before .shared-slice-known .given k .fits) (c .before .before .before .before .before .before .before .before .before .before .before .before .before .before .pre .0) (not-false _ (c .before .before .before .before .before .before .before .before .before .before .if1 .left)) refl (ap (λ (v : ℕ). slot 0 v (c .before .before .before .before .before .before .before .before .before .before .before .before .before .before .args .c .told)) (word-at (now (c .before .before .before .before .before .before .before .before .before .before .before .before .before .before .args .ws)) (c .before .before .before .before .before .before .before .before .before .before .before .before .before .before .args .w))) (omega arith) in
     let rm = list-room (small-of _ (c .before .before .before .before .before .before .before .before .before .before .before .before .shared-slice-known2 .given)) (λ k. c .before .before .before .before .before .before .before .before .before .before .before .before .before .shared-slice-known .given k .fits) (c .before .before .before .before .before .before .before .before .before .before .before .before .before .before .pre .0) (not-false _ (c .before .before .before .before .before .before .before .before .before .before .if1 .left)) refl (ap (λ (v : ℕ). slot 0 v (c .before .before .before .before .before .before .before .before .before .before .before .before .before .before .args .c .told)) (word-at (now (c .before .before .before .before .before .before .before .before .before .before .before .before .before .before .args .ws)) (c .before .before .before .before .before .before .before .before .before .before .before .before .before .before .args .w))) in
     let l : length L ≡ (c .before .before .before .before .before .before .before .before .before .before .before .before .before .before .args .c .told) = part-long (now (a .source)) (getD (now (c .before .before .before .before .before .before .before .before .before .before .before .before .before .before .args .ws)) (c .before .before .before .before .before .before .before .before .before .before .before .before .before .before .args .w) 0) (c .before .before .before .before .before .before .before .before .before .before .before .before .before .before .args .c .told) (omega (arith, i)) in
     let z = length-replicate {A = ℕ} (20 - (c .before .before .before .before .before .before .before .before .before .before .before .before .before .before .args .c .told)) 0 in

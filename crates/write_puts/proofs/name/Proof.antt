@@ -24,35 +24,35 @@ returns c = off (small-of _ (c .before .before .shared-slice-known2 .given)) (λ
 
 add-zeros : tie.Need-add-zeros
 unfolding shapeForm slotTold lastTold beforeTold
-add-zeros c = 
+add-zeros c =
     let i = name-inside (small-of _ (c .before .before .before .shared-slice-known2 .given)) (λ k. c .before .before .before .before .shared-slice-known .given k .fits) (c .before .before .before .before .before .pre .0) (not-false _ (c .before .if1 .left)) (ap (λ (k : ℕ). nameForm (stateOf (c .before .before .before .before .before .args .c)) k (8 - (c .before .before .before .before .before .args .c .at + k) % 8)) (word-after (now (c .before .before .before .before .before .args .ws)) (c .before .before .before .before .before .args .w))) (ap₂ (λ (v k : ℕ). slot 0 v k) (word-at (now (c .before .before .before .before .before .args .ws)) (c .before .before .before .before .before .args .w)) (word-after (now (c .before .before .before .before .before .args .ws)) (c .before .before .before .before .before .args .w))) in let m = name-most (small-of _ (c .before .before .before .shared-slice-known2 .given)) (λ k. c .before .before .before .before .shared-slice-known .given k .fits) (c .before .before .before .before .before .pre .0) (not-false _ (c .before .if1 .left)) (ap (λ (k : ℕ). nameForm (stateOf (c .before .before .before .before .before .args .c)) k (8 - (c .before .before .before .before .before .args .c .at + k) % 8)) (word-after (now (c .before .before .before .before .before .args .ws)) (c .before .before .before .before .before .args .w))) (ap₂ (λ (v k : ℕ). slot 0 v k) (word-at (now (c .before .before .before .before .before .args .ws)) (c .before .before .before .before .before .args .w)) (word-after (now (c .before .before .before .before .before .args .ws)) (c .before .before .before .before .before .args .w))) in omega (arith, m)
 
 copy-requires : tie.Need-copy-requires
 unfolding shapeForm slotTold lastTold beforeTold
-copy-requires c κs = 
+copy-requires c κs =
     let i = name-inside (small-of _ (c .before .before .before .before .before .shared-slice-known2 .given)) (λ k. c .before .before .before .before .before .before .shared-slice-known .given k .fits) (c .before .before .before .before .before .before .before .pre .0) (not-false _ (c .before .before .before .if1 .left)) (ap (λ (k : ℕ). nameForm (stateOf (c .before .before .before .before .before .before .before .args .c)) k (8 - (c .before .before .before .before .before .before .before .args .c .at + k) % 8)) (word-after (now (c .before .before .before .before .before .before .before .args .ws)) (c .before .before .before .before .before .before .before .args .w))) (ap₂ (λ (v k : ℕ). slot 0 v k) (word-at (now (c .before .before .before .before .before .before .before .args .ws)) (c .before .before .before .before .before .before .before .args .w)) (word-after (now (c .before .before .before .before .before .before .before .args .ws)) (c .before .before .before .before .before .before .before .args .w))) in let m = name-most (small-of _ (c .before .before .before .before .before .shared-slice-known2 .given)) (λ k. c .before .before .before .before .before .before .shared-slice-known .given k .fits) (c .before .before .before .before .before .before .before .pre .0) (not-false _ (c .before .before .before .if1 .left)) (ap (λ (k : ℕ). nameForm (stateOf (c .before .before .before .before .before .before .before .args .c)) k (8 - (c .before .before .before .before .before .before .before .args .c .at + k) % 8)) (word-after (now (c .before .before .before .before .before .before .before .args .ws)) (c .before .before .before .before .before .before .before .args .w))) (ap₂ (λ (v k : ℕ). slot 0 v k) (word-at (now (c .before .before .before .before .before .before .before .args .ws)) (c .before .before .before .before .before .before .before .args .w)) (word-after (now (c .before .before .before .before .before .before .before .args .ws)) (c .before .before .before .before .before .before .before .args .w))) in omega (arith, i)
 
 add-zero-at : tie.Need-add-zero-at
 unfolding shapeForm slotTold lastTold beforeTold
-add-zero-at c = 
+add-zero-at c =
     let i = name-inside (small-of _ (c .before .before .before .before .before .before .before .before .before .shared-slice-known2 .given)) (λ k. c .before .before .before .before .before .before .before .before .before .before .shared-slice-known .given k .fits) (c .before .before .before .before .before .before .before .before .before .before .before .pre .0) (not-false _ (c .before .before .before .before .before .before .before .if1 .left)) (ap (λ (k : ℕ). nameForm (stateOf (c .before .before .before .before .before .before .before .before .before .before .before .args .c)) k (8 - (c .before .before .before .before .before .before .before .before .before .before .before .args .c .at + k) % 8)) (word-after (now (c .before .before .before .before .before .before .before .before .before .before .before .args .ws)) (c .before .before .before .before .before .before .before .before .before .before .before .args .w))) (ap₂ (λ (v k : ℕ). slot 0 v k) (word-at (now (c .before .before .before .before .before .before .before .before .before .before .before .args .ws)) (c .before .before .before .before .before .before .before .before .before .before .before .args .w)) (word-after (now (c .before .before .before .before .before .before .before .before .before .before .before .args .ws)) (c .before .before .before .before .before .before .before .before .before .before .before .args .w))) in let m = name-most (small-of _ (c .before .before .before .before .before .before .before .before .before .shared-slice-known2 .given)) (λ k. c .before .before .before .before .before .before .before .before .before .before .shared-slice-known .given k .fits) (c .before .before .before .before .before .before .before .before .before .before .before .pre .0) (not-false _ (c .before .before .before .before .before .before .before .if1 .left)) (ap (λ (k : ℕ). nameForm (stateOf (c .before .before .before .before .before .before .before .before .before .before .before .args .c)) k (8 - (c .before .before .before .before .before .before .before .before .before .before .before .args .c .at + k) % 8)) (word-after (now (c .before .before .before .before .before .before .before .before .before .before .before .args .ws)) (c .before .before .before .before .before .before .before .before .before .before .before .args .w))) (ap₂ (λ (v k : ℕ). slot 0 v k) (word-at (now (c .before .before .before .before .before .before .before .before .before .before .before .args .ws)) (c .before .before .before .before .before .before .before .before .before .before .before .args .w)) (word-after (now (c .before .before .before .before .before .before .before .before .before .before .before .args .ws)) (c .before .before .before .before .before .before .before .before .before .before .before .args .w))) in omega (arith, m)
 
 add-past : tie.Need-add-past
 unfolding shapeForm slotTold lastTold beforeTold
-add-past c = 
+add-past c =
     let i = name-inside (small-of _ (c .before .before .before .before .before .before .before .before .before .before .before .before .shared-slice-known2 .given)) (λ k. c .before .before .before .before .before .before .before .before .before .before .before .before .before .shared-slice-known .given k .fits) (c .before .before .before .before .before .before .before .before .before .before .before .before .before .before .pre .0) (not-false _ (c .before .before .before .before .before .before .before .before .before .before .if1 .left)) (ap (λ (k : ℕ). nameForm (stateOf (c .before .before .before .before .before .before .before .before .before .before .before .before .before .before .args .c)) k (8 - (c .before .before .before .before .before .before .before .before .before .before .before .before .before .before .args .c .at + k) % 8)) (word-after (now (c .before .before .before .before .before .before .before .before .before .before .before .before .before .before .args .ws)) (c .before .before .before .before .before .before .before .before .before .before .before .before .before .before .args .w))) (ap₂ (λ (v k : ℕ). slot 0 v k) (word-at (now (c .before .before .before .before .before .before .before .before .before .before .before .before .before .before .args .ws)) (c .before .before .before .before .before .before .before .before .before .before .before .before .before .before .args .w)) (word-after (now (c .before .before .before .before .before .before .before .before .before .before .before .before .before .before .args .ws)) (c .before .before .before .before .before .before .before .before .before .before .before .before .before .before .args .w))) in let m = name-most (small-of _ (c .before .before .before .before .before .before .before .before .before .before .before .before .shared-slice-known2 .given)) (λ k. c .before .before .before .before .before .before .before .before .before .before .before .before .before .shared-slice-known .given k .fits) (c .before .before .before .before .before .before .before .before .before .before .before .before .before .before .pre .0) (not-false _ (c .before .before .before .before .before .before .before .before .before .before .if1 .left)) (ap (λ (k : ℕ). nameForm (stateOf (c .before .before .before .before .before .before .before .before .before .before .before .before .before .before .args .c)) k (8 - (c .before .before .before .before .before .before .before .before .before .before .before .before .before .before .args .c .at + k) % 8)) (word-after (now (c .before .before .before .before .before .before .before .before .before .before .before .before .before .before .args .ws)) (c .before .before .before .before .before .before .before .before .before .before .before .before .before .before .args .w))) (ap₂ (λ (v k : ℕ). slot 0 v k) (word-at (now (c .before .before .before .before .before .before .before .before .before .before .before .before .before .before .args .ws)) (c .before .before .before .before .before .before .before .before .before .before .before .before .before .before .args .w)) (word-after (now (c .before .before .before .before .before .before .before .before .before .before .before .before .before .before .args .ws)) (c .before .before .before .before .before .before .before .before .before .before .before .before .before .before .args .w))) in omega (arith, m)
 
 past-requires : tie.Need-past-requires
 unfolding shapeForm slotTold lastTold beforeTold
-past-requires c κs = 
+past-requires c κs =
     let i = name-inside (small-of _ (c .before .before .before .before .before .before .before .before .before .before .before .before .shared-slice-known2 .given)) (λ k. c .before .before .before .before .before .before .before .before .before .before .before .before .before .shared-slice-known .given k .fits) (c .before .before .before .before .before .before .before .before .before .before .before .before .before .before .pre .0) (not-false _ (c .before .before .before .before .before .before .before .before .before .before .if1 .left)) (ap (λ (k : ℕ). nameForm (stateOf (c .before .before .before .before .before .before .before .before .before .before .before .before .before .before .args .c)) k (8 - (c .before .before .before .before .before .before .before .before .before .before .before .before .before .before .args .c .at + k) % 8)) (word-after (now (c .before .before .before .before .before .before .before .before .before .before .before .before .before .before .args .ws)) (c .before .before .before .before .before .before .before .before .before .before .before .before .before .before .args .w))) (ap₂ (λ (v k : ℕ). slot 0 v k) (word-at (now (c .before .before .before .before .before .before .before .before .before .before .before .before .before .before .args .ws)) (c .before .before .before .before .before .before .before .before .before .before .before .before .before .before .args .w)) (word-after (now (c .before .before .before .before .before .before .before .before .before .before .before .before .before .before .args .ws)) (c .before .before .before .before .before .before .before .before .before .before .before .before .before .before .args .w))) in let m = name-most (small-of _ (c .before .before .before .before .before .before .before .before .before .before .before .before .shared-slice-known2 .given)) (λ k. c .before .before .before .before .before .before .before .before .before .before .before .before .before .shared-slice-known .given k .fits) (c .before .before .before .before .before .before .before .before .before .before .before .before .before .before .pre .0) (not-false _ (c .before .before .before .before .before .before .before .before .before .before .if1 .left)) (ap (λ (k : ℕ). nameForm (stateOf (c .before .before .before .before .before .before .before .before .before .before .before .before .before .before .args .c)) k (8 - (c .before .before .before .before .before .before .before .before .before .before .before .before .before .before .args .c .at + k) % 8)) (word-after (now (c .before .before .before .before .before .before .before .before .before .before .before .before .before .before .args .ws)) (c .before .before .before .before .before .before .before .before .before .before .before .before .before .before .args .w))) (ap₂ (λ (v k : ℕ). slot 0 v k) (word-at (now (c .before .before .before .before .before .before .before .before .before .before .before .before .before .before .args .ws)) (c .before .before .before .before .before .before .before .before .before .before .before .before .before .before .args .w)) (word-after (now (c .before .before .before .before .before .before .before .before .before .before .before .before .before .before .args .ws)) (c .before .before .before .before .before .before .before .before .before .before .before .before .before .before .args .w))) in omega (arith, m)
 
 returns-2 : tie.Need-returns-2
 unfolding shapeForm slotTold lastTold beforeTold
-returns-2 c = 
+returns-2 c =
     let a = c .before .before .before .before .before .before .before .before .before .before .before .before .before .before .before .args in
     let L : List ℕ = take (getD (now (c .before .before .before .before .before .before .before .before .before .before .before .before .before .before .before .args .ws)) (c .before .before .before .before .before .before .before .before .before .before .before .before .before .before .before .args .w + 1) 0) (drop (getD (now (c .before .before .before .before .before .before .before .before .before .before .before .before .before .before .before .args .ws)) (c .before .before .before .before .before .before .before .before .before .before .before .before .before .before .before .args .w) 0) (now (a .source))) in
-    let i = name-inside (small-of _ (c .before .before .before .before .before .before .before .before .before .before .before .before .before .shared-slice-known2 .given)) (λ k. c .before .before .before .before .before .before .before .before .before .before .before .before .before .before .shared-slice-known .given k .fits) (c .before .before .before .before .before .before .before .before .before .before .before .before .before .before .before .pre .0) (not-false _ (c .before .before .before .before .before .before .before .before .before .before .before .if1 .left)) (ap (λ (k : ℕ). nameForm (stateOf (c .before .before .before .before .before .before .before .before .before .before .before .before .before .before .before .args .c)) k (8 - (c .before .before .before .before .before .before .before .before .before .before .before .before .before .before .before .args .c .at + k) % 8)) (word-after (now (c .before .before .before .before .before .before .before .before .before .before .before .before .before .before .before .args .ws)) (c .before .before .before .before .before .before .before .before .before .before .before .before .before .before .before .args .w))) (ap₂ (λ (v k : ℕ). slot 0 v k) (word-at (now (c .before .before .before .before .before .before .before .before .before .before .before .before .before .before .before .args .ws)) (c .before .before .before .before .before .before .before .before .before .before .before .before .before .before .before .args .w)) (word-after (now (c .before .before .before .before .before .before .before .before .before .before .before .before .before .before .before .args .ws)) (c .before .before .before .before .before .before .before .before .before .before .before .before .before .before .before .args .w))) in let m = name-most (small-of _ (c .before .before .before .before .before .before .before .before .before .before .before .before .before .shared-slice-known2 .given)) (λ k. c .before .before .before .before .before .before .before .before .before .before .before .before .before .before .shared-slice-known .given k .fits) (c .before .before .before .before .before .before .before .before .before .before .before .before .before .before .before .pre .0) (not-false _ (c .before .before .before .before .before .before .before .before .before .before .before .if1 .left)) (ap (λ (k : ℕ). nameForm (stateOf (c .before .before .before .before .before .before .before .before .before .before .before .before .before .before .before .args .c)) k (8 - (c .before .before .before .before .before .before .before .before .before .before .before .before .before .before .before .args .c .at + k) % 8)) (word-after (now (c .before .before .before .before .before .before .before .before .before .before .before .before .before .before .before .args .ws)) (c .before .before .before .before .before .before .before .before .before .before .before .before .before .before .before .args .w))) (ap₂ (λ (v k : ℕ). slot 0 v k) (word-at (now (c .before .before .before .before .before .before .before .before .before .before .before .before .before .before .before .args .ws)) (c .before .before .before .before .before .before .before .before .before .before .before .before .before .before .before .args .w)) (word-after (now (c .before .before .before .before .before .before .before .before .before .before .before .before .before .before .before .args .ws)) (c .before .before .before .before .before .before .before .before .before .before .before .before .before .before .before .args .w))) in 
+    let i = name-inside (small-of _ (c .before .before .before .before .before .before .before .before .before .before .before .before .before .shared-slice-known2 .given)) (λ k. c .before .before .before .before .before .before .before .before .before .before .before .before .before .before .shared-slice-known .given k .fits) (c .before .before .before .before .before .before .before .before .before .before .before .before .before .before .before .pre .0) (not-false _ (c .before .before .before .before .before .before .before .before .before .before .before .if1 .left)) (ap (λ (k : ℕ). nameForm (stateOf (c .before .before .before .before .before .before .before .before .before .before .before .before .before .before .before .args .c)) k (8 - (c .before .before .before .before .before .before .before .before .before .before .before .before .before .before .before .args .c .at + k) % 8)) (word-after (now (c .before .before .before .before .before .before .before .before .before .before .before .before .before .before .before .args .ws)) (c .before .before .before .before .before .before .before .before .before .before .before .before .before .before .before .args .w))) (ap₂ (λ (v k : ℕ). slot 0 v k) (word-at (now (c .before .before .before .before .before .before .before .before .before .before .before .before .before .before .before .args .ws)) (c .before .before .before .before .before .before .before .before .before .before .before .before .before .before .before .args .w)) (word-after (now (c .before .before .before .before .before .before .before .before .before .before .before .before .before .before .before .args .ws)) (c .before .before .before .before .before .before .before .before .before .before .before .before .before .before .before .args .w))) in let m = name-most (small-of _ (c .before .before .before .before .before .before .before .before .before .before .before .before .before .shared-slice-known2 .given)) (λ k. c .before .before .before .before .before .before .before .before .before .before .before .before .before .before .shared-slice-known .given k .fits) (c .before .before .before .before .before .before .before .before .before .before .before .before .before .before .before .pre .0) (not-false _ (c .before .before .before .before .before .before .before .before .before .before .before .if1 .left)) (ap (λ (k : ℕ). nameForm (stateOf (c .before .before .before .before .before .before .before .before .before .before .before .before .before .before .before .args .c)) k (8 - (c .before .before .before .before .before .before .before .before .before .before .before .before .before .before .before .args .c .at + k) % 8)) (word-after (now (c .before .before .before .before .before .before .before .before .before .before .before .before .before .before .before .args .ws)) (c .before .before .before .before .before .before .before .before .before .before .before .before .before .before .before .args .w))) (ap₂ (λ (v k : ℕ). slot 0 v k) (word-at (now (c .before .before .before .before .before .before .before .before .before .before .before .before .before .before .before .args .ws)) (c .before .before .before .before .before .before .before .before .before .before .before .before .before .before .before .args .w)) (word-after (now (c .before .before .before .before .before .before .before .before .before .before .before .before .before .before .before .args .ws)) (c .before .before .before .before .before .before .before .before .before .before .before .before .before .before .before .args .w))) in
     let rm = name-room (small-of _ (c .before .before .before .before .before .before .before .before .before .before .before .before .before .shared-slice-known2 .given)) (λ k. c .before .before .before .before .before .before .before .before .before .before .before .before .before .before .shared-slice-known .given k .fits) (c .before .before .before .before .before .before .before .before .before .before .before .before .before .before .before .pre .0) (not-false _ (c .before .before .before .before .before .before .before .before .before .before .before .if1 .left)) (ap (λ (k : ℕ). nameForm (stateOf (c .before .before .before .before .before .before .before .before .before .before .before .before .before .before .before .args .c)) k (8 - (c .before .before .before .before .before .before .before .before .before .before .before .before .before .before .before .args .c .at + k) % 8)) (word-after (now (c .before .before .before .before .before .before .before .before .before .before .before .before .before .before .before .args .ws)) (c .before .before .before .before .before .before .before .before .before .before .before .before .before .before .before .args .w))) (ap₂ (λ (v k : ℕ). slot 0 v k) (word-at (now (c .before .before .before .before .before .before .before .before .before .before .before .before .before .before .before .args .ws)) (c .before .before .before .before .before .before .before .before .before .before .before .before .before .before .before .args .w)) (word-after (now (c .before .before .before .before .before .before .before .before .before .before .before .before .before .before .before .args .ws)) (c .before .before .before .before .before .before .before .before .before .before .before .before .before .before .before .args .w))) in
     let l : length L ≡ (getD (now (c .before .before .before .before .before .before .before .before .before .before .before .before .before .before .before .args .ws)) (c .before .before .before .before .before .before .before .before .before .before .before .before .before .before .before .args .w + 1) 0) = part-long (now (a .source)) (getD (now (c .before .before .before .before .before .before .before .before .before .before .before .before .before .before .before .args .ws)) (c .before .before .before .before .before .before .before .before .before .before .before .before .before .before .before .args .w) 0) (getD (now (c .before .before .before .before .before .before .before .before .before .before .before .before .before .before .before .args .ws)) (c .before .before .before .before .before .before .before .before .before .before .before .before .before .before .before .args .w + 1) 0) (omega (arith, i)) in
     let z = length-replicate {A = ℕ} (8 - (c .before .before .before .before .before .before .before .before .before .before .before .before .before .before .before .args .c .at + (getD (now (c .before .before .before .before .before .before .before .before .before .before .before .before .before .before .before .args .ws)) (c .before .before .before .before .before .before .before .before .before .before .before .before .before .before .before .args .w + 1) 0)) % 8) 0 in
