@@ -122,7 +122,7 @@ pub extern "C" fn ollskuvan_write(
 {
     let a = given::attributes(sample, format, all, user, interrupt, branch);
     let e = edition as u64;
-    writer::write(words, source, e, a, buffer) as u32
+    fast_writer::write(words, source, e, a, buffer) as u32
 }
 
 // Two readers of one ring, each with its own tail: the tail for the kernel.

@@ -4,6 +4,7 @@
 -- contract's clauses, as the check of that crate reads them, so a contract that is weakened is refused here. What a contract leaves open is
 -- listed in docs/UNIQUENESS.md. Assumes nothing.
 use mathlib.Core.Path.{_≡_, refl, sym, ap, _∙_}
+use mathlib.Core.Bool.{Bool, true, false, cond}
 use mathlib.Core.List.{List, [], _∷_, map}
 use Prim.Native.Nat.{ℕ}
 use native.Mathlib.Nat.{add-zero}
@@ -21,6 +22,8 @@ use prog.Routine.{Routine}
 use prog.Wp.{Heap}
 use borrow.Fn.Kinds.{PK, RK, Out, Dens, resT, endedOf}
 use Rattle.meaning.specs.declared.Attributes.{Attributes}
+use Rattle.meaning.specs.declared.Cursor.{Cursor}
+use Rattle.meaning.specs.declared.Item.{Item}
 use Rattle.meaning.specs.declared.Shape.the-variants.{Bytes}
 use Rattle.meaning.specs.Items.{span}
 use Rattle.meaning.specs.Schema.{always}
@@ -93,6 +96,14 @@ use Rattle.writer_parts.proofs as parts
 use Rattle.writer_parts.specs.Parts.{partItems}
 use Rattle.writer_record.proofs as whole
 use Rattle.writer.proofs as writer
+use Rattle.writer_items.specs.Tries.{unfit}
+use Rattle.writer_parts.specs.Parts.{tryItems}
+use Rattle.write_fits.proofs as fits
+use Rattle.write_fits.specs.declared.Walked.{Walked}
+use Rattle.write_fits.specs.Steps.{stateOf, tryFrom, Tried}
+use Rattle.write_puts.proofs as puts
+use Rattle.fit_chains.proofs as tests
+use Rattle.fast_writer.proofs as straight
 
 -- the law: a contract is an equation for each result and each slice, so one law settles it
 pub same : {A : Type 0} {x y z : A} → x ≡ z → y ≡ z → x ≡ y
@@ -1152,3 +1163,90 @@ write κs a x y s t p q = same (p .0) (q .0)
 
 pub write-buffer : Seen writer.write.Kinds.ps writer.write.Kinds.r writer.write.Reads.Learnt (λ κs x s. now (s .1 .1 .1 .1 .0))
 write-buffer κs a x y s t p q = same (p .1) (q .1)
+
+-- ---- the straight writer: of an item, or of a type's items, whether they fit, and if so the place and the counts after them
+
+abbrev ended : Walked → Cursor
+ended x = cond (x .bad) unfit (stateOf x)
+
+tried-same : {is : List Item} {src ws : List ℕ} {w : ℕ} {c x y : Walked} → Tried is src ws w c x → Tried is src ws w c y → ended x ≡ ended y
+unfolding tryFrom tryItems
+tried-same {is} {src} {ws} {w} {c} {x} {y} t u = go (x .bad) (y .bad) refl refl
+  where
+    go : (b d : Bool) → x .bad ≡ b → y .bad ≡ d → cond b unfit (stateOf x) ≡ cond d unfit (stateOf y)
+    go true true h k = refl
+    go false false h k = sym (t .fits h []) ∙ u .fits k []
+    go false true h k = sym (t .fits h []) ∙ u .misfits (t .kept h) k []
+    go true false h k = sym (t .misfits (u .kept k) h []) ∙ u .fits k []
+
+pub write-fits-number : Seen fits.number.Kinds.ps fits.number.Kinds.r fits.number.Reads.Learnt (λ κs x s. ended x)
+write-fits-number κs a x y s t p q = tried-same p q
+
+pub write-fits-count : Seen fits.count.Kinds.ps fits.count.Kinds.r fits.count.Reads.Learnt (λ κs x s. ended x)
+write-fits-count κs a x y s t p q = tried-same p q
+
+pub write-fits-size : Seen fits.size.Kinds.ps fits.size.Kinds.r fits.size.Reads.Learnt (λ κs x s. ended x)
+write-fits-size κs a x y s t p q = tried-same p q
+
+pub write-fits-limit : Seen fits.limit.Kinds.ps fits.limit.Kinds.r fits.limit.Reads.Learnt (λ κs x s. ended x)
+write-fits-limit κs a x y s t p q = tried-same p q
+
+pub write-fits-abi : Seen fits.abi.Kinds.ps fits.abi.Kinds.r fits.abi.Reads.Learnt (λ κs x s. ended x)
+write-fits-abi κs a x y s t p q = tried-same p q
+
+pub write-fits-filled : Seen fits.filled.Kinds.ps fits.filled.Kinds.r fits.filled.Reads.Learnt (λ κs x s. ended x)
+write-fits-filled κs a x y s t p q = tried-same p q
+
+pub write-fits-ignored : Seen fits.ignored.Kinds.ps fits.ignored.Kinds.r fits.ignored.Reads.Learnt (λ κs x s. ended x)
+write-fits-ignored κs a x y s t p q = tried-same p q
+
+pub write-fits-pad : Seen fits.pad.Kinds.ps fits.pad.Kinds.r fits.pad.Reads.Learnt (λ κs x s. ended x)
+write-fits-pad κs a x y s t p q = tried-same p q
+
+pub write-fits-times : Seen fits.times.Kinds.ps fits.times.Kinds.r fits.times.Reads.Learnt (λ κs x s. ended x)
+write-fits-times κs a x y s t p q = tried-same p q
+
+pub write-fits-values : Seen fits.values.Kinds.ps fits.values.Kinds.r fits.values.Reads.Learnt (λ κs x s. ended x)
+write-fits-values κs a x y s t p q = tried-same p q
+
+pub write-fits-earlier : Seen fits.earlier.Kinds.ps fits.earlier.Kinds.r fits.earlier.Reads.Learnt (λ κs x s. ended x)
+write-fits-earlier κs a x y s t p q = tried-same p q
+
+pub write-fits-registers : Seen fits.registers.Kinds.ps fits.registers.Kinds.r fits.registers.Reads.Learnt (λ κs x s. ended x)
+write-fits-registers κs a x y s t p q = tried-same p q
+
+pub write-fits-listed : Seen fits.listed.Kinds.ps fits.listed.Kinds.r fits.listed.Reads.Learnt (λ κs x s. ended x)
+write-fits-listed κs a x y s t p q = tried-same p q
+
+pub write-fits-bytes : Seen fits.bytes.Kinds.ps fits.bytes.Kinds.r fits.bytes.Reads.Learnt (λ κs x s. ended x)
+write-fits-bytes κs a x y s t p q = tried-same p q
+
+pub write-fits-name : Seen fits.name.Kinds.ps fits.name.Kinds.r fits.name.Reads.Learnt (λ κs x s. ended x)
+write-fits-name κs a x y s t p q = tried-same p q
+
+pub write-fits-registers-by : Result fits.registers_by.Kinds.ps fits.registers_by.Kinds.r fits.registers_by.Reads.Learnt
+write-fits-registers-by κs a x y s t p q = same p q
+
+pub write-fits-group-bytes : Result fits.group_bytes.Kinds.ps fits.group_bytes.Kinds.r fits.group_bytes.Reads.Learnt
+write-fits-group-bytes κs a x y s t p q = same (p .0) (q .0)
+
+pub fit-chains-fields : Seen tests.fields.Kinds.ps tests.fields.Kinds.r tests.fields.Reads.Learnt (λ κs x s. ended x)
+fit-chains-fields κs a x y s t p q = tried-same p q
+
+pub fit-chains-trail : Seen tests.trail.Kinds.ps tests.trail.Kinds.r tests.trail.Reads.Learnt (λ κs x s. ended x)
+fit-chains-trail κs a x y s t p q = tried-same p q
+
+pub fit-chains-trailer-bits : Result tests.trailer_bits.Kinds.ps tests.trailer_bits.Kinds.r tests.trailer_bits.Reads.Learnt
+fit-chains-trailer-bits κs a x y s t p q = same p q
+
+pub fit-chains-own-end : Result tests.own_end.Kinds.ps tests.own_end.Kinds.r tests.own_end.Reads.Learnt
+fit-chains-own-end κs a x y s t p q = same (p .0) (q .0)
+
+pub write-puts-header-buffer : Seen puts.header.Kinds.ps puts.header.Kinds.r puts.header.Reads.Learnt (λ κs x s. now (s .1 .1 .1 .0))
+write-puts-header-buffer κs a x y s t p q = same p q
+
+pub fast-write : Result straight.write.Kinds.ps straight.write.Kinds.r straight.write.Reads.Learnt
+fast-write κs a x y s t p q = same (p .0) (q .0)
+
+pub fast-write-buffer : Seen straight.write.Kinds.ps straight.write.Kinds.r straight.write.Reads.Learnt (λ κs x s. now (s .1 .1 .1 .1 .0))
+fast-write-buffer κs a x y s t p q = same (p .1) (q .1)
