@@ -99,7 +99,7 @@ use Rattle.writer.proofs as writer
 use Rattle.writer_items.specs.Tries.{unfit}
 use Rattle.writer_parts.specs.Parts.{tryItems}
 use Rattle.write_fits.proofs as fits
-use Rattle.write_fits.specs.declared.Walked.{Walked}
+use Rattle.write_fits.specs.declared.Walked.{Walked as Reached}
 use Rattle.write_fits.specs.Steps.{stateOf, tryFrom, Tried}
 use Rattle.write_puts.proofs as puts
 use Rattle.fit_chains.proofs as tests
@@ -1166,10 +1166,10 @@ write-buffer κs a x y s t p q = same (p .1) (q .1)
 
 -- ---- the straight writer: of an item, or of a type's items, whether they fit, and if so the place and the counts after them
 
-abbrev ended : Walked → Cursor
+abbrev ended : Reached → Cursor
 ended x = cond (x .bad) unfit (stateOf x)
 
-tried-same : {is : List Item} {src ws : List ℕ} {w : ℕ} {c x y : Walked} → Tried is src ws w c x → Tried is src ws w c y → ended x ≡ ended y
+tried-same : {is : List Item} {src ws : List ℕ} {w : ℕ} {c x y : Reached} → Tried is src ws w c x → Tried is src ws w c y → ended x ≡ ended y
 unfolding tryFrom tryItems
 tried-same {is} {src} {ws} {w} {c} {x} {y} t u = go (x .bad) (y .bad) refl refl
   where
