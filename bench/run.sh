@@ -269,7 +269,7 @@ one_by_one() { # MODE TITLE
   while read -r what; do
     careful=$(one_of "careful_$1" "$1" careful "$what") && ours=$(one_of "ollskuvan_$1" "$1" ours "$what") || die "a $1 was not counted: $what"
     awk -v what="$what" -v c="$careful" -v o="$ours" 'BEGIN { printf "%-20s%10.1f%10.1f%8.2f\n", what, c, o, o / c }'
-  done < <("$program" "${1}s-list")
+  done < <("$program" ones-list)
 }
 
 # instructions of one record check

@@ -91,13 +91,13 @@ int compare_reads(uint64_t rings, uint64_t seed)
 }
 #endif
 
-/* ---- one reader, for a counter ---- */
+/* ---- one call at a time, for a counter: the names ---- */
 
 static const char *const types[22] = { NULL, "MMAP", "LOST", "COMM", "EXIT", "THROTTLE", "UNTHROTTLE", "FORK", "READ", "SAMPLE",
     "MMAP2", "AUX", "ITRACE_START", "LOST_SAMPLES", "SWITCH", "SWITCH_CPU_WIDE", "NAMESPACES", "KSYMBOL", "BPF_EVENT", "CGROUP",
     "TEXT_POKE", "AUX_OUTPUT_HW_ID" };
 
-int list_reads(void)
+int list_ones(void)
 {
     for (unsigned which = 0; which < MADE_WORKLOADS; which++)
         printf("%s\n", made_workload_names[which]);
@@ -105,6 +105,20 @@ int list_reads(void)
         printf("%s\n", types[type]);
     return 0;
 }
+
+enum one one_named(const char *what, unsigned *number)
+{
+    for (*number = 0; *number < MADE_WORKLOADS; ++*number)
+        if (strcmp(what, made_workload_names[*number]) == 0)
+            return ONE_WORKLOAD;
+    for (*number = 1; *number < 22; ++*number)
+        if (strcmp(what, types[*number]) == 0)
+            return ONE_TYPE;
+    fprintf(stderr, "bench: no such workload or type: %s (see: bench ones-list)\n", what);
+    return ONE_UNKNOWN;
+}
+
+/* ---- one reader, for a counter ---- */
 
 static int run_type(read_function *read, unsigned type)
 {
@@ -142,12 +156,10 @@ static int run_workload(read_function *read, enum made_workload which)
 int run_reads(const char *whose, const char *what)
 {
     read_function *read = strcmp(whose, "ours") == 0 ? OUR_READ : careful_read;
-    for (unsigned which = 0; which < MADE_WORKLOADS; which++)
-        if (strcmp(what, made_workload_names[which]) == 0)
-            return run_workload(read, which);
-    for (unsigned type = 1; type < 22; type++)
-        if (strcmp(what, types[type]) == 0)
-            return run_type(read, type);
-    fprintf(stderr, "bench: no such workload or type: %s (see: bench reads-list)\n", what);
-    return 2;
+    unsigned number;
+    switch (one_named(what, &number)) {
+    case ONE_WORKLOAD: return run_workload(read, number);
+    case ONE_TYPE: return run_type(read, number);
+    default: return 2;
+    }
 }

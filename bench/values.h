@@ -13,8 +13,12 @@ uint32_t careful_read(const uint8_t *record, size_t record_len, uint64_t sample_
 /* Both readers of the records of so many made rings: the same answers, the same words. The exit status. */
 int compare_reads(uint64_t rings, uint64_t seed);
 
-/* The names of what one reader is counted on: the three workloads, then a record of each type. */
-int list_reads(void);
+/* The names of what one call is counted on: the three workloads, then a record of each type. */
+int list_ones(void);
+
+/* What a name names, and its number; an unknown one is said. */
+enum one { ONE_WORKLOAD, ONE_TYPE, ONE_UNKNOWN };
+enum one one_named(const char *what, unsigned *number);
 
 /* Every record of a workload, or a record of one type a hundred times, for a counter of instructions. Prints the number of
  * records. */

@@ -5,32 +5,13 @@
 #include <string.h>
 
 #include "bench.h"
+#include "values.h"
 #include "writes.h"
 
 typedef uint32_t write_function(const uint64_t *, size_t, const uint8_t *, size_t, uint64_t, uint64_t, uint32_t, uint64_t,
     uint64_t, uint64_t, uint32_t, uint8_t *, size_t);
 
 enum { WORDS = 56, TURNS = 100, ANSWERS = 64 };
-
-static const char *const types[22] = { NULL, "MMAP", "LOST", "COMM", "EXIT", "THROTTLE", "UNTHROTTLE", "FORK", "READ", "SAMPLE",
-    "MMAP2", "AUX", "ITRACE_START", "LOST_SAMPLES", "SWITCH", "SWITCH_CPU_WIDE", "NAMESPACES", "KSYMBOL", "BPF_EVENT", "CGROUP",
-    "TEXT_POKE", "AUX_OUTPUT_HW_ID" };
-
-static uint32_t run_write(write_function *write, const uint64_t *words, size_t count, const uint8_t *source, size_t length,
-    const struct made_attributes *a, uint32_t edition, uint8_t *buffer, size_t room)
-{
-    return write(words, count, source, length, a->sample_type, a->read_format, a->sample_id_all, a->user_mask,
-        a->interrupt_mask, a->branch_sample_type, edition, buffer, room);
-}
-
-int list_writes(void)
-{
-    for (unsigned which = 0; which < MADE_WORKLOADS; which++)
-        printf("%s\n", made_workload_names[which]);
-    for (unsigned type = 1; type < 22; type++)
-        printf("%s\n", types[type]);
-    return 0;
-}
 
 #ifdef WITHOUT_VALUES
 int compare_writes(uint64_t rings, uint64_t seed)
@@ -47,6 +28,13 @@ int run_writes(const char *whose, const char *what)
     return 2;
 }
 #else
+
+static uint32_t run_write(write_function *write, const uint64_t *words, size_t count, const uint8_t *source, size_t length,
+    const struct made_attributes *a, uint32_t edition, uint8_t *buffer, size_t room)
+{
+    return write(words, count, source, length, a->sample_type, a->read_format, a->sample_id_all, a->user_mask,
+        a->interrupt_mask, a->branch_sample_type, edition, buffer, room);
+}
 
 static uint32_t value_of(const uint8_t *record, size_t size, const struct made_attributes *a, uint32_t edition, uint64_t *words)
 {
@@ -187,13 +175,11 @@ static int run_workload(write_function *write, enum made_workload which)
 int run_writes(const char *whose, const char *what)
 {
     write_function *write = strcmp(whose, "ours") == 0 ? ollskuvan_write : careful_write;
-    for (unsigned which = 0; which < MADE_WORKLOADS; which++)
-        if (strcmp(what, made_workload_names[which]) == 0)
-            return run_workload(write, which);
-    for (unsigned type = 1; type < 22; type++)
-        if (strcmp(what, types[type]) == 0)
-            return run_type(write, type);
-    fprintf(stderr, "bench: no such workload or type: %s (see: bench writes-list)\n", what);
-    return 2;
+    unsigned number;
+    switch (one_named(what, &number)) {
+    case ONE_WORKLOAD: return run_workload(write, number);
+    case ONE_TYPE: return run_type(write, number);
+    default: return 2;
+    }
 }
 #endif

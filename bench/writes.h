@@ -14,9 +14,6 @@ uint32_t careful_write(const uint64_t *fields, size_t fields_len, const uint8_t 
  * answers, the same bytes. The exit status. */
 int compare_writes(uint64_t rings, uint64_t seed);
 
-/* The names of what one writer is counted on: the three workloads, then a record of each type. */
-int list_writes(void);
-
 /* The value of every record of a workload, or of one type a hundred times, for a counter of instructions. Prints the
  * number of records. */
 int run_writes(const char *whose, const char *what);
