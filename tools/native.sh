@@ -42,8 +42,13 @@ words_of() { # CRATE
 # the object for this machine, of what was kept
 compile() { # OBJECT
   "$own/toolchain/bin/clang" -x ir "$work/module.bc" -S -emit-llvm -O0 -Xclang -disable-llvm-passes -Wno-override-module -o "$work/module.ll"
-  sed -i -e 's/ "target-cpu"="[^"]*"//; s/ "target-features"="[^"]*"//; s/ "tune-cpu"="[^"]*"//' "$work/module.ll"
-  "$own/toolchain/bin/clang" -O3 -fPIC -ffunction-sections -fdata-sections -c -x ir "$work/module.ll" -o "$1"
+  # an export that tells a struct in memory is made for x86-64, where its place is the first argument and is handed back: here it is marked as what it is
+  sed -e 's/ "target-cpu"="[^"]*"//; s/ "target-features"="[^"]*"//; s/ "tune-cpu"="[^"]*"//' "$work/module.ll" |
+    awk '/^define (noundef )?ptr @[a-z_]+\(ptr noundef %a0/ { sub(/define (noundef )?ptr/, "define void"); sub(/ptr noundef %a0/, "ptr noundef sret([8 x i8]) align 8 %a0"); told = 1 }
+      told && /^  ret ptr / { $0 = "  ret void" }
+      /^}/ { told = 0 }
+      { print }' >"$work/native.ll"
+  "$own/toolchain/bin/clang" -O3 -fPIC -ffunction-sections -fdata-sections -c -x ir "$work/native.ll" -o "$1"
 }
 
 exports=$(sed -n "s/^exports='\(.*\)'$/\1/p" tools/library.sh)
