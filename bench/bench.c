@@ -23,13 +23,20 @@
  *   bench rings-once WHAT NUMBER   rings of a workload, alike but for ignored bytes, for callgrind: compare, read or drain
  *   bench salvage-once WHOSE STREAM   one salvage, for callgrind; prints the stream's words of 8 bytes
  *   bench check WHOSE NUMBER       record check of each record of a workload, for callgrind: careful or ours
+ *   bench reads [RINGS [SEED]]     careful C and ollskuvan_read on the records of the same rings
+ *   bench read WHOSE WHAT          ollskuvan_read or careful C's of each record of a workload, or of one record of a type, for callgrind
+ *   bench writes [RINGS [SEED]]    careful C and ollskuvan_write on the values of the same rings' records
+ *   bench write WHOSE WHAT         ollskuvan_write or careful C's of the values of a workload, or of one record of a type, for callgrind
+ *   bench ones-list                the names that `read` and `write` take
  *   bench once DRAIN WORKLOAD [BUDGET]   one drain, for callgrind; prints the number of records; 0: of an empty ring
  *   bench list                     the names that `once` takes
  */
 #include "bench.h"
 #include "kinds.h"
 #include "stores.h"
+#include "values.h"
 #include "walks.h"
+#include "writes.h"
 
 #include <errno.h>
 #include <stdlib.h>
@@ -171,6 +178,7 @@ static int usage(void)
                     "       bench stores [STORES [SEED]] | store-times [ROUNDS] | store WHOSE CALL EVENTS\n"
                     "       bench compare-replay [TRACES [SEED]] | replay [ROUNDS] | replay-once WHOSE [CALLS]\n"
                     "       bench compare-salvage [STREAMS [SEED]] | salvage [ROUNDS] | salvage-once WHOSE STREAM [CALLS]\n"
+                    "       bench reads [RINGS [SEED]] | read WHOSE WHAT | writes [RINGS [SEED]] | write WHOSE WHAT | ones-list\n"
                     "       bench compare-rings [RINGS [SEED]] | rings [ROUNDS] | rings-once WHAT NUMBER\n");
     return 2;
 }
@@ -204,6 +212,16 @@ int main(int argc, char **argv)
         return run_once(argv[2], argv[3], argc > 4 ? number(argv[4], 0, UINT64_MAX) : UINT64_MAX);
     if (strcmp(mode, "check") == 0 && argc == 4)
         return run_checks(argv[2], (enum made_workload)number(argv[3], 0, MADE_WORKLOADS - 1));
+    if (strcmp(mode, "reads") == 0 && argc <= 4)
+        return compare_reads(argc > 2 ? number(argv[2], 1, UINT64_MAX) : 10000, argc > 3 ? number(argv[3], 0, UINT64_MAX) : 1);
+    if (strcmp(mode, "ones-list") == 0 && argc == 2)
+        return list_ones();
+    if (strcmp(mode, "read") == 0 && argc == 4)
+        return run_reads(argv[2], argv[3]);
+    if (strcmp(mode, "writes") == 0 && argc <= 4)
+        return compare_writes(argc > 2 ? number(argv[2], 1, UINT64_MAX) : 10000, argc > 3 ? number(argv[3], 0, UINT64_MAX) : 1);
+    if (strcmp(mode, "write") == 0 && argc == 4)
+        return run_writes(argv[2], argv[3]);
     if (strcmp(mode, "kinds") == 0 && argc <= 3)
         return argc > 2 ? run_kinds(argv[2], false) : compare_kinds();
     if (strcmp(mode, "table-kinds") == 0 && argc <= 3)

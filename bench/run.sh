@@ -4,7 +4,7 @@
 #   bench/run.sh                 all of it: the comparison, times, ring sizes, values, instructions
 #   bench/run.sh --short         the comparison alone, without a table and with one, and of replay, and of salvage: fails only if careful C and ours
 #                                differ (the gate)
-#   bench/run.sh --time | --sizes | --values | --instructions | --kinds | --tables | --stores | --replay | --walks | --salvage | --compare    one part, after a short comparison
+#   bench/run.sh --time | --sizes | --values | --reads | --writes | --instructions | --kinds | --tables | --stores | --replay | --walks | --salvage | --compare    one part, after a short comparison
 #   bench/run.sh --sanitize      the comparison with address and undefined-behaviour sanitizers on the C side
 #
 # Options before the part: --library FILE (an archive other than target/staticlib/libollskuvan.a),
@@ -26,7 +26,7 @@ while [ $# -gt 0 ]; do
     --rings) [ $# -gt 1 ] || die "--rings needs a number"; rings=$2; shift ;;
     --seed) [ $# -gt 1 ] || die "--seed needs a number"; seed=$2; shift ;;
     --rounds) [ $# -gt 1 ] || die "--rounds needs a number"; rounds=$2; shift ;;
-    --short | --time | --sizes | --values | --instructions | --kinds | --tables | --walks | --stores | --replay | --salvage | --compare | --sanitize) part=${1#--} ;;
+    --short | --time | --sizes | --values | --reads | --writes | --instructions | --kinds | --tables | --walks | --stores | --replay | --salvage | --compare | --sanitize) part=${1#--} ;;
     -h | --help) sed -n '2,12p' "$0" | sed 's/^# \{0,1\}//'; exit 0 ;;
     *) die "unknown argument: $1 (see --help)" ;;
   esac
@@ -92,7 +92,7 @@ if [ "$part" = sanitize ]; then
   program=$out/bench-sanitized
 fi
 # shellcheck disable=SC2086 # the flags are words
-gcc $flags -o "$program" bench/bench.c bench/compare.c bench/timing.c bench/made.c bench/kinds.c bench/replay.c bench/salvage.c bench/rings.c bench/careful.c bench/careful_check.c bench/careful_replay.c bench/careful_store.c bench/stores.c bench/careful_walk.c bench/walks.c bench/careful_salvage.c bench/floor.c "$library" $link ||
+gcc $flags -o "$program" bench/bench.c bench/compare.c bench/timing.c bench/made.c bench/kinds.c bench/replay.c bench/salvage.c bench/rings.c bench/careful.c bench/careful_check.c bench/careful_read.c bench/values.c bench/careful_write.c bench/writes.c bench/careful_replay.c bench/careful_store.c bench/stores.c bench/careful_walk.c bench/walks.c bench/careful_salvage.c bench/floor.c "$library" $link ||
   die "the bench does not build"
 
 # instructions of one drain under callgrind, which repeat exactly
@@ -255,6 +255,23 @@ alike() {
   paste "$out/alike.compare" "$out/alike.read" | awk '{ printf "%16.3f", $1 / $2 } END { print "" }'
 }
 
+# instructions of one call with one record or value, of both: the workloads, then a record of each type; by callgrind, or under an emulator by
+# bench/count.sh
+one_of() { # FUNCTION MODE WHOSE WHAT
+  if [ -n "${OLLSKUVAN_EMULATED:-}" ]; then bench/count.sh "$1" "$program" "$2" "$3" "$4"
+  else valgrind --tool=callgrind --toggle-collect="$1" --callgrind-out-file=/dev/null "$program" "$2" "$3" "$4"; fi 2>&1 </dev/null |
+    awk '/^records/ { n = $2 } /Collected/ { c = $NF } END { if (n > 0 && c > 0) printf "%.1f\n", c / n; else exit 1 }'
+}
+one_by_one() { # MODE TITLE
+  local what careful ours
+  [ -n "${OLLSKUVAN_EMULATED:-}" ] || command -v valgrind >/dev/null || { echo "bench: ${1}s skipped: valgrind is missing"; return 0; }
+  printf '\ninstructions of %s\n%-20s%10s%10s%8s\n' "$2" '' careful ours ratio
+  while read -r what; do
+    careful=$(one_of "careful_$1" "$1" careful "$what") && ours=$(one_of "ollskuvan_$1" "$1" ours "$what") || die "a $1 was not counted: $what"
+    awk -v what="$what" -v c="$careful" -v o="$ours" 'BEGIN { printf "%-20s%10.1f%10.1f%8.2f\n", what, c, o, o / c }'
+  done < <("$program" ones-list)
+}
+
 # instructions of one record check
 checks() {
   local whose name which log=$out/callgrind.log
@@ -289,16 +306,18 @@ kinds() { # kinds|table-kinds
 }
 
 case "$part" in
-  short) "$program" stores $((rings / 2)) "$seed" || exit 1; "$program" kinds || exit 1; "$program" table-kinds || exit 1; "$program" compare "$rings" "$seed" || exit 1; "$program" tables $((rings / 2)) "$seed" || exit 1
+  short) "$program" stores $((rings / 2)) "$seed" || exit 1; "$program" kinds || exit 1; "$program" table-kinds || exit 1; "$program" reads $((rings / 4)) "$seed" || exit 1; "$program" writes $((rings / 10)) "$seed" || exit 1; "$program" compare "$rings" "$seed" || exit 1; "$program" tables $((rings / 2)) "$seed" || exit 1
     "$program" compare-replay $((rings / 10)) "$seed" || exit 1; "$program" walks $((rings / 2)) "$seed" || exit 1
     "$program" compare-salvage $((rings / 10)) "$seed" || exit 1; "$program" compare-rings $((rings / 20)) "$seed" || exit 1 ;;
-  sanitize) "$program" stores $((rings / 2)) "$seed" || exit 1; "$program" compare "$rings" "$seed" || exit 1; "$program" tables $((rings / 2)) "$seed" || exit 1
+  sanitize) "$program" stores $((rings / 2)) "$seed" || exit 1; "$program" reads $((rings / 4)) "$seed" || exit 1; "$program" writes $((rings / 10)) "$seed" || exit 1; "$program" compare "$rings" "$seed" || exit 1; "$program" tables $((rings / 2)) "$seed" || exit 1
     "$program" compare-replay $((rings / 10)) "$seed" || exit 1; "$program" walks $((rings / 2)) "$seed" || exit 1
     "$program" compare-salvage $((rings / 10)) "$seed" || exit 1; "$program" compare-rings $((rings / 20)) "$seed" || exit 1 ;;
   *)
     "$program" stores $((rings / 2)) "$seed" || die "no times: the two differ on a store"
+    "$program" writes $((rings / 10)) "$seed" || die "no times: the writers of one record differ"
     "$program" kinds || die "no times: the drains differ, or a kind is missing"
     "$program" table-kinds || die "no times: the drains with a table differ"
+    "$program" reads $((rings / 4)) "$seed" || die "no times: the readers of one record differ"
     "$program" compare "$rings" "$seed" || die "no times: the drains differ"
     "$program" tables $((rings / 2)) "$seed" || die "no times: the drains with a table differ"
     "$program" compare-replay $((rings / 10)) "$seed" || die "no times: the replays differ"
@@ -312,7 +331,9 @@ case "$part" in
     case "$part" in all | compare) "$program" rings $rounds || exit 1; alike || exit 1 ;; esac
     case "$part" in all | sizes) "$program" sizes $rounds || exit 1 ;; esac
     case "$part" in all | values) "$program" values $rounds || exit 1 ;; esac
+    case "$part" in all | reads) one_by_one read 'a read of one record into words' || exit 1 ;; esac
     case "$part" in all | instructions) instructions && instructions 1 && checks || exit 1 ;; esac
+    case "$part" in all | writes) one_by_one write 'a write of one value' || exit 1 ;; esac
     case "$part" in all | stores) stores || exit 1 ;; esac
     case "$part" in all | instructions | tables) tables && tables 0 && tables 1 && tables 32 || exit 1 ;; esac
     case "$part" in all | instructions | walks) walks || exit 1 ;; esac

@@ -19,7 +19,7 @@
  *
  * Stack: a call that is lent no table of events and no store needs at most 2,560
  * bytes, any other at most 11,264, but for ollskuvan_read_store (16,640), and
- * ollskuvan_drain_events and ollskuvan_walk_back_events (163,840, whatever the
+ * ollskuvan_drain_events and ollskuvan_walk_back_events (90,112, whatever the
  * table's length): a call's return address and what it calls included (measured on
  * a painted stack). Besides its own code a call needs the C library's memcpy and
  * memset alone. No function calls itself, so no input makes it more.
@@ -59,8 +59,8 @@ extern "C" {
 #endif
 
 /* The version of this header and its library: 4.2.0 is 40200. */
-#define OLLSKUVAN_VERSION "4.0.0"
-#define OLLSKUVAN_VERSION_NUMBER 40000
+#define OLLSKUVAN_VERSION "4.1.0"
+#define OLLSKUVAN_VERSION_NUMBER 40100
 
 /* ------------------------------------------------------------------------
  * Editions: what is known of sample bits and record types.

@@ -144,6 +144,8 @@ part "salvage of damaged streams: $((values / 5)) streams, seed $seed" \
     "$out/reader" salvages --count $((values / 5)) --seed "$seed"
 part "two rings compared: $((values / 5)) pairs, seed $seed" \
     "$out/reader" compares --count $((values / 5)) --seed "$seed"
+part "where two requests meet: $((values / 5)) meetings, seed $seed" \
+    "$out/reader" meets --count $((values / 5)) --seed "$seed"
 part "what misc means" "$out/reader" meanings --count "$values" --seed "$seed"
 part "real rings" "$out/reader" rings rings
 part "real rings of several events" "$out/reader" table-rings rings/events --seed "$seed"
@@ -158,6 +160,8 @@ fi
 # shellcheck disable=SC2086
 part "what ringdump prints" "$out/reader" images $ringdump --rings rings --folder "$out" --seed "$seed" --count 400
 part "damaged real rings: 5000 cases, seed $seed" "$out/reader" damaged --rings rings --seed "$seed" --count 5000
-[ $mode = standin ] || part "fuzzing, if clang is there" tests/fuzz/run.sh 100000 "$seed"
+# under an emulator it is some forty times slower
+[ -z "${OLLSKUVAN_EMULATED:-}" ] && fuzzed=100000 || fuzzed=10000
+[ $mode = standin ] || part "fuzzing, if clang is there" tests/fuzz/run.sh $fuzzed "$seed"
 
 echo "outside tests: $parts parts done in $(($(date +%s) - begun)) s, none failed"

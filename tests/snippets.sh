@@ -14,7 +14,7 @@ page=docs/CONTROLLER.md
 out=target/snippets
 archive=target/staticlib/libollskuvan.a
 header=include/ollskuvan.h
-scenes='store step readers flight numbers'
+scenes='store step readers flight kept numbers'
 
 wrong() { echo "snippets: $*"; exit 1; }
 
@@ -113,6 +113,10 @@ s/^        d\.tail = head;$/        (void)head;/
 s/look_at\(r, head \+ w\.bytes, /look_at(r, head, /
 s/journal \+ \(i - 1\) \* /journal + i * /
 s/r->scratch, sizeof r->scratch, f, OLLSKUVAN_FIELDS\)/r->scratch, sizeof r->scratch, f, 1)/
+s/r->set\.edition, f, OLLSKUVAN_FIELDS\)\.answer/r->set.edition, f, 1).answer/
+s/^(    return &r->table\[j\.inspected) - 1\];/\1];/
+s/^(    if \(j\.inspected == 0) \|\| .*$/\1)/
+s/^(    if \()j\.inspected == 0 \|\| /\1/
 s/^- 13, `OLLSKUVAN_STOP_OVERWRITTEN`/- 12, `OLLSKUVAN_STOP_OVERWRITTEN`/
 s/^- 27, `OLLSKUVAN_REFUSED_NO_IDENTIFIER`/- 27/
 s/^```output flight$/```output walk/

@@ -137,6 +137,33 @@ cmp -s <(sed -n '/^record 0/,$p' $out/event.txt) <(sed -n '/^record 0/,$p' $out/
 table_of 0x0 0x20009
 $tool dump $out/event.img | grep -q ' 1 refused$' || wrong "dump takes another event's branch sample type"
 
+# ---- two events with branch stacks, the one with the hardware index, the other without: each by its own branch sample type
+word() { printf '\\%03o\\%03o\\0\\0\\0\\0\\0\\0' $(($1 & 255)) $(($1 >> 8)); }
+words() { for n; do word "$n"; done; }
+sample() { printf '\\011\\0\\0\\0\\0\\0\\%03o\\0' $((8 + 8 * $#)) && words "$@"; }
+printf %b "$(words 128 0)" '\0\010\001\0\0\0\0\0' "$(words 0 0 0)" '\004\001' \
+  "$(sample 7 2 1025 1 2 0 3 4 0)" "$(sample 8 1 5 6 0)" >$out/branches.img
+branch_types() { printf '%s 0x10800 0 0 0 %s 1\n' 7 "$1" 8 "$2" >$out/branches.table; }
+branch_types 0x20009 0x9
+$tool dump $out/branches.img | sed -n '/^record 0/,$p' >$out/branches.txt
+diff - $out/branches.txt >$out/branches.diff <<'END' || { wrong "dump of two events with branch stacks"; head -n 5 $out/branches.diff; }
+record 0 at tail 0: SAMPLE, type 9, misc 0x0, size 80
+    identifier          7
+    hardware index      0x401
+    branches            2 entries, 48 bytes at 32
+        from 0x1 to 0x2 flags 0x0
+        from 0x3 to 0x4 flags 0x0
+record 1 at tail 80: SAMPLE, type 9, misc 0x0, size 48
+    identifier          8
+    branches            1 entry, 24 bytes at 24
+        from 0x5 to 0x6 flags 0x0
+stop 0 tail 128: nothing to take
+2 records, 128 bytes, 0 refused
+END
+branch_types 0x9 0x20009
+$tool dump $out/branches.img | grep -q ' 2 refused$' || wrong "dump of two events with each other's branch sample types"
+tried=$((tried + 1))
+
 # ---- rings of several events: with the table beside them no record is refused; without it some are
 for image in rings/events/*.img; do
   name=events-$(basename "$image" .img)

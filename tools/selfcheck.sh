@@ -40,6 +40,8 @@ done
 borrowed=$(grep -rhoE '^use Rattle·[a-z_]+\.proofs\.[A-Za-z0-9]+' --include='*.antt' crates | sort -u | sed 's/^use Rattle·//' |
   while IFS=. read -r crate _ file; do [ -f "crates/$crate/proofs/$file.antt" ] && echo "$crate/proofs/$file"; done)
 [ -n "$borrowed" ] && say "laws that are taken out of another crate's proofs: $borrowed"
+python3 tools/chains.py --check || say 'crate chains is not what its script writes'
+python3 tools/write_chains.py --check || say 'crates fit_chains and put_chains are not what their script writes'
 bash tools/uniqueness.sh || say 'a public function has no theorem of uniqueness'
 bash tools/never_used.sh && bash tools/never_used.sh --teeth || say '10 has a meaning again'
 bash tools/slips.sh || say 'a slip of the definitions is not seen'

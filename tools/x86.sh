@@ -8,7 +8,7 @@
 #   tools/x86.sh line     prints the line that installs it
 #
 # The compilers' names for x86-64 stand in tools/x86/ (cc, gcc, g++, rustc): who needs them puts that folder first on the
-# PATH and sets OLLSKUVAN_EMULATED=1, which leaves out what an emulator cannot do (valgrind, sanitizers, live rings).
+# PATH and sets OLLSKUVAN_EMULATED=1, which leaves out what an emulator cannot do (valgrind, the address sanitizer, live rings).
 set -u
 cd "$(dirname "$0")/.." || exit 2
 packages='gcc-x86-64-linux-gnu g++-x86-64-linux-gnu libc6-dev-amd64-cross rustc libstd-rust-dev:amd64 qemu-user-static binfmt-support'

@@ -108,7 +108,17 @@ uint32_t ollskuvan_misc_meaning(uint64_t type, uint64_t misc)
 
 struct ollskuvan_published ollskuvan_publish(uint64_t ring_length, uint64_t head, uint64_t first, uint64_t second)
 {
-    return reader_publish(ring_length, head, first, second);
+    struct ollskuvan_published p = reader_publish(ring_length, head, first, second);
+
+    if (fault(81) && p.answer == OLLSKUVAN_OK) /* the nearer of the two tails */
+        p.tail = p.tail == first ? second : first;
+    if (fault(82) && p.answer == OLLSKUVAN_OK) /* the tails compared without the wrap */
+        p.tail = first < second ? first : second;
+    if (fault(83) && p.answer == OLLSKUVAN_STOP_ALIGNMENT && head - second > ring_length) /* the second reader's distance first */
+        p.answer = OLLSKUVAN_STOP_DISTANCE;
+    if (fault(84) && p.answer != OLLSKUVAN_OK) /* a tail told with a refusal */
+        p.tail = head;
+    return p;
 }
 
 uint32_t ollskuvan_copy_name(const uint8_t *record, size_t record_len, uint64_t place, uint64_t count,

@@ -8,16 +8,24 @@
 #   tests/fuzz/run.sh faults              the target tried on itself: the planted faults of faults.c, each must be found;
 #                                         FIRST=25 begins with number 25
 #
+# With OLLSKUVAN_EMULATED (tools/x86.sh) it is built for x86-64 and run under the emulator, without the address sanitizer,
+# which does not work there: the pages that cannot be touched do. With NATIVE=1 it takes the library that tools/native.sh
+# built for this machine, with both sanitizers: the same code for another processor, many more executions in a second.
+#
 # MAX_LEN is the longest input (default 1200 bytes: many executions in a second); SECONDS_AT_MOST ends a run
 # early. The corpus grows from run to run in target/fuzz/corpus; delete it to start from the seeds again.
 # Needs target/staticlib/libollskuvan.a, target/obj/ringdump.o, rustc (RUSTC, or rustc), and Debian's packages clang
-# and libclang-rt-dev (here: that of clang's own number). Where a package is missing it says so and ends with 0.
+# and libclang-rt-dev (here: that of clang's own number; under an emulator: that for amd64). Where a package is missing it
+# says so and ends with 0.
 set -eu
 cd "$(dirname "$0")/../.."
 
 out=target/fuzz
 archive=target/staticlib/libollskuvan.a
 program=target/obj/ringdump.o
+if [ -n "${NATIVE:-}" ]; then
+    out=target/native/fuzz archive=target/native/libollskuvan.a program=target/native/ringdump.o
+fi
 max_len=${MAX_LEN:-1200}
 rustc=${RUSTC:-rustc}
 
@@ -32,16 +40,27 @@ case $runs in
 esac
 seed=${2:-1}
 
-[ -z "${OLLSKUVAN_EMULATED:-}" ] || skip "programs run under an emulator, where the sanitizers do not"
 command -v clang >/dev/null || skip "clang is missing (Debian: apt-get install clang)"
 command -v "$rustc" >/dev/null || skip "$rustc is missing: the independent reader is written in Rust"
-command -v objcopy >/dev/null || skip "objcopy is missing (Debian: apt-get install binutils)"
+sanitizers=fuzzer,address,undefined objcopy=objcopy machine= of= signals= compares='-C llvm-args=-sanitizer-coverage-trace-compares'
+touched='AddressSanitizer: SEGV|AddressSanitizer: .*overflow' # what is said of a byte outside a slice
+if [ -n "${OLLSKUVAN_EMULATED:-}" ]; then
+    sanitizers=fuzzer,undefined objcopy=x86_64-linux-gnu-objcopy machine='--target=x86_64-linux-gnu -DEMULATED' of=:amd64
+    touched='libFuzzer: deadly signal'
+    # more than half of the time would go into telling libFuzzer of each comparison, and into wide vectors
+    machine="$machine -fno-sanitize-coverage=trace-cmp" compares=
+    export QEMU_CPU=qemu64,+popcnt
+    # see align_handlers in target.c: a signal that only ends the run needs no handler
+    signals='-handle_term=0 -handle_int=0'
+fi
+command -v $objcopy >/dev/null || skip "$objcopy is missing (Debian: apt-get install binutils)"
 mkdir -p "$out"
 number=$(clang -dumpversion | cut -d. -f1)
 echo 'int LLVMFuzzerTestOneInput(const char *b, unsigned long n) { return !b && n > n + 1; }' >"$out/probe.c"
-clang -fsanitize=fuzzer,address,undefined -o "$out/probe" "$out/probe.c" 2>/dev/null ||
-    skip "clang has no sanitizer libraries (Debian: apt-get install libclang-rt-$number-dev)"
-[ -f "$archive" ] || stop "$archive is missing: run 'make lib' first"
+# shellcheck disable=SC2086
+clang $machine -fsanitize=$sanitizers -o "$out/probe" "$out/probe.c" 2>/dev/null ||
+    skip "clang has no sanitizer libraries (Debian: apt-get install libclang-rt-$number-dev$of)"
+[ -f "$archive" ] || stop "$archive is missing: run 'make lib' (with NATIVE tools/native.sh) first"
 [ -f "$program" ] || stop "$program is missing: run 'rt check ringdump' first"
 
 without=
@@ -49,7 +68,8 @@ nm "$archive" 2>/dev/null | grep -q ' T ollskuvan_read$' || without=-DWITHOUT_VA
 
 libraries="-lpthread -ldl -lm"
 build() {
-    clang -std=gnu11 -Wall -Wextra -Werror -g -O2 -Iinclude -fsanitize=fuzzer,address,undefined \
+    # shellcheck disable=SC2086
+    clang $machine -std=gnu11 -Wall -Wextra -Werror -g -O2 -Iinclude -fsanitize=$sanitizers \
         -fno-sanitize-recover=undefined "$@"
 }
 
@@ -60,15 +80,16 @@ newer() { # newer MADE SOURCE...: it is there and no source is younger
 }
 
 # The independent reader with libFuzzer's coverage: the archive itself has none, so this leads the search.
+# shellcheck disable=SC2086
 newer "$out/libindependent.a" tests/reader tests/fuzz/run.sh ||
     "$rustc" --edition 2021 -O -C overflow-checks=on -C panic=abort -C codegen-units=1 --cfg own_names \
         --crate-type staticlib --crate-name independent -C passes=sancov-module \
         -C llvm-args=-sanitizer-coverage-level=4 -C llvm-args=-sanitizer-coverage-inline-8bit-counters \
-        -C llvm-args=-sanitizer-coverage-pc-table -C llvm-args=-sanitizer-coverage-trace-compares \
+        -C llvm-args=-sanitizer-coverage-pc-table $compares \
         -o "$out/libindependent.a" tests/reader/library.rs
 newer "$out/target" tests/fuzz tests/reader include "$archive" "$program" || {
     # ringdump as it was compiled, with its main, read and write under other names
-    objcopy --redefine-sym main=ringdump_main --redefine-sym read=ringdump_read \
+    $objcopy --redefine-sym main=ringdump_main --redefine-sym read=ringdump_read \
         --redefine-sym write=ringdump_write "$program" "$out/ringdump.o"
     # shellcheck disable=SC2086
     build -o "$out/target" $without tests/fuzz/target.c "$out/ringdump.o" "$out/libindependent.a" "$archive" $libraries
@@ -87,7 +108,8 @@ newer "$out/seeds/made-0" tests/reader rings || {
 mkdir -p "$out/corpus" "$out/found"
 
 if [ "$runs" = again ]; then
-    exec "$out/target" "$2"
+    # shellcheck disable=SC2086
+    exec "$out/target" $signals "$2"
 fi
 if [ "$runs" = faults ]; then
     build -c -o "$out/target.o" tests/fuzz/target.c
@@ -98,14 +120,15 @@ if [ "$runs" = faults ]; then
         # shellcheck disable=SC2086
         build -DFAULT=$number -o "$out/faulty" "$out/target.o" tests/fuzz/faults.c "$out/ringdump.o" \
             "$out/libindependent.a" $libraries
-        if "$out/faulty" -runs=1000000 -seed="$seed" -max_len="$max_len" -detect_leaks=0 -artifact_prefix="$out/planted-" \
+        # shellcheck disable=SC2086
+        if "$out/faulty" $signals -runs=1000000 -seed="$seed" -max_len="$max_len" -detect_leaks=0 -artifact_prefix="$out/planted-" \
             -dict=tests/fuzz/ollskuvan.dict "$out/seeds" >"$out/log" 2>&1; then
             stop "planted fault $number was not found"
         fi
-        grep -qE '^DIFFERENCE|AddressSanitizer: SEGV|AddressSanitizer: .*overflow' "$out/log" ||
+        grep -qE "^DIFFERENCE|$touched" "$out/log" ||
             stop "planted fault $number ended otherwise, see $out/log"
         when=$(grep -E '^#[0-9]' "$out/log" | tail -n 1 | cut -f1)
-        how=$(grep -oE '^DIFFERENCE: .*|AddressSanitizer: [A-Za-z-]*' "$out/log" | head -n 1 | cut -c1-80)
+        how=$(grep -oE '^DIFFERENCE: .*|AddressSanitizer: [A-Za-z-]*|libFuzzer: deadly signal' "$out/log" | head -n 1 | cut -c1-80)
         echo "fault $number: found, ${when:-among the seeds}: $how"
         rm -f "$out"/planted-*
         found=$((found + 1))
@@ -118,7 +141,8 @@ fi
 [ -z "$without" ] || echo "== the archive has no read and write: they are left out"
 begun=$(date +%s)
 # libFuzzer counts the corpus it starts from as executions too.
-"$out/target" -runs="$runs" -seed="$seed" -max_len="$max_len" -max_total_time="${SECONDS_AT_MOST:-0}" \
+# shellcheck disable=SC2086
+"$out/target" $signals -runs="$runs" -seed="$seed" -max_len="$max_len" -max_total_time="${SECONDS_AT_MOST:-0}" \
     -dict=tests/fuzz/ollskuvan.dict -detect_leaks=0 -print_final_stats=1 -artifact_prefix="$out/found/" \
     "$out/corpus" "$out/seeds" 2>"$out/log" || {
     grep -v '^#' "$out/log" | head -c 60000 >&2

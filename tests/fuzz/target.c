@@ -32,6 +32,7 @@
  * tests/reader/fuzz.rs makes seeds and mutations in this layout.
  */
 #include <inttypes.h>
+#include <signal.h>
 #include <stdarg.h>
 #include <stdint.h>
 #include <stdio.h>
@@ -193,11 +194,9 @@ static uint8_t *lend(enum slice slice, const void *bytes, size_t count)
 static void guards_are_kept(enum slice slice, const uint8_t *place, size_t count)
 {
     const uint8_t *guard = in.control[1] & AT_START ? place + count : place - GUARD;
-    int i;
 
-    for (i = 0; i < GUARD; i++)
-        if (guard[i] != 0xa5)
-            differs("a byte beside slice %d was written to", (int)slice);
+    if (guard[0] != 0xa5 || memcmp(guard, guard + 1, GUARD - 1))
+        differs("a byte beside slice %d was written to", (int)slice);
 }
 
 static void is_kept(enum slice slice, const uint8_t *place, const void *bytes, size_t count)
@@ -976,6 +975,11 @@ static void try_compare(void)
     compare(&left, in.tail, &right, in.tail + shift, scratch_len);
     if (distance == 0 || distance > left.length)
         return;
+    /* the right side ends behind its first record */
+    right.head = in.tail + shift + (other[(in.tail + shift + 6) % left.length] & ~7u) % distance;
+    compare(&left, in.tail, &right, in.tail + shift, scratch_len);
+    compare(&right, in.tail + shift, &left, in.tail, scratch_len);
+    right.head = left.head + shift;
     {
         /* where the input says; in the first header; in a body; at the last record's end: identifier, and what is before */
         const uint64_t places[] = { in.control[5] | (uint64_t)in.control[7] << 8, 4, 6, 17, distance / 2, distance - 1,
@@ -1370,6 +1374,39 @@ static void take_input(const uint8_t *data, size_t size)
     memcpy(in.bytes, data, in.count);
 }
 
+#ifdef EMULATED
+void libfuzzer_crash(void) __asm__("_ZN6fuzzer6Fuzzer25StaticCrashSignalCallbackEv");
+void libfuzzer_alarm(void) __asm__("_ZN6fuzzer6Fuzzer19StaticAlarmCallbackEv");
+
+__attribute__((force_align_arg_pointer)) static void crashed(int number)
+{
+    (void)number;
+    libfuzzer_crash();
+}
+
+__attribute__((force_align_arg_pointer)) static void took_too_long(int number)
+{
+    (void)number;
+    libfuzzer_alarm();
+}
+#endif
+
+/* qemu calls a signal's handler with a stack that is not aligned as the calling convention has it, and libFuzzer's handlers
+ * then end in a signal of their own: these align it and call libFuzzer, which keeps the input. */
+static void align_handlers(void)
+{
+#ifdef EMULATED
+    static const int deadly[] = { SIGABRT, SIGSEGV, SIGBUS, SIGILL, SIGFPE };
+    struct sigaction action = { .sa_handler = crashed };
+    size_t i;
+
+    for (i = 0; i < sizeof deadly / sizeof deadly[0]; i++)
+        sigaction(deadly[i], &action, NULL);
+    action.sa_handler = took_too_long;
+    sigaction(SIGALRM, &action, NULL);
+#endif
+}
+
 int LLVMFuzzerInitialize(int *count, char ***words)
 {
     size_t page = (size_t)sysconf(_SC_PAGESIZE);
@@ -1377,6 +1414,7 @@ int LLVMFuzzerInitialize(int *count, char ***words)
 
     (void)count;
     (void)words;
+    align_handlers();
     for (i = 0; i < SLICES; i++) {
         uint8_t *all = mmap(NULL, AREA + 2 * page, PROT_NONE, MAP_PRIVATE | MAP_ANONYMOUS, -1, 0);
 

@@ -79,6 +79,14 @@ fn both(p: &Pair, r: &mut Random, tally: &mut Tally) -> Result<Compared, Differe
     Ok(theirs)
 }
 
+/// These records in two rings, compared.
+pub fn compare_records(
+    r: &mut Random, left: &[Vec<u8>], right: &[Vec<u8>], table: &[Event], edition: u32, tally: &mut Tally,
+) -> Result<Compared, Difference> {
+    let p = pair_of(r, left, right, table, edition);
+    both(&p, r, tally)
+}
+
 /// The library's own two reports of a pair and of the same with its sides exchanged: "symmetric up to the side", but where both
 /// stop at the same record and the left is told.
 fn exchanged(p: &Pair, told: Compared, r: &mut Random, tally: &mut Tally) -> Result<(), Difference> {

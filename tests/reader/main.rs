@@ -21,6 +21,7 @@ mod judged;
 mod made;
 mod made_stores;
 mod meanings;
+mod meets;
 mod ones;
 mod readers;
 mod record;
@@ -70,6 +71,7 @@ reader walks [OPTIONS]                the walk of a backward ring, with one attr
 reader back-rings FOLDER [OPTIONS]    the real backward rings, some with a NAME.table; then damaged
 reader salvages [OPTIONS]             damaged streams: what is kept, the list of holes, the rooms; the library against the independent reader
 reader compares [OPTIONS]             two rings compared, with a field, a record or ignored bytes changed; the library against the independent reader
+reader meets [OPTIONS]                where two requests meet: what the library gives of one is lent to it for the other; compared
 reader meanings [OPTIONS]             what misc means: the library against the independent reader
 reader bits                           each sample bit, read format, branch bit, type and trailer bit: written, read, compared
 reader images PROGRAM [WORDS...] [OPTIONS]
@@ -168,6 +170,7 @@ fn run(command: &str, o: &Options) -> Result<(), String> {
         }
         "salvages" => run_salvages(o),
         "compares" => run_compares(o),
+        "meets" => run_meets(o),
         "values" | "bits" | "ones" if cfg!(without_values) => Err("built without read and write".to_string()),
         "values" => run_values(o),
         "ones" => run_ones(o),
@@ -538,9 +541,7 @@ fn run_replays(o: &Options) -> Result<(), String> {
     }
     run_cases("replays", o, count, &mut tally, replays::one_case)?;
     tally.print_answers("replay");
-    for (what, count) in &tally.notes {
-        println!("{count:>9} {what}");
-    }
+    tally.print_notes();
     let mut missing = tally.missing(replays::MUST, &[], false);
     missing.extend(replays::missing_notes(&tally));
     all_reached(missing, count, 2_000)?;
@@ -591,9 +592,7 @@ fn run_salvages(o: &Options) -> Result<(), String> {
     }
     run_cases("salvages", o, count, &mut tally, salvages::one_case)?;
     tally.print_answers("salvage");
-    for (what, count) in &tally.notes {
-        println!("{count:>9} {what}");
-    }
+    tally.print_notes();
     let mut missing = tally.missing(salvages::MUST, &[], false);
     missing.extend(salvages::missing_notes(&tally));
     all_reached(missing, count, 2_000)?;
@@ -618,9 +617,7 @@ fn run_compares(o: &Options) -> Result<(), String> {
     for call in compares::CALLS {
         tally.print_answers(call);
     }
-    for (what, count) in &tally.notes {
-        println!("{count:>9} {what}");
-    }
+    tally.print_notes();
     let mut missing = tally.missing(compares::MUST, &[], false);
     missing.extend(compares::missing(&tally));
     all_reached(missing, count, 2_000)?;
@@ -628,6 +625,22 @@ fn run_compares(o: &Options) -> Result<(), String> {
         "compares: seed {}, {count} pairs of rings and {fixed} by hand and by field; {} fields of known types told, no difference, {:.1} s",
         o.seed,
         tally.fields.keys().filter(|(kind, _)| (1..=21).contains(kind)).count(),
+        start.elapsed().as_secs_f64()
+    );
+    Ok(())
+}
+
+fn run_meets(o: &Options) -> Result<(), String> {
+    let start = Instant::now();
+    let count = o.count.unwrap_or(20_000);
+    let mut tally = Tally::default();
+    let by_hand = if o.from == 0 { fixed_part("by hand", meets::by_hand, &mut tally)? } else { 0 };
+    run_cases("meets", o, count, &mut tally, meets::one_case)?;
+    meets::print_notes(&tally);
+    all_reached(meets::missing(&tally), count, 2_000)?;
+    println!(
+        "meets: seed {}, {count} meetings of two requests and {by_hand} by hand, no difference, {:.1} s",
+        o.seed,
         start.elapsed().as_secs_f64()
     );
     Ok(())

@@ -9,7 +9,7 @@ use crate::tally::Tally;
 
 pub const MUST: &[(&str, &[u32])] = &[("publish", &[0, 1, 4, 5])];
 
-fn compare(length: u64, head: u64, first: u64, second: u64, tally: &mut Tally) -> Result<ring::Published, Difference> {
+pub fn compare(length: u64, head: u64, first: u64, second: u64, tally: &mut Tally) -> Result<ring::Published, Difference> {
     let (theirs, ours) = (abi::publish(length, head, first, second), ring::publish(length, head, first, second));
     tally.answer("publish", ours.answer);
     if theirs == ours {

@@ -24,21 +24,21 @@ struct Case {
 }
 
 /// What came out of the library, and what was lent before.
-struct Came {
-    told: Replayed,
-    rooms: Vec<u8>,
-    journal: Vec<u8>,
+pub struct Came {
+    pub told: Replayed,
+    pub rooms: Vec<u8>,
+    pub journal: Vec<u8>,
     rooms_before: Vec<u8>,
     journal_before: Vec<u8>,
 }
 
 // ---- traces ----
 
-fn offer(record: &[u8]) -> Vec<u8> {
+pub fn offer(record: &[u8]) -> Vec<u8> {
     trace_entry(16, record)
 }
 
-fn drain(budget: u32) -> Vec<u8> {
+pub fn drain(budget: u32) -> Vec<u8> {
     trace_entry(17, &budget.to_le_bytes())
 }
 
@@ -297,6 +297,17 @@ pub fn one_case(seed: u64, case: u64, tally: &mut Tally) -> Result<(), Differenc
     let c = some_case(&mut r);
     let came = compare(&c, &mut r, tally)?;
     checked(&c, &came, tally)
+}
+
+/// A trace over a ring of this length, with a journal that is long enough.
+pub fn replayed(
+    trace: &[u8], start: u64, table: &[Event], edition: u32, length: usize, r: &mut Random, tally: &mut Tally,
+) -> Result<Came, Difference> {
+    let journal = 16 * (trace.len() / 14 + 1);
+    let c = Case { trace: trace.to_vec(), start, table: table.to_vec(), edition, rooms: 2 * length, journal };
+    let came = compare(&c, r, tally)?;
+    checked(&c, &came, tally)?;
+    Ok(came)
 }
 
 fn checked(c: &Case, came: &Came, tally: &mut Tally) -> Result<(), Difference> {

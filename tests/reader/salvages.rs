@@ -14,10 +14,10 @@ use crate::tables::{event_record, sound_table, spoil};
 use crate::tally::Tally;
 
 /// What goes in but the rooms.
-struct Stream {
-    bytes: Vec<u8>,
-    table: Vec<Event>,
-    edition: u32,
+pub struct Stream {
+    pub bytes: Vec<u8>,
+    pub table: Vec<Event>,
+    pub edition: u32,
 }
 
 /// What came out of the library: what it told, and both buffers whole.
@@ -85,7 +85,7 @@ fn damage_stream(r: &mut Random, stream: &mut Vec<u8>, record: &mut Vec<u8>) {
 }
 
 /// Records end to end, one in three without damage, the others with some or much.
-fn some_stream(r: &mut Random) -> Stream {
+pub fn some_stream(r: &mut Random) -> Stream {
     let edition = if r.one_in(8) { some_edition(r) } else { r.pick(&[2, 3, 4, 4]) };
     let mut table = sound_table(r, edition);
     let often = r.pick(&[0, 0, 2, 4, 12]);
@@ -184,6 +184,14 @@ fn promises(s: &Stream, came: &Came) -> Result<(), String> {
         return Err("the output is not the stream without its holes".to_string());
     }
     Ok(())
+}
+
+/// What a stream is salvaged to, with room enough.
+pub fn salvaged(bytes: &[u8], table: &[Event], edition: u32, r: &mut Random, tally: &mut Tally) -> Result<Vec<u8>, Difference> {
+    let s = Stream { bytes: bytes.to_vec(), table: table.to_vec(), edition };
+    let came = compare(&s, bytes.len(), ENTRY * (bytes.len() / 24 + 1), r, tally)?;
+    promises(&s, &came).map_err(|d| format!("{d}\n{}", describe(&s, bytes.len(), 0)))?;
+    Ok(came.out[..came.told.kept as usize].to_vec())
 }
 
 /// The output salvaged once more, into exactly its own room and no list.

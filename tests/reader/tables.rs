@@ -121,7 +121,7 @@ pub fn spoil(r: &mut Random, table: &mut Vec<Event>) {
 // ---- records and rings ----
 
 /// Writes the identifier where it stands; a record of 8 bytes has none.
-fn put_identifier(record: &mut [u8], identifier: u64) {
+pub fn put_identifier(record: &mut [u8], identifier: u64) {
     let length = record.len();
     if length >= 16 {
         let at = if le32(record, 0) == 9 { 8 } else { length - 8 };

@@ -88,6 +88,12 @@ impl Tally {
         println!();
     }
 
+    pub fn print_notes(&self) {
+        for (what, count) in &self.notes {
+            println!("{count:>9} {what}");
+        }
+    }
+
     /// Everything that must be reached and was not, and what must never be reached and was.
     pub fn missing(&self, must: &[(&'static str, &[u32])], body_answers: &[u32], types: bool) -> Vec<String> {
         let mut missing = Vec::new();

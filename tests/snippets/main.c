@@ -233,6 +233,65 @@ static void scene_flight(const char *folder)
         s.by_fault[OF_RECORD] + s.by_fault[OF_EVENT], w.stop);
 }
 
+/* ---- records without their ring ---- */
+
+static uint8_t kept[RING];
+
+/* Copies the record at a tail count out of the ring; its length. */
+static size_t copy_out(uint64_t tail)
+{
+    struct ollskuvan_one one = ollskuvan_read_one_events(data(&ring), ring.page->data_size, ring.page->data_head, tail, ring.table,
+        ring.set.events, ring.set.edition, ring.scratch, sizeof ring.scratch, NULL, 0);
+    if (one.size == 0)
+        fail("kept", "the reader of one record stopped");
+    memcpy(kept, (one.in_scratch ? ring.scratch : data(&ring)) + one.place, one.size);
+    return one.size;
+}
+
+static void look_at_kept(size_t length, struct sums *s, uint64_t *stale, uint64_t *unknown)
+{
+    uint64_t f[OLLSKUVAN_FIELDS];
+    uint32_t answer, of_value;
+    const struct ollskuvan_event *event = event_of(&ring, kept, length, &answer);
+    s->taken++;
+    of_value = value_of(&ring, kept, length, f);
+    if (of_value != (answer == OLLSKUVAN_DIRTY_NAME ? OLLSKUVAN_OK : answer))
+        fail("kept", "check and read answer otherwise");
+    *stale += answer == OLLSKUVAN_DIRTY_NAME;
+    *unknown += answer == OLLSKUVAN_REFUSED_IDENTIFIER && event == NULL;
+    s->by_fault[at_refusal(of_value)]++;
+    if (event != NULL)
+        s->by_event[event - ring.table]++;
+}
+
+static void look_at_all(struct sums *s, uint64_t *stale, uint64_t *unknown)
+{
+    size_t length;
+    *s = (struct sums){ 0 };
+    *stale = *unknown = 0;
+    for (uint64_t tail = ring.page->data_tail; tail != ring.page->data_head; tail += length) {
+        length = copy_out(tail);
+        look_at_kept(length, s, stale, unknown);
+    }
+}
+
+static void scene_kept(const char *folder)
+{
+    struct sums s;
+    uint64_t stale, unknown;
+    uint32_t answer;
+    counters_ring(folder);
+    look_at_all(&s, &stale, &unknown);
+    printf("%" PRIu64 " kept: %" PRIu64 " read, %" PRIu64 " with stale bytes behind a name\n", s.taken, s.by_fault[NONE], stale);
+    print_events(&s);
+    ring.table[1] = ring.table[--ring.set.events];
+    look_at_all(&s, &stale, &unknown);
+    printf("\nwithout the second row: %" PRIu64 " read, %" PRIu64 " refused with 26, of no event\n", s.by_fault[NONE], unknown);
+    size_t length = copy_out(ring.page->data_tail);
+    const struct ollskuvan_event *event = event_of(&ring, kept, length + 8, &answer);
+    printf("too long: refused with %u, of %s event\n", answer, event == NULL ? "no" : "an");
+}
+
 /* ---- each number ---- */
 
 static void print_stops(const char *before, const uint32_t *got, size_t count, enum act act)
@@ -383,6 +442,8 @@ int main(int argc, char **argv)
         scene_readers(folder);
     else if (strcmp(scene, "flight") == 0)
         scene_flight(folder);
+    else if (strcmp(scene, "kept") == 0)
+        scene_kept(folder);
     else if (strcmp(scene, "numbers") == 0)
         scene_numbers();
     else if (strcmp(scene, "live") == 0)

@@ -5,7 +5,7 @@ ghost use mathlib.Core.List.{List};
 ghost use Prim.Native.Nat.{_+_, _*_, _≤_, _<_};
 ghost use lib.ListN.{length};
 ghost use Rattle.meaning.specs.declared.Item.{Item};
-ghost use Rattle.meaning.specs.Bytes.{ones};
+ghost use Rattle.meaning.specs.Bytes.{numberAt, ones};
 ghost use Rattle.blocks.specs.Seen.{place, Leaves, Ends};
 ghost use Rattle.blocks.specs.Steady.{steady, total};
 ghost use Rattle.blocks.specs.Blocks.{countedList, countedPlace, branchList, rawBytes, auxBytes, registerList, stackBytes, filledAnswer};
@@ -89,6 +89,22 @@ pub fn branches(s: &[u8], at: usize, on: bool, index: bool) -> Place
     elements(s, at, fixed, 24)
 }
 
+// The sizes that a record states. Read by functions of their own, so that the compiler joins a number's halves before it sees that a rule looks at the
+// lowest bits alone; else it reads the halves apart.
+fn size4(s: &[u8], at: usize) -> u64
+    requires { ⌜ at + 4 ≤ length (now s) ⌝ }
+    ensures { λ r. ⌜ (r ≡ numberAt 4 (now (s .entry)) at) × (r < 4294967296) ⌝ }
+{
+    wire::u32_at(s, at)
+}
+
+fn size8(s: &[u8], at: usize) -> u64
+    requires { ⌜ at + 8 ≤ length (now s) ⌝ }
+    ensures { λ r. ⌜ r ≡ numberAt 8 (now (s .entry)) at ⌝ }
+{
+    wire::u64_at(s, at)
+}
+
 // Raw: a size, and so many bytes; both together are a multiple of 8.
 pub fn raw(s: &[u8], at: usize, on: bool) -> Place
     requires { ⌜ at ≤ length (now s) ⌝ }
@@ -102,7 +118,7 @@ pub fn raw(s: &[u8], at: usize, on: bool) -> Place
     if left < 4 {
         return refused(30);
     }
-    let n = wire::u32_at(s, at);
+    let n = size4(s, at);
     if (n + 4) % 8 != 0 {
         return refused(32);
     }
@@ -128,7 +144,7 @@ pub fn aux(s: &[u8], at: usize, on: bool) -> Place
     if left < 8 {
         return refused(30);
     }
-    let n = wire::u64_at(s, at);
+    let n = size8(s, at);
     if n % 8 != 0 {
         return refused(32);
     }
@@ -194,7 +210,7 @@ pub fn stack(s: &[u8], at: usize, on: bool) -> Place
     if left < 8 {
         return refused(30);
     }
-    let n = wire::u64_at(s, at);
+    let n = size8(s, at);
     if n % 8 != 0 {
         return refused(32);
     }

@@ -42,22 +42,22 @@ agree (u ∷ us) (v ∷ vs) = cond (same u v) (suc (agree us vs)) 0
 
 -- ---- what is told
 
-abbrev pub told : ℕ → ℕ → ℕ → ℕ → Compared
-told what stop records field = record { records = records; what = what; field = field; stop = stop }
+abbrev pub report : ℕ → ℕ → ℕ → ℕ → Compared
+report what stop records field = record { records = records; what = what; field = field; stop = stop }
 
 abbrev pub allAlike : ℕ → Compared
-allAlike n = told 0 0 n 0
+allAlike n = report 0 0 n 0
 
 abbrev pub differs : ℕ → ℕ → Compared
-differs n k = told 1 0 n k
+differs n k = report 1 0 n k
 
 -- "If one side ends first, that is said, with the number of equal records": 2 is the left side, 3 the right
 abbrev pub endsFirst : ℕ → ℕ → Compared
-endsFirst side n = told side 0 n 0
+endsFirst side n = report side 0 n 0
 
 -- "A stop other than 0 on either side goes first and is reported with the side and the count before it": 4 is the left side, 5 the right
 abbrev pub stops : ℕ → ℕ → ℕ → Compared
-stops side why n = told side why n 0
+stops side why n = report side why n 0
 
 -- ---- two rings, each cut into records until it stops. "the left side first if both stop at the same record"
 unfoldable pub meet : Reads → ℕ → ℕ → ℕ → List Cut → List Cut → Compared

@@ -22,8 +22,8 @@ use Rattle.laws.specs.Every.{sound}
 use Rattle.runs.specs.Cutting.{Cut, Cuts, All, recordOf}
 use Rattle.compare.specs.declared.Compared.{Compared}
 use Rattle.compare.specs.Fields.{Reads, fields, accepted, otherFields, bodyFields, tailFields, flagField}
-use Rattle.compare.specs.Compared.{sameBytes, same, alike, agree, told, allAlike, differs, endsFirst, stops, meet, eventReads}
-use Rattle.compare.specs.Promise.{Same, Says, all-alike, field-differs, left-ended, right-ended, left-stopped, right-stopped, Told}
+use Rattle.compare.specs.Compared.{sameBytes, same, alike, agree, report, allAlike, differs, endsFirst, stops, meet, eventReads}
+use Rattle.compare.specs.Promise.{Same, Says, all-alike, field-differs, left-ended, right-ended, left-stopped, right-stopped, TrueReport}
 use Rattle.compare.specs.Pairs.{same-alike}
 
 -- ---- "alike exactly when both end with 0 at the same number with all pairs equal"
@@ -35,10 +35,10 @@ pub record AllEqual (R : Reads) (l r : Cuts) (n : ℕ) : Type 0 where
   pub right-end : r .stop ≡ 0
   pub pairs : (i : ℕ) → i < n → Same R (recordOf l i) (recordOf r i)
 
-pub equal-told : (R : Reads) (l r : Cuts) (n : ℕ) → AllEqual R l r n → Told R l r (allAlike n)
+pub equal-told : (R : Reads) (l r : Cuts) (n : ℕ) → AllEqual R l r n → TrueReport R l r (allAlike n)
 equal-told R l r n h = record { says = all-alike (h .left-long) (h .right-long) (h .left-end) (h .right-end); before = h .pairs }
 
-pub told-equal : (R : Reads) (l r : Cuts) (c : Compared) → Told R l r c → c .what ≡ 0 → AllEqual R l r (c .records)
+pub told-equal : (R : Reads) (l r : Cuts) (c : Compared) → TrueReport R l r c → c .what ≡ 0 → AllEqual R l r (c .records)
 told-equal R l r c t z = by c (t .says) (t .before) z
   where
     by : (c : Compared) → Says R l r c → ((i : ℕ) → i < c .records → Same R (recordOf l i) (recordOf r i)) → c .what ≡ 0 → AllEqual R l r (c .records)
@@ -144,7 +144,7 @@ abbrev pub otherSide : ℕ → ℕ
 otherSide n = cond (eqb n 2) 3 (cond (eqb n 3) 2 (cond (eqb n 4) 5 (cond (eqb n 5) 4 n)))
 
 abbrev pub turned : Compared → Compared
-turned c = told (otherSide (c .what)) (c .stop) (c .records) (c .field)
+turned c = report (otherSide (c .what)) (c .stop) (c .records) (c .field)
 
 -- "symmetric up to the side": but where both stop at the same record, which is told of the left side first
 pub meet-turned : (R : Reads) (a b n : ℕ) (xs ys : List Cut) → (length xs ≡ length ys → (a ≡ 0) ⊎ (b ≡ 0)) → meet R b a n ys xs ≡ turned (meet R a b n xs ys)

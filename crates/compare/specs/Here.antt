@@ -11,7 +11,7 @@ use Rattle.laws.specs.Rings.{scratch-length}
 use Rattle.runs.specs.Cutting.{Spot}
 use Rattle.compare.specs.declared.Compared.{Compared}
 use Rattle.compare.specs.Fields.{Reads, fields}
-use Rattle.compare.specs.Compared.{alike, agree, told, Side, sideOf, compared, scratchThen}
+use Rattle.compare.specs.Compared.{alike, agree, report, Side, sideOf, compared, scratchThen}
 use Rattle.compare.specs.Sides.{framed-side}
 use Rattle.compare.specs.Turns.{endOf, Holds, holds-start, ends-any, pair}
 
@@ -44,7 +44,7 @@ module _ (R : Reads) (asked : Asked) (x y : List ℕ) (hl hr tl tr : ℕ) (ul ur
     pub again : alike (fields R (recordAt x (f .place) (f .size))) (fields R (recordAt y (g .place) (g .size))) ≡ true
         → Here (suc n) ((t + f .size) % 2 ^ 64) ((s + g .size) % 2 ^ 64) (scratchAfter x (f .place) (f .size) u) (scratchAfter y (g .place) (g .size) v)
     pub differ : alike (fields R (recordAt x (f .place) (f .size))) (fields R (recordAt y (g .place) (g .size))) ≡ false
-        → (k : ℕ) → agree (fields R (recordAt x (f .place) (f .size))) (fields R (recordAt y (g .place) (g .size))) ≡ k → (r : Compared) → r ≡ told 1 0 n k
+        → (k : ℕ) → agree (fields R (recordAt x (f .place) (f .size))) (fields R (recordAt y (g .place) (g .size))) ≡ k → (r : Compared) → r ≡ report 1 0 n k
         → Ensured r (scratchAfter x (f .place) (f .size) u) (scratchAfter y (g .place) (g .size) v)
     pub count : n < length x
 
@@ -98,7 +98,7 @@ module _ (R : Reads) (asked : Asked) (x y : List ℕ) (hl hr tl tr : ℕ) (ul ur
           v-long = scratch-length y (g .place) (g .size) v ∙ h .v-long;
         };
         differ = λ e k i r z.
-            let w = z ∙ ap (λ (j : ℕ). told 1 0 n j) (sym i) in
+            let w = z ∙ ap (λ (j : ℕ). report 1 0 n j) (sym i) in
             let d = a .differ e in
             record { result = w ∙ d .told; left = sym (ap (λ (c : Compared). scratchThen c LS) w ∙ d .left); right = sym (ap (λ (c : Compared). scratchThen c RS) w ∙ d .right) };
         count = a .count;

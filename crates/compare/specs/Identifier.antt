@@ -20,7 +20,7 @@ use Rattle.meaning.specs.Items.{Con, con, span, holds, part, step, walk, conten
 use Rattle.meaning.specs.Schema.{sample, schema, trails, trailer}
 use Rattle.meaning.specs.Records.{layout, fixedShape, fixed, roomShape, room, kindOf, miscOf, origin, fieldsOf, fieldsAnswer, checkBy, bodyOf, tailOf, value}
 use Rattle.laws.specs.There.{item}
-use Rattle.laws.specs.Again.{fine, stepped, taken}
+use Rattle.laws.specs.Again.{fine, stepped, item-passed}
 use Rattle.laws.specs.Answers.{fields-zero, check-zero}
 use Rattle.laws.specs.Fixed.{fixed-run}
 use Rattle.laws.specs.Words.{front}
@@ -45,16 +45,16 @@ word : (xs : List ℕ) (c : Cursor) (on : Bool) → on ≡ true → content xs (
 unfolding content holds part span
 word xs c on e = rw e
 
-unread : (xs : List ℕ) (c : Cursor) (on : Bool) → on ≡ false → content xs (item on (Number W8)) c ≡ con 0 []
+off-blank : (xs : List ℕ) (c : Cursor) (on : Bool) → on ≡ false → content xs (item on (Number W8)) c ≡ con 0 []
 unfolding content
-unread xs c on e = rw e
+off-blank xs c on e = rw e
 
 -- a word that was not refused is there
 pub word-there : (F : List ℕ) (is : List Item) (c : Cursor) → c .why ≡ 0 → walk F (item true (Number W8) ∷ is) c .why ≡ 0 → 8 ≤ length (drop (c .at) F)
 unfolding walk span
 word-there F is c z h =
     let s = fine F is (step F (item true (Number W8)) c) h in
-    taken (Number W8) c (drop (c .at) F) (ap (λ (d : Cursor). d .why) (sym (stepped true (Number W8) F c z)) ∙ s) .there
+    item-passed (Number W8) c (drop (c .at) F) (ap (λ (d : Cursor). d .why) (sym (stepped true (Number W8) F c z)) ∙ s) .there
 
 module _ (k : Known) (a : Attributes) (xs : List ℕ) (h : checkBy (layout k a) xs ≡ 0) (m : bit (a .sample) 16 ≡ true) where
   abbrev trail : List Item
@@ -102,7 +102,7 @@ module _ (k : Known) (a : Attributes) (xs : List ℕ) (h : checkBy (layout k a) 
   last-content : a .all ≡ true → (t : Bool) → eqb (kindOf xs) 9 ≡ t
       → content xs (item (trails (kindOf xs) a 16) (Number W8)) (walk xs (take 7 trail) (origin (length xs - room trail)))
       ≡ cond t (con 0 []) (one (cond t (numberAt 8 xs 8) (numberAt 8 xs (length xs - 8))))
-  last-content all true e = unread xs (walk xs (take 7 trail) (origin (length xs - room trail))) (trails (kindOf xs) a 16) (rw (all, e))
+  last-content all true e = off-blank xs (walk xs (take 7 trail) (origin (length xs - room trail))) (trails (kindOf xs) a 16) (rw (all, e))
   last-content all false e =
       let o : trails (kindOf xs) a 16 ≡ true = rw (all, e) m in
       word xs (walk xs (take 7 trail) (origin (length xs - room trail))) (trails (kindOf xs) a 16) o

@@ -15,7 +15,7 @@ use Rattle.laws.specs.Bytes.{le-or-lt}
 use Rattle.compare.specs.declared.Compared.{Compared}
 use Rattle.compare.specs.Fields.{Reads, fields}
 use Rattle.compare.specs.Compared.{alike, agree, allAlike, differs, endsFirst, stops, meet}
-use Rattle.compare.specs.Promise.{Sound, Whole, Same, First, Says, all-alike, field-differs, left-ended, right-ended, left-stopped, right-stopped, Told}
+use Rattle.compare.specs.Promise.{Sound, Whole, Same, First, Says, all-alike, field-differs, left-ended, right-ended, left-stopped, right-stopped, TrueReport}
 use Rattle.compare.specs.Pairs.{alike-exactly, named-differs, first-only}
 
 top : List Cut → Cut
@@ -44,16 +44,16 @@ module _ (R : Reads) (good : Sound R) (l r : Cuts) (wl : All (λ (c : Cut). Whol
   Before n = (i : ℕ) → i < n → Same R (recordOf l i) (recordOf r i)
 
   both-end : (n : ℕ) → length (l .records) ≡ n → length (r .records) ≡ n → Before n → (s t : Bool) → eqb (l .stop) 0 ≡ s → eqb (r .stop) 0 ≡ t
-      → Told R l r (cond s (cond t (allAlike n) (stops 5 (r .stop) n)) (stops 4 (l .stop) n))
+      → TrueReport R l r (cond s (cond t (allAlike n) (stops 5 (r .stop) n)) (stops 4 (l .stop) n))
   both-end n a b h true true p q = record { says = all-alike a b (eqb-true _ _ p) (eqb-true _ _ q); before = h }
   both-end n a b h true false p q = record { says = right-stopped b (eqb-false _ _ q) (omega (arith, a)) (λ e. eqb-true _ _ p); before = h }
   both-end n a b h false t p q = record { says = left-stopped a (eqb-false _ _ p) (omega (arith, b)); before = h }
 
-  left-end : (n : ℕ) → length (l .records) ≡ n → n < length (r .records) → Before n → (s : Bool) → eqb (l .stop) 0 ≡ s → Told R l r (cond s (endsFirst 2 n) (stops 4 (l .stop) n))
+  left-end : (n : ℕ) → length (l .records) ≡ n → n < length (r .records) → Before n → (s : Bool) → eqb (l .stop) 0 ≡ s → TrueReport R l r (cond s (endsFirst 2 n) (stops 4 (l .stop) n))
   left-end n a b h true p = record { says = left-ended a (eqb-true _ _ p) b; before = h }
   left-end n a b h false p = record { says = left-stopped a (eqb-false _ _ p) (omega (arith, b)); before = h }
 
-  right-end : (n : ℕ) → length (r .records) ≡ n → n < length (l .records) → Before n → (s : Bool) → eqb (r .stop) 0 ≡ s → Told R l r (cond s (endsFirst 3 n) (stops 5 (r .stop) n))
+  right-end : (n : ℕ) → length (r .records) ≡ n → n < length (l .records) → Before n → (s : Bool) → eqb (r .stop) 0 ≡ s → TrueReport R l r (cond s (endsFirst 3 n) (stops 5 (r .stop) n))
   right-end n a b h true p = record { says = right-ended a (eqb-true _ _ p) b; before = h }
   right-end n a b h false p = record { says = right-stopped a (eqb-false _ _ p) (omega (arith, b)) (λ e. absurd (omega (arith, e, b))); before = h }
 
@@ -61,7 +61,7 @@ module _ (R : Reads) (good : Sound R) (l r : Cuts) (wl : All (λ (c : Cut). Whol
   one-more n h s i k = ⊎-elim (λ (q : n ≤ i). let e : n ≡ i = omega (arith, k, q) in subst (λ (j : ℕ). Same R (recordOf l j) (recordOf r j)) e s) (λ (q : i < n). h i q) (le-or-lt n i)
 
   meets : (n : ℕ) (xs ys : List Cut) → drop n (l .records) ≡ xs → drop n (r .records) ≡ ys → n ≤ length (l .records) → n ≤ length (r .records) → Before n
-      → Told R l r (meet R (l .stop) (r .stop) n xs ys)
+      → TrueReport R l r (meet R (l .stop) (r .stop) n xs ys)
   unfolding meet
   meets n [] [] p q a b h = both-end n (none-left _ n a p) (none-left _ n b q) h (eqb (l .stop) 0) (eqb (r .stop) 0) refl refl
   meets n [] (y ∷ ys) p q a b h = left-end n (none-left _ n a p) (left-over _ n y ys q) h (eqb (l .stop) 0) refl
@@ -97,8 +97,8 @@ module _ (R : Reads) (good : Sound R) (l r : Cuts) (wl : All (λ (c : Cut). Whol
 
       by : (t : Bool) → alike (fields R (x .record-bytes)) (fields R (y .record-bytes)) ≡ t
           → (drop (suc n) (l .records) ≡ xs → drop (suc n) (r .records) ≡ ys → suc n ≤ length (l .records) → suc n ≤ length (r .records) → Before (suc n)
-          → Told R l r (meet R (l .stop) (r .stop) (suc n) xs ys))
-          → Told R l r (cond t (meet R (l .stop) (r .stop) (suc n) xs ys) (differs n (agree (fields R (x .record-bytes)) (fields R (y .record-bytes)))))
+          → TrueReport R l r (meet R (l .stop) (r .stop) (suc n) xs ys))
+          → TrueReport R l r (cond t (meet R (l .stop) (r .stop) (suc n) xs ys) (differs n (agree (fields R (x .record-bytes)) (fields R (y .record-bytes)))))
       by true e go =
           let s : Same R (recordOf l n) (recordOf r n) = alike-exactly R good (recordOf l n) (recordOf r n) wx wy .0 (test ∙ e) in
           go (hl .1) (hr .1) nl nr (one-more n h s)
@@ -110,7 +110,7 @@ module _ (R : Reads) (good : Sound R) (l r : Cuts) (wl : All (λ (c : Cut). Whol
           }
 
   -- "Each pair before the reported place is equal under demand 2, and the named field differs"
-  pub met : Told R l r (meet R (l .stop) (r .stop) 0 (l .records) (r .records))
+  pub met : TrueReport R l r (meet R (l .stop) (r .stop) 0 (l .records) (r .records))
   met = meets 0 (l .records) (r .records) refl refl (omega arith) (omega arith) (λ i k. absurd (omega (arith, k)))
 
   -- ---- and nothing else could be told
@@ -158,5 +158,5 @@ module _ (R : Reads) (good : Sound R) (l r : Cuts) (wl : All (λ (c : Cut). Whol
       sym (past-all n b (omega (arith, a)) h ∙ rw (gone (r .records) n a) (stopped-second n (drop n (l .records)) p (λ e. q (none-left (l .records) n b e))))
 
   -- the report is the only one that tells the truth
-  pub only : (c : Compared) → Told R l r c → c ≡ meet R (l .stop) (r .stop) 0 (l .records) (r .records)
+  pub only : (c : Compared) → TrueReport R l r c → c ≡ meet R (l .stop) (r .stop) 0 (l .records) (r .records)
   only c t = only-one c (t .says) (t .before)

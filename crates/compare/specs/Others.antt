@@ -21,7 +21,7 @@ use Rattle.meaning.specs.Records.{layout, fixedShape, fixed, room, kindOf, misc
 use Rattle.meaning.specs.Writing.{named}
 use Rattle.meaning.specs.Events.{identifierOf}
 use Rattle.laws.specs.There.{item}
-use Rattle.laws.specs.Again.{fine, stepped, taken}
+use Rattle.laws.specs.Again.{fine, stepped, item-passed}
 use Rattle.laws.specs.Answers.{fields-zero}
 use Rattle.laws.specs.Fixed.{fixed-run}
 use Rattle.laws.specs.Whole.{length-fields}
@@ -45,7 +45,7 @@ unfolding walk past counted before span
 past-first F is h =
     let z = fine F is (step F (item true (Number W8)) (origin 8)) h in
     let e = stepped true (Number W8) F (origin 8) refl in
-    let t = taken (Number W8) (origin 8) (drop 8 F) (ap (λ (c : Cursor). c .why) (sym e) ∙ z) in
+    let t = item-passed (Number W8) (origin 8) (drop 8 F) (ap (λ (c : Cursor). c .why) (sym e) ∙ z) in
     e ∙ t .is ∙ ap (λ (k : ℕ). past (Number W8) (holds (Number W8) (origin 8) (part (Number W8) (origin 8) (drop 8 F))) k (origin 8)) (t .long)
 
 module _ (a : Attributes) (xs : List ℕ) (h : fieldsAnswer (schema (kindOf xs) (miscOf xs) a) (room (trailer (kindOf xs) a)) xs ≡ 0) (m : bit (a .sample) 16 ≡ true) where

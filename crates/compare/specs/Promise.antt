@@ -47,6 +47,6 @@ pub data Says (R : Reads) (l r : Cuts) : Compared → Type 0 where
   right-stopped : {n : ℕ} → length (r .records) ≡ n → (r .stop ≡ 0 → ⊥) → n ≤ length (l .records) → (length (l .records) ≡ n → l .stop ≡ 0) → Says R l r (stops 5 (r .stop) n)
 
 -- and every pair before is equal
-pub record Told (R : Reads) (l r : Cuts) (c : Compared) : Type 0 where
+pub record TrueReport (R : Reads) (l r : Cuts) (c : Compared) : Type 0 where
   pub says : Says R l r c
   pub before : (i : ℕ) → i < c .records → Same R (recordOf l i) (recordOf r i)

@@ -17,7 +17,7 @@ use Rattle.runs.specs.Runs.{cut-go, cut-stop}
 use Rattle.compare.specs.declared.Compared.{Compared}
 use Rattle.compare.specs.Fields.{Reads}
 use Rattle.compare.specs.Compared.{Side, sideOf, cutting, cuttingAll, compared, pairs, scratchThen}
-use Rattle.compare.specs.Promise.{Sound, Whole, Told}
+use Rattle.compare.specs.Promise.{Sound, Whole, TrueReport}
 use Rattle.compare.specs.Meeting.{met, only}
 
 -- what the frames of a side must have, for its head: a record is whole, lies before head, and within one ring length; what does not go on is a stop
@@ -139,11 +139,11 @@ module _ (s : Side) (head : ℕ) (f : Framed s head) where
 -- ---- the comparison
 
 -- "Each pair before the reported place is equal under demand 2, and the named field differs"
-pub compared-told : (R : Reads) (l r : Side) (hl hr : ℕ) → Sound R → Framed l hl → Framed r hr → Told R (cuttingAll l) (cuttingAll r) (compared R l r)
+pub compared-told : (R : Reads) (l r : Side) (hl hr : ℕ) → Sound R → Framed l hl → Framed r hr → TrueReport R (cuttingAll l) (cuttingAll r) (compared R l r)
 unfolding compared
 compared-told R l r hl hr good fl fr = met R good (cuttingAll l) (cuttingAll r) (side-whole l hl fl) (side-whole r hr fr)
 
 -- and no other report would say so
-pub compared-only : (R : Reads) (l r : Side) (hl hr : ℕ) (c : Compared) → Sound R → Framed l hl → Framed r hr → Told R (cuttingAll l) (cuttingAll r) c → c ≡ compared R l r
+pub compared-only : (R : Reads) (l r : Side) (hl hr : ℕ) (c : Compared) → Sound R → Framed l hl → Framed r hr → TrueReport R (cuttingAll l) (cuttingAll r) c → c ≡ compared R l r
 unfolding compared
 compared-only R l r hl hr c good fl fr t = only R good (cuttingAll l) (cuttingAll r) (side-whole l hl fl) (side-whole r hr fr) c t

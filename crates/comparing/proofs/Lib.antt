@@ -1,4 +1,3 @@
 pub mod Laws
 pub mod Fields
 pub mod Start
-pub mod Beside

@@ -23,7 +23,7 @@ use Rattle.events.specs.Match.{matched-has}
 use Rattle.compare.specs.declared.Compared.{Compared}
 use Rattle.compare.specs.Fields.{Reads}
 use Rattle.compare.specs.Compared.{Side, eventReads, sideOf, stops, cuttingAll, compared, meet}
-use Rattle.compare.specs.Promise.{Sound, Told}
+use Rattle.compare.specs.Promise.{Sound, TrueReport}
 use Rattle.compare.specs.Sides.{framed-side, compared-told, compared-only}
 use Rattle.compare.specs.Facts.{meet-editions}
 
@@ -78,13 +78,13 @@ module _ (limit : ℕ) (rows : List Known) (e : ℕ) (es : List Event) (ring₁ 
   rightSide = sideOf (askedEvents limit rows e es) ring₂ head₂ tail₂ scratch₂
 
   -- "Each pair before the reported place is equal under demand 2, and the named field differs"
-  pub table-told : sound limit es ≡ true → small ring₁ ≡ true → small ring₂ ≡ true → Told R (cuttingAll leftSide) (cuttingAll rightSide) (compared R leftSide rightSide)
+  pub table-told : sound limit es ≡ true → small ring₁ ≡ true → small ring₂ ≡ true → TrueReport R (cuttingAll leftSide) (cuttingAll rightSide) (compared R leftSide rightSide)
   table-told h s₁ s₂ =
       compared-told R leftSide rightSide head₁ head₂ (event-sound (known rows e) es (sound-marked limit es h))
       (framed-side (askedEvents limit rows e es) ring₁ head₁ tail₁ scratch₁ s₁) (framed-side (askedEvents limit rows e es) ring₂ head₂ tail₂ scratch₂ s₂)
 
   -- and no other report would say so
-  pub table-only : (c : Compared) → sound limit es ≡ true → small ring₁ ≡ true → small ring₂ ≡ true → Told R (cuttingAll leftSide) (cuttingAll rightSide) c → c ≡ compared R leftSide rightSide
+  pub table-only : (c : Compared) → sound limit es ≡ true → small ring₁ ≡ true → small ring₂ ≡ true → TrueReport R (cuttingAll leftSide) (cuttingAll rightSide) c → c ≡ compared R leftSide rightSide
   table-only c h s₁ s₂ t =
       compared-only R leftSide rightSide head₁ head₂ c (event-sound (known rows e) es (sound-marked limit es h))
       (framed-side (askedEvents limit rows e es) ring₁ head₁ tail₁ scratch₁ s₁) (framed-side (askedEvents limit rows e es) ring₂ head₂ tail₂ scratch₂ s₂) t

@@ -9,7 +9,7 @@ ghost use Rattle.meaning.specs.Editions.{editions, known};
 ghost use Rattle.meaning.specs.Events.{eventsOf, allMarked, askedEvents};
 ghost use Rattle.runs.specs.Cutting.{framed};
 ghost use Rattle.compare.specs.Fields.{fields};
-ghost use Rattle.compare.specs.Compared.{told, alike, agree, sameBytes, eventReads, sideOf, compared, scratchThen};
+ghost use Rattle.compare.specs.Compared.{report, alike, agree, sameBytes, eventReads, sideOf, compared, scratchThen};
 ghost use Rattle.compare.specs.Turns.{endOf};
 ghost use Rattle.comparing.specs.Inner.{Settled, Begun, moved, trailing, Ready, Stands, isAlike, isField, toGo};
 use compare::Compared;
@@ -17,8 +17,6 @@ use extents::Both;
 use meaning::Attributes;
 use meaning::Cursor;
 use meaning::Frame;
-
-mod twins;
 
 // Where the loop over the fields of a pair stands: k of them are equal. `done`: there are no more or, where `same` is false, field
 // k differs. Else both records are accepted, of one type, misc and event, and the rows from `row` up to `to` come next, in the
@@ -175,7 +173,7 @@ fn like(x: &[u8], y: &[u8], e: u64, rows: &[[u64; 7]]) -> bool
         return false;
     }
     let a = events::attributes_at(rows, events::find(rows, id));
-    twins::record_alike(x, y, kind, misc, a)
+    twins::same_but(x, y, kind, misc, a)
 }
 
 // A pair: nothing is left to be looked at where the bytes are equal, or all but ignored ones; only where a field differs are the
@@ -295,7 +293,7 @@ fn next(x: &[u8], y: &[u8], p: Pos) -> Pos
 // ---- the loop over records
 
 fn tell(what: u32, stop: u16, records: u64, field: u32) -> Compared
-    ensures { λ r. ⌜ r ≡ told what stop records field ⌝ }
+    ensures { λ r. ⌜ r ≡ report what stop records field ⌝ }
 {
     let stop = stop as u32;
     Compared {

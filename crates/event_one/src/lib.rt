@@ -1,7 +1,8 @@
 // One record with a table of events. The reader: the chain of stops with a budget of one and no journal; then the record, gathered
-// where it goes round the ring's end, is read under the attributes of its event. Record check: the same for a lent slice.
+// where it goes round the ring's end, is read under the attributes of its event. Record check: the same for a lent slice. A table's limit is a
+// number of 32 bits, as the number inspected is that is told.
 ghost use mathlib.Core.Path.{_≡_};
-ghost use Prim.Native.Nat.{_≤_};
+ghost use Prim.Native.Nat.{_≤_, _<_};
 ghost use lib.ListN.{length};
 ghost use Rattle.meaning.specs.Editions.{editions, known};
 ghost use Rattle.meaning.specs.Events.{eventsOf, oneEventsScratch, inspected, judged, unasked, recordCheckEvents, readEvents, readEventsWords};
@@ -13,7 +14,7 @@ use one::OneTold;
 
 // A record's bytes, read into lent words under the attributes of its event; and how many events were inspected to find it.
 fn read_event(r: &[u8], e: u64, rows: &[[u64; 7]], words: &mut [u64]) -> Judged
-    requires { ⌜ (8 ≤ length (now r)) × (length (now rows) ≤ 1024) ⌝ }
+    requires { ⌜ (8 ≤ length (now r)) × (length (now rows) < 4294967296) ⌝ }
     ensures { λ x. ⌜ x ≡ judged (readEventAnswer editions e (eventsOf (now (rows .entry))) (now (r .entry)) (now (words .entry))) (inspected (known editions e) (eventsOf (now (rows .entry))) (now (r .entry))) ⌝ }
     ensures { λ _. ⌜ now (words .exit) ≡ readEventWords editions e (eventsOf (now (rows .entry))) (now (r .entry)) (now (words .entry)) ⌝ }
 {
@@ -26,7 +27,7 @@ fn read_event(r: &[u8], e: u64, rows: &[[u64; 7]], words: &mut [u64]) -> Judged
         };
     }
     let a = events::attributes_at(rows, m.index);
-    let answer = record::read_into(r, e, a, words) as u32;
+    let answer = fast_read::read_into(r, e, a, words) as u32;
     Judged { answer, inspected }
 }
 
@@ -66,17 +67,16 @@ pub fn read_one_events(
     tail: u64,
     e: u64,
     rows: &[[u64; 7]],
-    limit: usize,
+    limit: u32,
     scratch: &mut [u8],
     words: &mut [u64],
 ) -> OneTold
-    requires { ⌜ limit ≤ 1024 ⌝ }
     ensures { λ r. ⌜ r ≡ oneEventsTold limit editions e (eventsOf (now (rows .entry))) (now (ring .entry)) head tail (now (scratch .entry)) (now (words .entry)) ⌝ }
     ensures { λ _. ⌜ now (scratch .exit) ≡ oneEventsScratch limit editions e (eventsOf (now (rows .entry))) (now (ring .entry)) head tail (now (scratch .entry)) ⌝ }
     ensures { λ _. ⌜ now (words .exit) ≡ oneEventsWords limit editions e (eventsOf (now (rows .entry))) (now (ring .entry)) head tail (now (scratch .entry)) (now (words .entry)) ⌝ }
 {
     let ok = record::allowed(e);
-    let table = events::sound(rows, limit);
+    let table = events::sound(rows, limit as usize);
     let frame = ring::next_frame(ok, table, ring, head, tail, 1, 16, scratch.len());
     if !frame.go {
         return OneTold {
@@ -100,13 +100,13 @@ pub fn read_one_events(
 // ---- record check with a table (M-112)
 
 // 2, 11, then 7, 6, 7 as record check has them: what is asked before the record is looked at; else 0.
-fn unasked(r: &[u8], e: u64, rows: &[[u64; 7]], limit: usize) -> u16
+fn unasked(r: &[u8], e: u64, rows: &[[u64; 7]], limit: u32) -> u16
     ensures { λ x. ⌜ x ≡ unasked limit editions e (eventsOf (now (rows .entry))) (now (r .entry)) ⌝ }
 {
     if !record::allowed(e) {
         return 2;
     }
-    if !events::sound(rows, limit) {
+    if !events::sound(rows, limit as usize) {
         return 11;
     }
     if r.len() < 8 {
@@ -126,7 +126,7 @@ fn unasked(r: &[u8], e: u64, rows: &[[u64; 7]], limit: usize) -> u16
 
 // What record check says under the attributes of the record's event; and how many events were inspected to find it.
 fn check_event(r: &[u8], e: u64, rows: &[[u64; 7]]) -> Judged
-    requires { ⌜ (8 ≤ length (now r)) × (length (now rows) ≤ 1024) ⌝ }
+    requires { ⌜ (8 ≤ length (now r)) × (length (now rows) < 4294967296) ⌝ }
     ensures { λ x. ⌜ x ≡ judged (checkEventAnswer editions e (eventsOf (now (rows .entry))) (now (r .entry))) (inspected (known editions e) (eventsOf (now (rows .entry))) (now (r .entry))) ⌝ }
 {
     let m = events::match_event(r, e, rows);
@@ -138,7 +138,7 @@ fn check_event(r: &[u8], e: u64, rows: &[[u64; 7]]) -> Judged
         };
     }
     let own = events::attributes_at(rows, m.index);
-    let answer = record::or_dirty(record::check(r, e, own), r, own) as u32;
+    let answer = record::or_dirty(fast_check::check(r, e, own), r, own) as u32;
     Judged {
         answer,
         inspected: looked,
@@ -146,8 +146,7 @@ fn check_event(r: &[u8], e: u64, rows: &[[u64; 7]]) -> Judged
 }
 
 // Record check with a table: 2, 11, 7, 6, 7, then the record's answer, 44 in place of 0, and the number inspected.
-pub fn check_events(r: &[u8], e: u64, rows: &[[u64; 7]], limit: usize) -> Judged
-    requires { ⌜ limit ≤ 1024 ⌝ }
+pub fn check_events(r: &[u8], e: u64, rows: &[[u64; 7]], limit: u32) -> Judged
     ensures { λ x. ⌜ x ≡ recordCheckEvents limit editions e (eventsOf (now (rows .entry))) (now (r .entry)) ⌝ }
 {
     let why = unasked(r, e, rows, limit);
@@ -161,8 +160,7 @@ pub fn check_events(r: &[u8], e: u64, rows: &[[u64; 7]], limit: usize) -> Judged
 }
 
 // The same into lent words: no 44; 40 if there are fewer than 56. Refused: the words unchanged.
-pub fn read_events(r: &[u8], e: u64, rows: &[[u64; 7]], limit: usize, words: &mut [u64]) -> Judged
-    requires { ⌜ limit ≤ 1024 ⌝ }
+pub fn read_events(r: &[u8], e: u64, rows: &[[u64; 7]], limit: u32, words: &mut [u64]) -> Judged
     ensures { λ x. ⌜ x ≡ readEvents limit editions e (eventsOf (now (rows .entry))) (now (r .entry)) (now (words .entry)) ⌝ }
     ensures { λ _. ⌜ now (words .exit) ≡ readEventsWords limit editions e (eventsOf (now (rows .entry))) (now (r .entry)) (now (words .entry)) ⌝ }
 {

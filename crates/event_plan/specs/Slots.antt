@@ -1,9 +1,10 @@
 -- What a slot says of an identifier, and what the slots of a drain say; a record's answer by its identifier's slot. Assumes nothing.
 use mathlib.Core.Path.{_≡_, refl, sym, ap, _∙_, subst}
 use mathlib.Core.Bool.{Bool, true, false, cond, not, _||_}
-use mathlib.Core.List.{List, []}
-use Prim.Native.Nat.{ℕ, _<_, _≤_}
+use mathlib.Core.List.{List, [], _∷_}
+use Prim.Native.Nat.{ℕ, _+_, _*_, _/_, _%_, _<_, _≤_}
 use native.Mathlib.Omega.{arith}
+use lib.Bits.{bitAnd}
 use lib.Dec.{leb, ltb, eqb}
 use lib.ListN.{length, getD, set, replicate, length-set, length-replicate, getD-replicate}
 use lib.Seq.{getD-set-same, getD-set-other}
@@ -11,42 +12,106 @@ use borrow.Author.Tests.{eqb-true, eqb-false, ne-eqb, le-ltb, lt-ltb, le-leb, lt
 use Rattle.meaning.specs.declared.Attributes.{Attributes}
 use Rattle.meaning.specs.declared.Event.{Event}
 use Rattle.meaning.specs.declared.Known.{Known}
+use Rattle.meaning.specs.Bytes.{bit, ones}
 use Rattle.meaning.specs.Refusals.{first}
 use Rattle.meaning.specs.Editions.{knows, sampleBit, isIn, unreadable}
 use Rattle.meaning.specs.Records.{layout, kindOf, judge}
-use Rattle.meaning.specs.Events.{attributesOf, eventAt, identifiers, identifierOf, indexOf, layoutFor, judgeEvents}
+use Rattle.meaning.specs.Events.{attributesOf, eventAt, eventOf, eventsOf, identifiers, distinct, identifierOf, indexOf, layoutFor, judgeEvents}
 use Rattle.laws.specs.Bytes.{apart}
-use Rattle.laws.specs.Lookup.{identifiers-length, in-there, in-none}
-use Rattle.plan.specs.Sums.{sumsOf}
-use Rattle.plan.specs.Marks.{Marked}
+use Rattle.laws.specs.Lookup.{identifiers-length, identifier-at, in-there, in-none, index-unique, rows-length, row-at}
+use Rattle.sums.specs.Sums.{sumOver, sumsOf, ones-most, trail-small, first-small, last-small}
+use Rattle.marks.specs.Marks.{Marked}
 
--- the words of a slot: the notes, and the sums
-abbrev pub note : List (List ℕ) → List ℕ
-note s = getD s 0 []
+-- ---- eight sums in two words
 
-abbrev pub sumsIn : List (List ℕ) → List ℕ
-sumsIn s = getD s 1 []
+-- the four numbers in one word, 16 bits each
+unfoldable pub Four : ℕ → ℕ → ℕ → ℕ → ℕ → Type 0
+Four a b c d x = (x % 65536 ≡ a) × (x / 65536 % 65536 ≡ b) × (x / 4294967296 % 65536 ≡ c) × (x / 281474976710656 ≡ d)
+
+abbrev pub unpacked : ℕ → ℕ → List ℕ
+unpacked x y =
+    x % 65536
+    ∷ (x / 65536 % 65536)
+    ∷ (x / 4294967296 % 65536)
+    ∷ (x / 281474976710656)
+    ∷ (y % 65536)
+    ∷ (y / 65536 % 65536)
+    ∷ (y / 4294967296 % 65536)
+    ∷ (y / 281474976710656)
+    ∷ []
+
+-- the sums in a slot
+abbrev pub sumsIn : List ℕ → List ℕ
+sumsIn s = unpacked (getD s 6 0) (getD s 7 0)
+
+module _ (a : Attributes) (sums : List ℕ) (e : sums ≡ sumsOf a) where
+  -- each sum is below 65,536
+  pub narrow : (getD sums 0 0 < 65536) × (getD sums 1 0 < 65536) × (getD sums 2 0 < 65536) × (getD sums 3 0 < 65536) × (getD sums 4 0 < 65536) × (getD sums 5 0 < 65536) × (getD sums 6 0 < 65536) × (getD sums 7 0 < 65536)
+  unfolding sumsOf
+  narrow =
+      let t = trail-small a sums e in
+      let f = first-small a sums e .0 in
+      let l = last-small a sums e .0 in (
+        omega (arith, t),
+        omega (arith, f),
+        omega (arith, l),
+        below 3 (masked (bit (a .sample) 12) (a .user)),
+        below 4 (counted (a .sample) 16957440),
+        below 5 (counted (a .sample) 15204352),
+        below 6 (masked (bit (a .sample) 18) (a .interrupt)),
+        below 7 (fixed (a .format)),
+      )
+    where
+      below : (i : ℕ) → getD (sumsOf a) i 0 < 65536 → getD sums i 0 < 65536
+      below i h = subst (λ (l : List ℕ). getD l i 0 < 65536) (sym e) h
+
+      counted : (x m : ℕ) → sumOver x m < 65536
+      counted x m = let h = ones-most 64 (bitAnd x m) in omega (arith, h)
+
+      fixed : (x : ℕ) → 8 + sumOver x 3 < 65536
+      fixed x = let h = ones-most 64 (bitAnd x 3) in omega (arith, h)
+
+      masked : (b : Bool) (x : ℕ) → cond b (ones 64 x * 8) 0 < 65536
+      masked true x = let h = ones-most 64 x in omega (arith, h)
+      masked false x = omega arith
+
+  -- what is packed is unpacked
+  pub unpacks : (x y : ℕ) → Four (getD sums 0 0) (getD sums 1 0) (getD sums 2 0) (getD sums 3 0) x → Four (getD sums 4 0) (getD sums 5 0) (getD sums 6 0) (getD sums 7 0) y
+      → unpacked x y ≡ sumsOf a
+  unfolding Four sumsOf
+  unpacks x y f g =
+      let at : (i : ℕ) → getD sums i 0 ≡ getD (sumsOf a) i 0 = λ i. ap (λ (l : List ℕ). getD l i 0) e in
+      λ j.
+      (f .0 ∙ at 0) j
+      ∷ (f .1 ∙ at 1) j
+      ∷ (f .2 ∙ at 2) j
+      ∷ (f .3 ∙ at 3) j
+      ∷ (g .0 ∙ at 4) j
+      ∷ (g .1 ∙ at 5) j
+      ∷ (g .2 ∙ at 6) j
+      ∷ (g .3 ∙ at 7) j
+      ∷ []
 
 -- ---- what is noted
 
--- what the second word says of an identifier: 21, since the edition does not know bit 16; 26, since it is not in the table; 1
+-- what the second word says of an identifier: 21, since the edition does not know bit 16; 26, since it is not in the table; 2
 unfoldable pub standing : Known → List Event → ℕ → ℕ
-standing k es id = cond (ltb 16 (k .samples)) (cond (isIn id (identifiers es)) 1 26) 21
+standing k es id = cond (ltb 16 (k .samples)) (cond (isIn id (identifiers es)) 2 26) 21
 
 pub standing-small : (k : Known) (es : List Event) (id : ℕ) → standing k es id ≤ 26
 unfolding standing
 standing-small k es id = by (ltb 16 (k .samples)) (isIn id (identifiers es))
   where
-    by : (b c : Bool) → cond b (cond c 1 26) 21 ≤ 26
+    by : (b c : Bool) → cond b (cond c 2 26) 21 ≤ 26
     by true true = omega arith
     by true false = omega arith
     by false c = omega arith
 
 -- what edition and attributes fix of an event
-pub record Planned (k : Known) (a : Attributes) (s : List (List ℕ)) : Type 0 where
-  pub why : getD (note s) 2 0 ≡ unreadable k a 1 0
-  pub sample : Marked k a 9 (getD (note s) 3 0)
-  pub read : Marked k a 8 (getD (note s) 4 0)
+pub record Planned (k : Known) (a : Attributes) (s : List ℕ) : Type 0 where
+  pub why : getD s 2 0 ≡ unreadable k a 1 0
+  pub sample : Marked k a 9 (getD s 3 0)
+  pub read : Marked k a 8 (getD s 4 0)
   pub sums : sumsIn s ≡ sumsOf a
 
 -- the attributes of an identifier's event
@@ -54,28 +119,38 @@ abbrev pub attributesFor : List Event → ℕ → Attributes
 attributesFor es id = attributesOf (eventAt es (indexOf id (identifiers es)))
 
 -- the slot of an identifier
-pub record Filled (k : Known) (es : List Event) (id : ℕ) (s : List (List ℕ)) : Type 0 where
-  pub whose : getD (note s) 0 0 ≡ id
-  pub stands : getD (note s) 1 0 ≡ standing k es id
-  pub index : getD (note s) 1 0 ≡ 1 → (getD (note s) 5 0 ≡ indexOf id (identifiers es)) × (indexOf id (identifiers es) < length es)
-  pub planned : getD (note s) 1 0 ≡ 1 → Planned k (attributesFor es id) s
+pub record Filled (k : Known) (es : List Event) (id : ℕ) (s : List ℕ) : Type 0 where
+  pub whose : getD s 0 0 ≡ id
+  pub stands : getD s 1 0 ≡ standing k es id
+  pub index : getD s 1 0 ≡ 2 → (getD s 5 0 ≡ indexOf id (identifiers es)) × (indexOf id (identifiers es) < length es)
+  pub planned : getD s 1 0 ≡ 2 → Planned k (attributesFor es id) s
 
--- an empty slot says nothing
-abbrev pub Slot : Known → List Event → List (List ℕ) → Type 0
-Slot k es s = (getD (note s) 1 0 ≡ 0 → ⊥) → Filled k es (getD (note s) 0 0) s
+-- a slot in which the index of its identifier alone is noted: the edition knows bit 16, and the identifier is in the table
+pub record Noted (k : Known) (es : List Event) (id : ℕ) (s : List ℕ) : Type 0 where
+  pub known-there : 16 < k .samples
+  pub index : getD s 5 0 ≡ indexOf id (identifiers es)
+  pub inside : indexOf id (identifiers es) < length es
+
+-- a slot that is not filled says nothing, or its index alone; any other is its identifier's
+pub record Slot (k : Known) (es : List Event) (s : List ℕ) : Type 0 where
+  pub filled : 1 < getD s 1 0 → Filled k es (getD s 0 0) s
+  pub noted : getD s 1 0 ≡ 1 → Noted k es (getD s 0 0) s
 
 -- every slot of a drain is the slot of the identifier that it names
-pub record Memo (k : Known) (es : List Event) (m : List (List (List ℕ))) : Type 0 where
+pub record Memo (k : Known) (es : List Event) (m : List (List ℕ)) : Type 0 where
   pub at : (i : ℕ) → i < length m → Slot k es (getD m i [])
 
 -- ---- the slots of a drain
 
 -- all are empty
-pub memo-first : (k : Known) (es : List Event) (n : ℕ) → Memo k es (replicate n (replicate 2 (replicate 8 0)))
-memo-first k es n = record { at = λ i h z. absurd (z (ap (λ (s : List (List ℕ)). getD (note s) 1 0) (getD-replicate n i (replicate 2 (replicate 8 0)) [] (subst (λ (l : ℕ). i < l) (length-replicate n _) h)))) }
+pub memo-first : (k : Known) (es : List Event) (n : ℕ) → Memo k es (replicate n (replicate 8 0))
+memo-first k es n = record { at = λ i h. subst (Slot k es) (sym (getD-replicate n i (replicate 8 0) [] (subst (λ (l : ℕ). i < l) (length-replicate n _) h))) none }
+  where
+    none : Slot k es (replicate 8 0)
+    none = record { filled = λ z. absurd (omega (arith, z)); noted = λ e. absurd (omega (arith, e)) }
 
 -- the slot at a place is another's
-pub memo-put : (k : Known) (es : List Event) (m : List (List (List ℕ))) (h : ℕ) (s : List (List ℕ)) → Memo k es m → Slot k es s → Memo k es (set m h s)
+pub memo-put : (k : Known) (es : List Event) (m : List (List ℕ)) (h : ℕ) (s : List ℕ) → Memo k es m → Slot k es s → Memo k es (set m h s)
 memo-put k es m h s w f = record { at = λ i l. by i (subst (λ (n : ℕ). i < n) (length-set m h s) l) (eqb i h) refl }
   where
     by : (i : ℕ) → i < length m → (b : Bool) → eqb i h ≡ b → Slot k es (getD (set m h s) i [])
@@ -84,15 +159,46 @@ memo-put k es m h s w f = record { at = λ i l. by i (subst (λ (n : ℕ). i < n
         subst (λ (j : ℕ). Slot k es (getD (set m h s) j [])) (sym q) (subst (Slot k es) (sym (getD-set-same m h s [] (subst (λ (j : ℕ). j < length m) q l))) f)
     by i l false e = subst (Slot k es) (sym (getD-set-other m h i s [] (eqb-false i h e))) (w .at i l)
 
--- a slot of this identifier, which is not empty
-pub memo-held : (k : Known) (es : List Event) (m : List (List (List ℕ))) (h id : ℕ) → Memo k es m → h < length m → getD (note (getD m h [])) 0 0 ≡ id
-    → (getD (note (getD m h [])) 1 0 ≡ 0 → ⊥) → Filled k es id (getD m h [])
-memo-held k es m h id w l e z = subst (λ (n : ℕ). Filled k es n (getD m h [])) e (w .at h l z)
+-- a slot of this identifier, which is filled
+pub memo-held : (k : Known) (es : List Event) (m : List (List ℕ)) (h id : ℕ) → Memo k es m → h < length m → getD (getD m h []) 0 0 ≡ id
+    → 1 < getD (getD m h []) 1 0 → Filled k es id (getD m h [])
+memo-held k es m h id w l e z = subst (λ (n : ℕ). Filled k es n (getD m h [])) e (w .at h l .filled z)
 
-filled-slot : (k : Known) (es : List Event) (id : ℕ) (s : List (List ℕ)) → Filled k es id s → Slot k es s
-filled-slot k es id s f z = subst (λ (n : ℕ). Filled k es n s) (sym (f .whose)) f
+-- a slot of this identifier, in which its index is noted
+pub slot-noted : (k : Known) (es : List Event) (id : ℕ) (s : List ℕ) → Slot k es s → getD s 0 0 ≡ id → getD s 1 0 ≡ 1 → Noted k es id s
+slot-noted k es id s w e f = subst (λ (n : ℕ). Noted k es n s) e (w .noted f)
 
-pub memo-filled : (k : Known) (es : List Event) (m : List (List (List ℕ))) (h id : ℕ) (s : List (List ℕ)) → Memo k es m → h < length m → Filled k es id s
+-- what is filled says what its identifier's records are
+filled-some : (k : Known) (es : List Event) (id : ℕ) (s : List ℕ) → Filled k es id s → getD s 1 0 ≡ 1 → ⊥
+unfolding standing
+filled-some k es id s f e = by (ltb 16 (k .samples)) (isIn id (identifiers es)) (sym (f .stands) ∙ e)
+  where
+    by : (b c : Bool) → _≡_ {A = ℕ} (cond b (cond c 2 26) 21) 1 → ⊥
+    by true true q = omega (arith, q)
+    by true false q = omega (arith, q)
+    by false c q = omega (arith, q)
+
+filled-slot : (k : Known) (es : List Event) (id : ℕ) (s : List ℕ) → Filled k es id s → Slot k es s
+filled-slot k es id s f = record { filled = λ z. subst (λ (n : ℕ). Filled k es n s) (sym (f .whose)) f; noted = λ e. absurd (filled-some k es id s f e) }
+
+-- the index of an event of a table whose identifiers are distinct, noted at a place
+pub memo-entered : (k : Known) (rows : List (List ℕ)) (m : List (List ℕ)) (h i : ℕ) (s : List ℕ) → Memo k (eventsOf rows) m → 16 < k .samples
+    → distinct (identifiers (eventsOf rows)) ≡ true → i < length rows → getD s 0 0 ≡ getD (getD rows i []) 0 0 → getD s 1 0 ≡ 1 → getD s 5 0 ≡ i
+    → Memo k (eventsOf rows) (set m h s)
+unfolding eventOf
+memo-entered k rows m h i s w b d l e f g =
+    memo-put k (eventsOf rows) m h s w
+    (record { filled = λ z. absurd (omega (arith, z, f)); noted = λ q. record { known-there = b; index = g ∙ sym its; inside = omega (arith, its, l, rows-length rows) } })
+  where
+    same : getD (identifiers (eventsOf rows)) i 0 ≡ getD s 0 0
+    same = identifier-at (eventsOf rows) i ∙ ap (λ (v : Event). v .identifier) (row-at rows i [] l) ∙ sym e
+
+    its : indexOf (getD s 0 0) (identifiers (eventsOf rows)) ≡ i
+    its =
+        ap (λ (n : ℕ). indexOf n (identifiers (eventsOf rows))) (sym same)
+        ∙ index-unique (identifiers (eventsOf rows)) i d (omega (arith, identifiers-length (eventsOf rows), rows-length rows, l))
+
+pub memo-filled : (k : Known) (es : List Event) (m : List (List ℕ)) (h id : ℕ) (s : List ℕ) → Memo k es m → h < length m → Filled k es id s
     → Memo k es (set m h s) × Filled k es id (getD (set m h s) h [])
 memo-filled k es m h id s w l f = (memo-put k es m h s w (filled-slot k es id s f), subst (Filled k es id) (sym (getD-set-same m h s [] l)) f)
 
@@ -100,7 +206,7 @@ memo-filled k es m h id s w l f = (memo-put k es m h s w (filled-slot k es id s 
 
 module _ (k : Known) (es : List Event) (id : ℕ) where
   -- the edition does not know bit 16
-  pub filled-unknown : (s : List (List ℕ)) → k .samples ≤ 16 → getD (note s) 0 0 ≡ id → getD (note s) 1 0 ≡ 21 → Filled k es id s
+  pub filled-unknown : (s : List ℕ) → k .samples ≤ 16 → getD s 0 0 ≡ id → getD s 1 0 ≡ 21 → Filled k es id s
   unfolding standing
   filled-unknown s h e f =
       record {
@@ -112,7 +218,7 @@ module _ (k : Known) (es : List Event) (id : ℕ) where
 
   module _ (h : 16 < k .samples) (i : ℕ) (ei : i ≡ indexOf id (identifiers es)) where
     -- it is not in the table
-    pub filled-absent : (s : List (List ℕ)) → length es ≤ i → getD (note s) 0 0 ≡ id → getD (note s) 1 0 ≡ 26 → Filled k es id s
+    pub filled-absent : (s : List ℕ) → length es ≤ i → getD s 0 0 ≡ id → getD s 1 0 ≡ 26 → Filled k es id s
     unfolding standing
     filled-absent s l e f =
         let n : length (identifiers es) ≤ indexOf id (identifiers es) = omega (arith, identifiers-length es, ei, l) in
@@ -124,7 +230,7 @@ module _ (k : Known) (es : List Event) (id : ℕ) where
         }
 
     -- it is
-    pub filled-found : (s : List (List ℕ)) → i < length es → getD (note s) 0 0 ≡ id → getD (note s) 1 0 ≡ 1 → getD (note s) 5 0 ≡ i
+    pub filled-found : (s : List ℕ) → i < length es → getD s 0 0 ≡ id → getD s 1 0 ≡ 2 → getD s 5 0 ≡ i
         → Planned k (attributesOf (eventAt es i)) s → Filled k es id s
     unfolding standing
     filled-found s l e f g p =
@@ -165,7 +271,7 @@ module _ (k : Known) (es : List Event) (r : List ℕ) (from : 1 ≤ kindOf r) (t
   unfolding judgeEvents first
   short-judged h l = rw (typed, lt-ltb 16 (k .samples) h, lt-leb 16 (length r) l) refl
 
-  module _ (long : 16 ≤ length r) (s : List (List ℕ)) (f : Filled k es (identifierOf r) s) where
+  module _ (long : 16 ≤ length r) (s : List ℕ) (f : Filled k es (identifierOf r) s) where
     -- what the slot says of its identifier, before its event is asked
     by-standing : judgeEvents k es r ≡ cond (ltb 16 (k .samples)) (cond (isIn (identifierOf r) (identifiers es)) (judge (layoutFor k es r) r) 26) 21
     unfolding judgeEvents first
@@ -177,21 +283,21 @@ module _ (k : Known) (es : List Event) (r : List ℕ) (from : 1 ≤ kindOf r) (t
         by false c n = refl
 
     -- refused by it
-    pub slot-refused : (getD (note s) 1 0 ≡ 1 → ⊥) → getD (note s) 1 0 ≡ judgeEvents k es r
+    pub slot-refused : (getD s 1 0 ≡ 2 → ⊥) → getD s 1 0 ≡ judgeEvents k es r
     unfolding standing
     slot-refused z = f .stands ∙ by (ltb 16 (k .samples)) (isIn (identifierOf r) (identifiers es)) (λ q. z (f .stands ∙ q)) (judge (layoutFor k es r) r) ∙ sym by-standing
       where
-        by : (b c : Bool) → (_≡_ {A = ℕ} (cond b (cond c 1 26) 21) 1 → ⊥) → (n : ℕ) → _≡_ {A = ℕ} (cond b (cond c 1 26) 21) (cond b (cond c n 26) 21)
+        by : (b c : Bool) → (_≡_ {A = ℕ} (cond b (cond c 2 26) 21) 2 → ⊥) → (n : ℕ) → _≡_ {A = ℕ} (cond b (cond c 2 26) 21) (cond b (cond c n 26) 21)
         by true true z n = absurd (z refl)
         by true false z n = refl
         by false c z n = refl
 
     -- its event's own
-    pub slot-judged : getD (note s) 1 0 ≡ 1 → judge (layout k (attributesFor es (identifierOf r))) r ≡ judgeEvents k es r
+    pub slot-judged : getD s 1 0 ≡ 2 → judge (layout k (attributesFor es (identifierOf r))) r ≡ judgeEvents k es r
     unfolding standing
     slot-judged e = by (ltb 16 (k .samples)) (isIn (identifierOf r) (identifiers es)) (sym (f .stands) ∙ e) (judge (layoutFor k es r) r) ∙ sym by-standing
       where
-        by : (b c : Bool) → _≡_ {A = ℕ} (cond b (cond c 1 26) 21) 1 → (n : ℕ) → n ≡ cond b (cond c n 26) 21
+        by : (b c : Bool) → _≡_ {A = ℕ} (cond b (cond c 2 26) 21) 2 → (n : ℕ) → n ≡ cond b (cond c n 26) 21
         by true true q n = refl
         by true false q n = absurd (omega (arith, q))
         by false c q n = absurd (omega (arith, q))

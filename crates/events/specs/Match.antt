@@ -88,16 +88,3 @@ module _ (k : Known) (es : List Event) (r : List ℕ) (m : Match) (e : m ≡ mat
     match-own a ea =
         ap (λ (b : Attributes). judge (layout k b) r) (ea ∙ match-event)
         ∙ sym (judge-matched k es r ∙ ap (λ (b : Bool). cond b (judge (layoutFor k es r) r) (unmatched k es r)) (eq-eqb (unmatched k es r) 0 none))
-
--- the index is in the table, or 0
-index-none : (k : Known) (es : List Event) (r : List ℕ) (m : Match) → m ≡ matched k es r → eqb (m .answer) 0 ≡ false → m .index ≡ 0
-unfolding matched
-index-none k es r m e h =
-    ap (λ (x : Match). x .index) e ∙ ap (λ (b : Bool). cond b (indexFor es r) 0) (sym (ap (λ (x : Match). eqb (x .answer) 0) e) ∙ h)
-
-pub match-most : (k : Known) (es : List Event) (r : List ℕ) (m : Match) → m ≡ matched k es r → m .index ≤ length es
-match-most k es r m e = by (eqb (m .answer) 0) refl
-  where
-    by : (b : Bool) → eqb (m .answer) 0 ≡ b → m .index ≤ length es
-    by true h = omega (arith, match-there k es r m e (eqb-true (m .answer) 0 h))
-    by false h = omega (arith, index-none k es r m e h)

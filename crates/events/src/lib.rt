@@ -262,7 +262,7 @@ pub fn match_event(r: &[u8], e: u64, rows: &[[u64; 7]]) -> Match
 // "the number inspected .. equals the entry's index plus one, the table's length for 26, and 0 without a lookup" (M-112), in a
 // table of n events.
 pub fn inspected(m: Match, n: usize) -> u32
-    requires { ⌜ (m .index ≤ 1024) × (n ≤ 1024) ⌝ }
+    requires { ⌜ (m .answer ≡ 0 → m .index < 4294967295) × (n < 4294967296) ⌝ }
     ensures { λ r. ⌜ r ≡ inspectedBy m n ⌝ }
 {
     if m.answer == 0 {

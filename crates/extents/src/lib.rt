@@ -5,8 +5,7 @@ ghost use Prim.Native.Nat.{_+_, _≤_};
 ghost use lib.ListN.{length, take, drop};
 ghost use Rattle.meaning.specs.Items.{shapeStep, step};
 ghost use Rattle.compare.specs.Compared.{sameBytes, alike};
-ghost use Rattle.extents.specs.Common.{common};
-ghost use Rattle.extents.specs.Extent.{extent, Rest, fieldIn, Lies, Passed};
+ghost use Rattle.extents.specs.Extent.{extent, fourWords, Rest, fieldIn, Lies, Passed};
 use meaning::Cursor;
 use meaning::Item;
 use meaning::Shape;
@@ -20,13 +19,42 @@ pub struct Extent {
     pub w: u64,
 }
 
-// How many of n bytes from i on in s, and from j on in t, are found equal by words of eight.
-fn same_words(s: &[u8], i: usize, t: &[u8], j: usize, n: usize) -> usize
+// Four words of eight bytes at once.
+fn same_four(s: &[u8], i: usize, t: &[u8], j: usize) -> bool
+    requires { ⌜ i + 32 ≤ length (now s) ⌝ }
+    requires { ⌜ j + 32 ≤ length (now t) ⌝ }
+    ensures { λ r. ⌜ r ≡ fourWords (now (s .entry)) i (now (t .entry)) j ⌝ }
+{
+    let first = wire::u64_at(s, i) == wire::u64_at(t, j);
+    let second = wire::u64_at(s, i + 8) == wire::u64_at(t, j + 8);
+    let third = wire::u64_at(s, i + 16) == wire::u64_at(t, j + 16);
+    let fourth = wire::u64_at(s, i + 24) == wire::u64_at(t, j + 24);
+    (first & second) & (third & fourth)
+}
+
+// How many of n bytes from i on in s, and from j on in t, are found equal by blocks of 32.
+fn same_blocks(s: &[u8], i: usize, t: &[u8], j: usize, n: usize) -> usize
     requires { ⌜ i + n ≤ length (now s) ⌝ }
     requires { ⌜ j + n ≤ length (now t) ⌝ }
     ensures { λ r. ⌜ Rest (now (s .entry)) (now (t .entry)) i j n r ⌝ }
 {
     let mut k = 0;
+    while 32 <= n - k {
+        if !same_four(s, i + k, t, j + k) {
+            return k;
+        }
+        k += 32;
+    }
+    k
+}
+
+// By blocks, then by words of eight.
+fn same_words(s: &[u8], i: usize, t: &[u8], j: usize, n: usize) -> usize
+    requires { ⌜ i + n ≤ length (now s) ⌝ }
+    requires { ⌜ j + n ≤ length (now t) ⌝ }
+    ensures { λ r. ⌜ Rest (now (s .entry)) (now (t .entry)) i j n r ⌝ }
+{
+    let mut k = same_blocks(s, i, t, j, n);
     while 8 <= n - k {
         if wire::u64_at(s, i + k) != wire::u64_at(t, j + k) {
             return k;
@@ -50,22 +78,6 @@ pub fn same_bytes(s: &[u8], i: usize, t: &[u8], j: usize, n: usize) -> bool
         k += 1;
     }
     true
-}
-
-// The first place from `at` on where the bytes of two slices of one length differ, or their end.
-pub fn same_until(s: &[u8], t: &[u8], at: usize) -> usize
-    requires { ⌜ (at ≤ length (now s)) × (length (now t) ≡ length (now s)) ⌝ }
-    ensures { λ r. ⌜ r ≡ at + common (drop at (now (s .entry))) (drop at (now (t .entry))) ⌝ }
-{
-    let n = s.len() - at;
-    let mut k = same_words(s, at, t, at, n);
-    while k < n {
-        if s[at + k] != t[at + k] {
-            return at + k;
-        }
-        k += 1;
-    }
-    at + k
 }
 
 // Two fields, each in its own record.

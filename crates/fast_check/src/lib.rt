@@ -18,9 +18,9 @@ fn sampled(r: &[u8], kind: u64, known: Known, a: Attributes) -> u16
     requires { ⌜ kind ≡ 9 ⌝ }
     ensures { λ x. ⌜ x ≡ judge (layout known a) (now (r .entry)) ⌝ }
 {
-    let sums = plan::sums::sums(a);
-    let mark = plan::marks::sample_mark(known, a, &sums);
-    plan::judge::judge(r, kind, mark, known, a, &sums)
+    let sums = sums::sums(a);
+    let mark = marks::sample_mark(known, a, &sums);
+    plan::judge(r, kind, mark, known, a, &sums)
 }
 
 // The words of a group before its elements, which READ alone needs.
@@ -28,7 +28,7 @@ fn group_words(kind: u64, a: Attributes) -> usize
     ensures { λ r. ⌜ (kind ≡ 8 → r ≡ groupFixed (a .format)) ⌝ }
 {
     if kind == 8 {
-        return plan::sums::group(a) as usize;
+        return sums::group(a) as usize;
     }
     0
 }
@@ -46,8 +46,8 @@ fn planned(r: &[u8], e: u64, a: Attributes) -> u16
         return sampled(r, kind, row, a);
     }
     let trail = record::trailer_room(1, a);
-    let mark = plan::marks::other_mark(row, a, kind, trail as u64);
-    plan::judge::other(r, kind, mark, row, a, trail, group_words(kind, a))
+    let mark = marks::other_mark(row, a, kind, trail as u64);
+    plan::other(r, kind, mark, row, a, trail, group_words(kind, a))
 }
 
 // The answer for a record's bytes. A length that no record in a ring has is left to the plain judge.

@@ -19,7 +19,7 @@ use Rattle.meaning.specs.Values.{slot, slotShape, slotItem, tell}
 use Rattle.laws.specs.Bytes.{and-true, unbroken}
 use Rattle.fields.specs.declared.Words.{Words}
 use Rattle.fields.specs.Told.{toldOf}
-use Rattle.laws.specs.Again.{Taken}
+use Rattle.laws.specs.Again.{ItemPassed}
 use Rattle.laws.specs.Walks.{step-taken}
 
 positive : (w : Width) → 1 ≤ bytes w
@@ -29,8 +29,8 @@ positive W4 = omega arith
 positive W8 = omega arith
 
 module _ (xs : List ℕ) (i : Item) (c : Cursor) (sh : Shape) (h : step xs i c .why ≡ 0) (o : i .on ≡ true) (e : i .shape ≡ sh) where
-  took : Taken sh c (drop (c .at) xs)
-  took = subst (λ (s : Shape). Taken s c (drop (c .at) xs)) e (step-taken xs i c h o)
+  took : ItemPassed sh c (drop (c .at) xs)
+  took = subst (λ (s : Shape). ItemPassed s c (drop (c .at) xs)) e (step-taken xs i c h o)
 
   -- an item that takes bytes has them
   pub has : (k : ℕ) → span sh c (length (drop (c .at) xs)) ≡ k → 1 ≤ k → c .at + k ≤ length xs

@@ -70,7 +70,7 @@ unfolding past
 past-at sh v k c n h = h
 
 -- an item was taken: its bytes are there, and its rule is kept
-pub record Taken (sh : Shape) (c : Cursor) (rest : List ℕ) : Type 0 where
+pub record ItemPassed (sh : Shape) (c : Cursor) (rest : List ℕ) : Type 0 where
   pub there : span sh c (length rest) ≤ length rest
   pub long : length (part sh c rest) ≡ span sh c (length rest)
   pub kept : rule sh c (part sh c rest) ≡ 0
@@ -82,12 +82,12 @@ pub record Refused (c d : Cursor) : Type 0 where
   pub some : number ≡ 0 → ⊥
   pub is : d ≡ refuse number c
 
-pub outcome : (sh : Shape) (c : Cursor) (rest : List ℕ) → Taken sh c rest ⊎ Refused c (shapeStep sh c rest)
+pub outcome : (sh : Shape) (c : Cursor) (rest : List ℕ) → ItemPassed sh c rest ⊎ Refused c (shapeStep sh c rest)
 unfolding shapeStep settle part
 outcome sh c rest = go (leb (span sh c (length rest)) (length rest)) (eqb (rule sh c (part sh c rest)) 0) refl refl
   where
     go : (t u : Bool) → leb (span sh c (length rest)) (length rest) ≡ t → eqb (rule sh c (part sh c rest)) 0 ≡ u
-        → Taken sh c rest ⊎ Refused c (shapeStep sh c rest)
+        → ItemPassed sh c rest ⊎ Refused c (shapeStep sh c rest)
     go true true e f =
         let l = leb-true (span sh c (length rest)) (length rest) e in
         inl (record {
@@ -100,8 +100,8 @@ outcome sh c rest = go (leb (span sh c (length rest)) (length rest)) (eqb (rule 
     go false u e f = inr (record { number = 30; some = λ q. omega arith; is = rw e })
 
 -- an item that was not refused was taken
-pub taken : (sh : Shape) (c : Cursor) (rest : List ℕ) → shapeStep sh c rest .why ≡ 0 → Taken sh c rest
-taken sh c rest h = ⊎-elim (λ t. t) (λ r. absurd (r .some (sym (ap (λ (d : Cursor). d .why) (r .is)) ∙ h))) (outcome sh c rest)
+pub item-passed : (sh : Shape) (c : Cursor) (rest : List ℕ) → shapeStep sh c rest .why ≡ 0 → ItemPassed sh c rest
+item-passed sh c rest h = ⊎-elim (λ t. t) (λ r. absurd (r .some (sym (ap (λ (d : Cursor). d .why) (r .is)) ∙ h))) (outcome sh c rest)
 
 -- one item: its content fits, is written as its kept bytes, and leads to the same state, inside the record
 unfoldable pub Undone : Bool → Shape → List ℕ → Cursor → Type 0
@@ -121,7 +121,7 @@ undone true sh xs c s m l z h =
     let R : List ℕ = drop (c .at) xs in
     let ys : List ℕ = part sh c R in
     let e : step xs (item true sh) c ≡ shapeStep sh c R = stepped true sh xs c z in
-    let p = taken sh c R (ap (λ (d : Cursor). d .why) (sym e) ∙ h) in
+    let p = item-passed sh c R (ap (λ (d : Cursor). d .why) (sym e) ∙ h) in
     let r = length-drop (c .at) xs in
     let t : length ys ≡ span sh c (length R) = p .long in
     let q : length ys ≤ length R = omega (arith, p .there) in

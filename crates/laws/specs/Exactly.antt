@@ -18,7 +18,7 @@ use Rattle.meaning.specs.Editions.{known, allowed}
 use Rattle.meaning.specs.Schema.{trailer}
 use Rattle.meaning.specs.Records.{Layout, layout, room, kindOf, miscOf, sizeOf, origin, fieldsOf, checkBy, check}
 use Rattle.laws.specs.There.{item}
-use Rattle.laws.specs.Again.{fine, fine₁, stepped, taken}
+use Rattle.laws.specs.Again.{fine, fine₁, stepped, item-passed}
 use Rattle.laws.specs.Answers.{fields-zero, fields-pass, check-zero, check-pass}
 use Rattle.laws.specs.Words.{front}
 use Rattle.laws.specs.Answer42.{check-of, of-check}
@@ -82,7 +82,7 @@ one-laid true sh is F c z h r =
     let R : List ℕ = drop (c .at) F in
     let k : ℕ = span sh c (length R) in
     let st = stepped true sh F c z in
-    let p = taken sh c R (ap (λ (d : Cursor). d .why) (sym st) ∙ h) in
+    let p = item-passed sh c R (ap (λ (d : Cursor). d .why) (sym st) ∙ h) in
     let bs : List ℕ = part sh c R in
     let b : Cursor = past sh (holds sh c bs) (length bs) c in
     let e : R ≡ bs ++ drop k R = sym (take-append-drop k R) in

@@ -24,7 +24,7 @@ use Rattle.laws.specs.Fixed.{fixed-run}
 use Rattle.laws.specs.Answers.{fields-zero, check-zero}
 use Rattle.laws.specs.Whole.{Sound, nameless-clean}
 use Rattle.laws.specs.Every.{sound}
-use Rattle.laws.specs.Words.{start, seen, asks, steady, Agree, tell-length, told}
+use Rattle.laws.specs.Words.{start, seen, asks, steady, Agree, tell-length, items-told}
 
 -- ---- zeros
 
@@ -197,9 +197,9 @@ record-told lay xs sound worded h =
     let e : recordWords lay xs ≡ laid (kindOf xs) (miscOf xs) (sizeOf xs) W T wide few = both-put (kindOf xs) (miscOf xs) (sizeOf xs) W T wide few in
     let least = f .0 in
     let lF : length F ≡ length xs - t = length-take-le (length xs - t) xs (omega arith) in
-    let b = told is xs F (length xs - t) (origin 8) start 0 0 (fw ++ (zeros (45 - length W) ++ (T ++ zeros (8 - length T)))) refl (omega (arith, lF, least)) (f .1) (agree-start 8) (worded .counts (kindOf xs) (miscOf xs)) in
+    let b = items-told is xs F (length xs - t) (origin 8) start 0 0 (fw ++ (zeros (45 - length W) ++ (T ++ zeros (8 - length T)))) refl (omega (arith, lF, least)) (f .1) (agree-start 8) (worded .counts (kindOf xs) (miscOf xs)) in
     let r = fixed-run ts xs o (sound .plain (kindOf xs)) refl (omega (arith, least)) in
-    let d = told ts xs xs (length xs) o start 0 0 (zeros (8 - length T)) (sym (take-length xs)) (omega (arith, least)) (r .0) (agree-start (length xs - t)) (worded .trails (kindOf xs)) in
+    let d = items-told ts xs xs (length xs) o start 0 0 (zeros (8 - length T)) (sym (take-length xs)) (omega (arith, least)) (r .0) (agree-start (length xs - t)) (worded .trails (kindOf xs)) in
     let asc = append-assoc w fw (zeros (45 - length W) ++ (T ++ zeros (8 - length T))) in
     let g : flagTold is (laid (kindOf xs) (miscOf xs) (sizeOf xs) W T wide few) ≡ flagOf lay xs =
     flag-told is (laid (kindOf xs) (miscOf xs) (sizeOf xs) W T wide few) w (zeros (45 - length W) ++ (T ++ zeros (8 - length T))) f₁ lw asc (laid-length (kindOf xs) (miscOf xs) (sizeOf xs) W T wide few) (omega (arith, lW, w₁)) (nameless-clean lay xs) in

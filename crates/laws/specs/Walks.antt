@@ -9,7 +9,7 @@ use borrow.Author.Tests.{eq-eqb, ne-eqb}
 use Rattle.meaning.specs.declared.Cursor.{Cursor}
 use Rattle.meaning.specs.declared.Item.{Item}
 use Rattle.meaning.specs.Items.{shapeStep, step}
-use Rattle.laws.specs.Again.{Taken, taken, fine₁}
+use Rattle.laws.specs.Again.{ItemPassed, item-passed, fine₁}
 
 module _ (xs : List ℕ) (i : Item) (c : Cursor) where
   pub step-refused : (c .why ≡ 0 → ⊥) → step xs i c ≡ c
@@ -29,5 +29,5 @@ module _ (xs : List ℕ) (i : Item) (c : Cursor) where
   step-on z o = rw (eq-eqb (c .why) 0 z, o)
 
   -- a selected item whose step was not refused was taken
-  pub step-taken : step xs i c .why ≡ 0 → i .on ≡ true → Taken (i .shape) c (drop (c .at) xs)
-  step-taken h o = taken (i .shape) c (drop (c .at) xs) (ap (λ (d : Cursor). d .why) (sym (step-on (fine₁ xs i c h) o)) ∙ h)
+  pub step-taken : step xs i c .why ≡ 0 → i .on ≡ true → ItemPassed (i .shape) c (drop (c .at) xs)
+  step-taken h o = item-passed (i .shape) c (drop (c .at) xs) (ap (λ (d : Cursor). d .why) (sym (step-on (fine₁ xs i c h) o)) ∙ h)

@@ -19,7 +19,7 @@ use Rattle.meaning.specs.Items.{Con, con, span, rule, holds, counted, before, p
 use Rattle.meaning.specs.Values.{Slot, slot, lists, unit, held, beyond, anyBeyond, means, slotShape, slotItem, tell, wordsOf, words, slotTold, slotOff, lastTold, beforeTold, slotsTold}
 use Rattle.laws.specs.Bytes.{apart, and-true, take-length-by, unbroken}
 use Rattle.laws.specs.There.{item}
-use Rattle.laws.specs.Again.{fine, fine₁, stepped, taken, past-at}
+use Rattle.laws.specs.Again.{fine, fine₁, stepped, item-passed, past-at}
 
 -- ---- counts. A writer remembers the counts that the words tell; the reader's cursor remembers those of the record. They differ after an abi
 -- word alone, and no list is counted by one of those. `Seen` is what a layout says beforehand: under which tests both are the same, and a bound
@@ -153,14 +153,14 @@ listed-told sh src F m at n k l t e q h g =
     let p = inside src F m at k e h in
     (rw (t, q) (ap (λ (x : List ℕ). con 0 x) (p .0 ∙ sym g)), rw (t, q) (le-ltb (length src) (at + k) (p .1)))
 
-abbrev Told : Shape → List ℕ → Slot → Con → Type 0
-Told sh src s v = (held src (item true sh) s ≡ v) × (beyond src (item true sh) s ≡ false)
+abbrev HeldAs : Shape → List ℕ → Slot → Con → Type 0
+HeldAs sh src s v = (held src (item true sh) s ≡ v) × (beyond src (item true sh) s ≡ false)
 
 -- ys are the item's bytes: k of them, as many as it takes
 shape-told : (sh : Shape) (src F : List ℕ) (m : ℕ) (c : Cursor) (s : Seen) (n old : ℕ) (rest : List ℕ) → F ≡ take m src → c .at ≤ length F
     → length (part sh c (drop (c .at) F)) ≤ length (drop (c .at) F) → length (part sh c (drop (c .at) F)) ≡ span sh c (length (drop (c .at) F))
     → rule sh c (part sh c (drop (c .at) F)) ≡ 0 → Agree s n old c → asks true sh s ≡ true
-    → Told sh src (slotTold sh n old (tell sh (slotShape sh c (part sh c (drop (c .at) F))) ++ rest)) (holds sh c (part sh c (drop (c .at) F)))
+    → HeldAs sh src (slotTold sh n old (tell sh (slotShape sh c (part sh c (drop (c .at) F))) ++ rest)) (holds sh c (part sh c (drop (c .at) F)))
 unfolding slotTold tell slotShape holds asks held beyond lists unit part span rule
 shape-told (Number w) src F m c s n old rest e l p q r g a = (refl, refl)
 shape-told (Ignored k) src F m c s n old rest e l p q r g a = (refl, refl)
@@ -229,7 +229,7 @@ unfolding content held beyond
 one-told true sh src F m c s n old rest e l z h g a =
     let R : List ℕ = drop (c .at) F in
     let st : step F (item true sh) c ≡ shapeStep sh c R = stepped true sh F c z in
-    let p = taken sh c R (ap (λ (d : Cursor). d .why) (sym st) ∙ h) in
+    let p = item-passed sh c R (ap (λ (d : Cursor). d .why) (sym st) ∙ h) in
     let f : step F (item true sh) c ≡ past sh (holds sh c (part sh c R)) (length (part sh c R)) c = st ∙ p .is in
     let d = length-drop (c .at) F in
     let q : length (part sh c R) ≤ length R = omega (arith, p .there, p .long) in
@@ -250,12 +250,12 @@ one-told false sh src F m c s n old rest e l z h g a =
     }
 
 -- all of them: the words of a walk that refuses nothing, told back
-pub told : (is : List Item) (src F : List ℕ) (m : ℕ) (c : Cursor) (s : Seen) (n old : ℕ) (rest : List ℕ) → F ≡ take m src → c .at ≤ length F
+pub items-told : (is : List Item) (src F : List ℕ) (m : ℕ) (c : Cursor) (s : Seen) (n old : ℕ) (rest : List ℕ) → F ≡ take m src → c .at ≤ length F
     → walk F is c .why ≡ 0 → Agree s n old c → steady is s ≡ true
     → (means src is (slotsTold is (words F is c ++ rest) n old) ≡ contents F is c) × (anyBeyond src is (slotsTold is (words F is c ++ rest) n old) ≡ false)
 unfolding walk words slotsTold means anyBeyond contents steady
-told [] src F m c s n old rest e l h g a = (refl, refl)
-told (i ∷ is) src F m c s n old rest e l h g a =
+items-told [] src F m c s n old rest e l h g a = (refl, refl)
+items-told (i ∷ is) src F m c s n old rest e l h g a =
     let h₁ : step F i c .why ≡ 0 = fine F is (step F i c) h in
     let z : c .why ≡ 0 = fine₁ F i c h₁ in
     let sh : Shape = i .shape in
@@ -266,6 +266,6 @@ told (i ∷ is) src F m c s n old rest e l h g a =
     let o = one-told (i .on) sh src F m c s n old (W ++ rest) e l z h₁ g (b .0) in
     let n′ : ℕ = cond (i .on) (lastTold sh n (getD ws 0 0)) n in
     let old′ : ℕ = cond (i .on) (beforeTold sh n old) old in
-    let r = told is src F m (step F i c) (seen (i .on) sh s) n′ old′ rest e (o .within) h (o .agree) (b .1) in
+    let r = items-told is src F m (step F i c) (seen (i .on) sh s) n′ old′ rest e (o .within) h (o .agree) (b .1) in
     let q : drop (wordsOf sh) ws ≡ W ++ rest = drop-at T (W ++ rest) (wordsOf sh) (tell-length sh (slotItem F i c)) in
     rw (append-assoc T W rest, q) (ap₂ (λ (x : Con) (y : List Con). x ∷ y) (o .means) (r .0), rw (o .inside) (r .1))

@@ -22,7 +22,7 @@ use Rattle.editions.specs.EventRecord.{event-fair}
 use Rattle.compare.specs.declared.Compared.{Compared}
 use Rattle.compare.specs.Fields.{Reads, fields}
 use Rattle.compare.specs.Compared.{alike, agree, allAlike, stops, cuttingAll, compared, scratchThen, eventReads, Side, cutting}
-use Rattle.compare.specs.Promise.{Sound, Whole, Same, First, Told}
+use Rattle.compare.specs.Promise.{Sound, Whole, Same, First, TrueReport}
 use Rattle.compare.specs.Pairs.{alike-exactly, named-differs}
 use Rattle.compare.specs.Sides.{framed-side, side-ends, scratch-long, side-first}
 use Rattle.compare.specs.Facts.{AllEqual, equal-told, told-equal, places-alike, ignored-alike, turned, meet-turned}
@@ -58,11 +58,11 @@ module _ (limit e : ℕ) (es : List Event) (ring₁ ring₂ : List ℕ) (head₁
   report = compared reads left right
 
   -- "Each pair before the reported place is equal under demand 2, and the named field differs"
-  pub the-report : sound limit es ≡ true → small ring₁ ≡ true → small ring₂ ≡ true → Told reads (cuttingAll left) (cuttingAll right) report
+  pub the-report : sound limit es ≡ true → small ring₁ ≡ true → small ring₂ ≡ true → TrueReport reads (cuttingAll left) (cuttingAll right) report
   the-report = table-told limit editions e es ring₁ ring₂ head₁ head₂ tail₁ tail₂ scratch₁ scratch₂
 
   -- and no other report says so: a stop, an end and a difference exclude each other, and each has its own numbers
-  pub no-other-report : (c : Compared) → sound limit es ≡ true → small ring₁ ≡ true → small ring₂ ≡ true → Told reads (cuttingAll left) (cuttingAll right) c → c ≡ report
+  pub no-other-report : (c : Compared) → sound limit es ≡ true → small ring₁ ≡ true → small ring₂ ≡ true → TrueReport reads (cuttingAll left) (cuttingAll right) c → c ≡ report
   no-other-report = table-only limit editions e es ring₁ ring₂ head₁ head₂ tail₁ tail₂ scratch₁ scratch₂
 
   -- alike exactly when both end with 0 at the same number with all pairs equal

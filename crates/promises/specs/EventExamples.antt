@@ -147,20 +147,20 @@ checks =
     ∷ checked 3 two (comm 1 5) 44 1 40
     ∷ []
 
-abbrev pub told : List Checked → List (List ℕ)
-told [] = []
-told (c ∷ cs) =
+abbrev pub answersOf : List Checked → List (List ℕ)
+answersOf [] = []
+answersOf (c ∷ cs) =
     (recordCheckEvents eventLimit editions (c .edition) (c .table) (c .bytes) .answer
     ∷ recordCheckEvents eventLimit editions (c .edition) (c .table) (c .bytes) .inspected
     ∷ readEvents eventLimit editions (c .edition) (c .table) (c .bytes) (zeros 55) .answer
     ∷ readEvents eventLimit editions (c .edition) (c .table) (c .bytes) (zeros 55) .inspected
     ∷ [])
-    ∷ told cs
+    ∷ answersOf cs
 
 abbrev pub telling : List Checked → List (List ℕ)
 telling [] = []
 telling (c ∷ cs) = (c .answer ∷ c .looked ∷ c .read ∷ c .looked ∷ []) ∷ telling cs
 
-pub as-told : told checks ≡ telling checks
+pub as-told : answersOf checks ≡ telling checks
 unfolding num spell bit ones zeroIn allZero stale ends named dirty first span rule holds counted before past part settle shapeStep step walk known outside bits depends unreadable layout kindOf miscOf sizeOf roomShape room fieldsOf closed fieldsAnswer judge flagBy flagOf attributesOf distinct allMarked sound identifierOf indexOf hasEvent judgeEvents seen inspected unasked checkEvents checkInspected recordCheckEvents readEvents
 as-told = refl

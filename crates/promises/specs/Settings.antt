@@ -130,7 +130,7 @@ module _ (xs : List ℕ) (lent : List (List ℕ)) where
   pub most-events : readStore versions editions xs (length lent) .answer ≡ 0 → readStore versions editions xs (length lent) .events ≤ shown versions xs .limit
   most-events h =
       let v = shown versions xs in
-      let a = accepted versions editions xs (length lent) (sym (store.told versions editions xs (length lent)) ∙ h) in
+      let a = accepted versions editions xs (length lent) (sym (store.answer-told versions editions xs (length lent)) ∙ h) in
       let n : readStore versions editions xs (length lent) .events ≡ countOf v xs = ap (λ (s : Settings). s .events) (store.given versions editions xs lent h .read) in
       let l : length (eventsOf (rowsOf v xs (countOf v xs))) ≡ countOf v xs = table-length (rowsOf v xs (countOf v xs)) ∙ rows-length v xs (countOf v xs) in
       omega (arith, n, l, sound-limit (v .limit) (eventsOf (rowsOf v xs (countOf v xs))) (a .sound))
@@ -146,7 +146,7 @@ module _ (xs : List ℕ) (lent : List (List ℕ)) where
 pub other-version : (vs : List Version) (ks : List Known) (v : Version) (rows : List (List ℕ)) (ring edition budget lent : ℕ) → v .number < 256 ^ 2
     → isKnown (versionOf vs (v .number)) ≡ false → readStore vs ks (storeBytes v rows ring edition budget) lent .answer ≡ 50
 other-version vs ks v rows ring edition budget lent b h =
-    store.told vs ks (storeBytes v rows ring edition budget) lent ∙ old-build vs ks v rows ring edition budget lent b h
+    store.answer-told vs ks (storeBytes v rows ring edition budget) lent ∙ old-build vs ks v rows ring edition budget lent b h
 
 -- "An old build answers 50" (M-112): the build that reads version 1 alone, to every store that this build writes
 pub old-build-50 : (ks : List Known) (rows : List (List ℕ)) (ring edition budget lent : ℕ)

@@ -4,6 +4,7 @@
 -- contract's clauses, as the check of that crate reads them, so a contract that is weakened is refused here. What a contract leaves open is
 -- listed in docs/UNIQUENESS.md. Assumes nothing.
 use mathlib.Core.Path.{_≡_, refl, sym, ap, _∙_}
+use mathlib.Core.Bool.{Bool, true, false, cond}
 use mathlib.Core.List.{List, [], _∷_, map}
 use Prim.Native.Nat.{ℕ}
 use native.Mathlib.Nat.{add-zero}
@@ -21,6 +22,8 @@ use prog.Routine.{Routine}
 use prog.Wp.{Heap}
 use borrow.Fn.Kinds.{PK, RK, Out, Dens, resT, endedOf}
 use Rattle.meaning.specs.declared.Attributes.{Attributes}
+use Rattle.meaning.specs.declared.Cursor.{Cursor}
+use Rattle.meaning.specs.declared.Item.{Item}
 use Rattle.meaning.specs.declared.Shape.the-variants.{Bytes}
 use Rattle.meaning.specs.Items.{span}
 use Rattle.meaning.specs.Schema.{always}
@@ -45,9 +48,13 @@ use Rattle.events.proofs as events
 use Rattle.event_list.proofs as list
 use Rattle.blocks.proofs as blocks
 use Rattle.exact.proofs as exact
+use Rattle.sums.proofs as sums
+use Rattle.marks.proofs as marks
 use Rattle.plan.proofs as plan
 use Rattle.names.proofs as names
 use Rattle.ring.proofs as ring
+use Rattle.settings.specs.Versions.{placeOf}
+use Rattle.settings_walk.proofs as settings-walk
 use Rattle.settings_read.proofs as settings-read
 use Rattle.settings_write.proofs as settings-write
 use Rattle.readers.proofs as readers
@@ -57,21 +64,30 @@ use Rattle.reader.proofs as reader
 use Rattle.drain.proofs as drains
 use Rattle.event_drain.proofs as eventful
 use Rattle.walk_back.proofs as walks
+use Rattle.back_rows.proofs as backrows
 use Rattle.event_one.proofs as single
-use Rattle.salvage.proofs as salvage
+use Rattle.salvaging.proofs as salvaging
 use Rattle.extents.proofs as extents
 use Rattle.extents.specs.Extent.{passed-one}
+use Rattle.twins.proofs as twins
 use Rattle.comparing.proofs as comparing
 use Rattle.compare.specs.declared.Compared.{Compared}
 use Rattle.compare.specs.Compared.{Side, sideOf, scratchThen}
 use Rattle.fast_drain.proofs as fast
 use Rattle.fast_event_drain.proofs as swift
 use Rattle.window.proofs as window
+use Rattle.rooms.proofs as rooms
 use Rattle.replaying.proofs as replaying
 use Rattle.given.proofs as given
 use Rattle.fast_check.proofs as checks
+use Rattle.fills.proofs as fills
+use Rattle.chains.proofs as chains
+use Rattle.fast_read.proofs as fast-read
 use Rattle.ollskuvan_loop.proofs as loop
 use Rattle.ollskuvan_table.proofs as tabled
+use Rattle.ollskuvan_events.proofs as recorded
+use Rattle.ollskuvan_store.proofs as stored
+use Rattle.ollskuvan_saved.proofs as saved
 use Rattle.ollskuvan.proofs as ollskuvan
 use Rattle.writer_words.proofs as words
 use Rattle.writer_forms.proofs as forms
@@ -80,6 +96,14 @@ use Rattle.writer_parts.proofs as parts
 use Rattle.writer_parts.specs.Parts.{partItems}
 use Rattle.writer_record.proofs as whole
 use Rattle.writer.proofs as writer
+use Rattle.writer_items.specs.Tries.{unfit}
+use Rattle.writer_parts.specs.Parts.{tryItems}
+use Rattle.write_fits.proofs as fits
+use Rattle.write_fits.specs.declared.Walked.{Walked as Reached}
+use Rattle.write_fits.specs.Steps.{stateOf, tryFrom, Tried}
+use Rattle.write_puts.proofs as puts
+use Rattle.fit_chains.proofs as tests
+use Rattle.fast_writer.proofs as straight
 
 -- the law: a contract is an equation for each result and each slice, so one law settles it
 pub same : {A : Type 0} {x y z : A} → x ≡ z → y ≡ z → x ≡ y
@@ -301,6 +325,9 @@ answers-check κs a x y s t p q = same p q
 pub record-or-dirty : Result records.or_dirty.Kinds.ps records.or_dirty.Kinds.r records.or_dirty.Reads.Learnt
 record-or-dirty κs a x y s t p q = same p q
 
+pub record-stale-from : Result records.stale_from.Kinds.ps records.stale_from.Kinds.r records.stale_from.Reads.Learnt
+record-stale-from κs a x y s t p q = same p q
+
 pub record-read : Result records.read.Kinds.ps records.read.Kinds.r records.read.Reads.Learnt
 record-read κs a x y s t p q = same p q
 
@@ -377,19 +404,19 @@ pub exact-types-text-poke : Result exact.types.text_poke.Kinds.ps exact.types.te
 unfolding Closes
 exact-types-text-poke κs a x y s t p q = same (p 0 0) (q 0 0)
 
-pub plan-judge-judge : Result plan.judge.judge.Kinds.ps plan.judge.judge.Kinds.r plan.judge.judge.Reads.Learnt
+pub plan-judge-judge : Result plan.judge.Kinds.ps plan.judge.Kinds.r plan.judge.Reads.Learnt
 plan-judge-judge κs a x y s t p q = same p q
 
-pub plan-judge-other : Result plan.judge.other.Kinds.ps plan.judge.other.Kinds.r plan.judge.other.Reads.Learnt
+pub plan-judge-other : Result plan.other.Kinds.ps plan.other.Kinds.r plan.other.Reads.Learnt
 plan-judge-other κs a x y s t p q = same p q
 
-pub plan-sums-read-values : Result plan.sums.read_values.Kinds.ps plan.sums.read_values.Kinds.r plan.sums.read_values.Reads.Learnt
+pub plan-sums-read-values : Result sums.read_values.Kinds.ps sums.read_values.Kinds.r sums.read_values.Reads.Learnt
 plan-sums-read-values κs a x y s t p q = same (p .0) (q .0)
 
-pub plan-sums-group : Result plan.sums.group.Kinds.ps plan.sums.group.Kinds.r plan.sums.group.Reads.Learnt
+pub plan-sums-group : Result sums.group.Kinds.ps sums.group.Kinds.r sums.group.Reads.Learnt
 plan-sums-group κs a x y s t p q = same (p .0) (q .0)
 
-pub plan-sums-sums : Result plan.sums.sums.Kinds.ps plan.sums.sums.Kinds.r plan.sums.sums.Reads.Learnt
+pub plan-sums-sums : Result sums.sums.Kinds.ps sums.sums.Kinds.r sums.sums.Reads.Learnt
 plan-sums-sums κs a x y s t p q = same p q
 
 pub fast-check-judge : Result checks.judge.Kinds.ps checks.judge.Kinds.r checks.judge.Reads.Learnt
@@ -397,6 +424,145 @@ fast-check-judge κs a x y s t p q = same p q
 
 pub fast-check-check : Result checks.check.Kinds.ps checks.check.Kinds.r checks.check.Reads.Learnt
 fast-check-check κs a x y s t p q = same p q
+
+-- ---- fills, chains: the words of one item and of each type's fields: where the cursor is then, and the words at exit
+
+pub fills-number8 : Result fills.number8.Kinds.ps fills.number8.Kinds.r fills.number8.Reads.Learnt
+fills-number8 κs a x y s t p q = same (p .walk-is) (q .walk-is)
+
+pub fills-number8-words : Seen fills.number8.Kinds.ps fills.number8.Kinds.r fills.number8.Reads.Learnt (λ κs x s. now (s .1 .1 .1 .0))
+fills-number8-words κs a x y s t p q = same (p .put-is) (q .put-is)
+
+pub fills-number4 : Result fills.number4.Kinds.ps fills.number4.Kinds.r fills.number4.Reads.Learnt
+fills-number4 κs a x y s t p q = same (p .walk-is) (q .walk-is)
+
+pub fills-number4-words : Seen fills.number4.Kinds.ps fills.number4.Kinds.r fills.number4.Reads.Learnt (λ κs x s. now (s .1 .1 .1 .0))
+fills-number4-words κs a x y s t p q = same (p .put-is) (q .put-is)
+
+pub fills-number2 : Result fills.number2.Kinds.ps fills.number2.Kinds.r fills.number2.Reads.Learnt
+fills-number2 κs a x y s t p q = same (p .walk-is) (q .walk-is)
+
+pub fills-number2-words : Seen fills.number2.Kinds.ps fills.number2.Kinds.r fills.number2.Reads.Learnt (λ κs x s. now (s .1 .1 .1 .0))
+fills-number2-words κs a x y s t p q = same (p .put-is) (q .put-is)
+
+pub fills-ignored : Result fills.ignored.Kinds.ps fills.ignored.Kinds.r fills.ignored.Reads.Learnt
+fills-ignored κs a x y s t p q = same (p .walk-is) (q .walk-is)
+
+pub fills-ignored-words : Seen fills.ignored.Kinds.ps fills.ignored.Kinds.r fills.ignored.Reads.Learnt (λ κs x s. now (s .1 .1 .1 .0))
+fills-ignored-words κs a x y s t p q = same (p .put-is) (q .put-is)
+
+pub fills-count8 : Result fills.count8.Kinds.ps fills.count8.Kinds.r fills.count8.Reads.Learnt
+fills-count8 κs a x y s t p q = same (p .walk-is) (q .walk-is)
+
+pub fills-count8-words : Seen fills.count8.Kinds.ps fills.count8.Kinds.r fills.count8.Reads.Learnt (λ κs x s. now (s .1 .1 .1 .0))
+fills-count8-words κs a x y s t p q = same (p .put-is) (q .put-is)
+
+pub fills-count2 : Result fills.count2.Kinds.ps fills.count2.Kinds.r fills.count2.Reads.Learnt
+fills-count2 κs a x y s t p q = same (p .walk-is) (q .walk-is)
+
+pub fills-count2-words : Seen fills.count2.Kinds.ps fills.count2.Kinds.r fills.count2.Reads.Learnt (λ κs x s. now (s .1 .1 .1 .0))
+fills-count2-words κs a x y s t p q = same (p .put-is) (q .put-is)
+
+pub fills-size4 : Result fills.size4.Kinds.ps fills.size4.Kinds.r fills.size4.Reads.Learnt
+fills-size4 κs a x y s t p q = same (p .walk-is) (q .walk-is)
+
+pub fills-size4-words : Seen fills.size4.Kinds.ps fills.size4.Kinds.r fills.size4.Reads.Learnt (λ κs x s. now (s .1 .1 .1 .0))
+fills-size4-words κs a x y s t p q = same (p .put-is) (q .put-is)
+
+pub fills-size8 : Result fills.size8.Kinds.ps fills.size8.Kinds.r fills.size8.Reads.Learnt
+fills-size8 κs a x y s t p q = same (p .walk-is) (q .walk-is)
+
+pub fills-size8-words : Seen fills.size8.Kinds.ps fills.size8.Kinds.r fills.size8.Reads.Learnt (λ κs x s. now (s .1 .1 .1 .0))
+fills-size8-words κs a x y s t p q = same (p .put-is) (q .put-is)
+
+pub fills-limit : Result fills.limit.Kinds.ps fills.limit.Kinds.r fills.limit.Reads.Learnt
+fills-limit κs a x y s t p q = same (p .walk-is) (q .walk-is)
+
+pub fills-limit-words : Seen fills.limit.Kinds.ps fills.limit.Kinds.r fills.limit.Reads.Learnt (λ κs x s. now (s .1 .1 .1 .0))
+fills-limit-words κs a x y s t p q = same (p .put-is) (q .put-is)
+
+pub fills-abi : Result fills.abi.Kinds.ps fills.abi.Kinds.r fills.abi.Reads.Learnt
+fills-abi κs a x y s t p q = same (p .walk-is) (q .walk-is)
+
+pub fills-abi-words : Seen fills.abi.Kinds.ps fills.abi.Kinds.r fills.abi.Reads.Learnt (λ κs x s. now (s .1 .1 .1 .0))
+fills-abi-words κs a x y s t p q = same (p .put-is) (q .put-is)
+
+pub fills-filled : Result fills.filled.Kinds.ps fills.filled.Kinds.r fills.filled.Reads.Learnt
+fills-filled κs a x y s t p q = same (p .walk-is) (q .walk-is)
+
+pub fills-filled-words : Seen fills.filled.Kinds.ps fills.filled.Kinds.r fills.filled.Reads.Learnt (λ κs x s. now (s .1 .1 .1 .0))
+fills-filled-words κs a x y s t p q = same (p .put-is) (q .put-is)
+
+pub fills-times : Result fills.times.Kinds.ps fills.times.Kinds.r fills.times.Reads.Learnt
+fills-times κs a x y s t p q = same (p .walk-is) (q .walk-is)
+
+pub fills-times-words : Seen fills.times.Kinds.ps fills.times.Kinds.r fills.times.Reads.Learnt (λ κs x s. now (s .1 .1 .1 .0))
+fills-times-words κs a x y s t p q = same (p .put-is) (q .put-is)
+
+pub fills-values : Result fills.values.Kinds.ps fills.values.Kinds.r fills.values.Reads.Learnt
+fills-values κs a x y s t p q = same (p .walk-is) (q .walk-is)
+
+pub fills-values-words : Seen fills.values.Kinds.ps fills.values.Kinds.r fills.values.Reads.Learnt (λ κs x s. now (s .1 .1 .1 .0))
+fills-values-words κs a x y s t p q = same (p .put-is) (q .put-is)
+
+pub fills-earlier : Result fills.earlier.Kinds.ps fills.earlier.Kinds.r fills.earlier.Reads.Learnt
+fills-earlier κs a x y s t p q = same (p .walk-is) (q .walk-is)
+
+pub fills-earlier-words : Seen fills.earlier.Kinds.ps fills.earlier.Kinds.r fills.earlier.Reads.Learnt (λ κs x s. now (s .1 .1 .1 .0))
+fills-earlier-words κs a x y s t p q = same (p .put-is) (q .put-is)
+
+pub fills-registers : Result fills.registers.Kinds.ps fills.registers.Kinds.r fills.registers.Reads.Learnt
+fills-registers κs a x y s t p q = same (p .walk-is) (q .walk-is)
+
+pub fills-registers-words : Seen fills.registers.Kinds.ps fills.registers.Kinds.r fills.registers.Reads.Learnt (λ κs x s. now (s .1 .1 .1 .0))
+fills-registers-words κs a x y s t p q = same (p .put-is) (q .put-is)
+
+pub fills-listed : Result fills.listed.Kinds.ps fills.listed.Kinds.r fills.listed.Reads.Learnt
+fills-listed κs a x y s t p q = same (p .walk-is) (q .walk-is)
+
+pub fills-listed-words : Seen fills.listed.Kinds.ps fills.listed.Kinds.r fills.listed.Reads.Learnt (λ κs x s. now (s .1 .1 .1 .0))
+fills-listed-words κs a x y s t p q = same (p .put-is) (q .put-is)
+
+pub fills-bytes : Result fills.bytes.Kinds.ps fills.bytes.Kinds.r fills.bytes.Reads.Learnt
+fills-bytes κs a x y s t p q = same (p .walk-is) (q .walk-is)
+
+pub fills-bytes-words : Seen fills.bytes.Kinds.ps fills.bytes.Kinds.r fills.bytes.Reads.Learnt (λ κs x s. now (s .1 .1 .1 .0))
+fills-bytes-words κs a x y s t p q = same (p .put-is) (q .put-is)
+
+pub fills-pad : Result fills.pad.Kinds.ps fills.pad.Kinds.r fills.pad.Reads.Learnt
+fills-pad κs a x y s t p q = same (p .walk-is) (q .walk-is)
+
+pub fills-pad-words : Seen fills.pad.Kinds.ps fills.pad.Kinds.r fills.pad.Reads.Learnt (λ κs x s. now (s .1 .1 .1 .0))
+fills-pad-words κs a x y s t p q = same (p .put-is) (q .put-is)
+
+pub fills-name : Result fills.name.Kinds.ps fills.name.Kinds.r fills.name.Reads.Learnt
+fills-name κs a x y s t p q = same (p .walk-is) (q .walk-is)
+
+pub fills-name-words : Seen fills.name.Kinds.ps fills.name.Kinds.r fills.name.Reads.Learnt (λ κs x s. now (s .1 .1 .1 .0))
+fills-name-words κs a x y s t p q = same (p .put-is) (q .put-is)
+
+pub chains-fields : Result chains.fields.Kinds.ps chains.fields.Kinds.r chains.fields.Reads.Learnt
+chains-fields κs a x y s t p q = same (p .walk-is) (q .walk-is)
+
+pub chains-fields-words : Seen chains.fields.Kinds.ps chains.fields.Kinds.r chains.fields.Reads.Learnt (λ κs x s. now (s .1 .1 .1 .1 .1 .0))
+chains-fields-words κs a x y s t p q = same (p .put-is) (q .put-is)
+
+pub chains-trail : Result chains.trail.Kinds.ps chains.trail.Kinds.r chains.trail.Reads.Learnt
+chains-trail κs a x y s t p q = same (p .walk-is) (q .walk-is)
+
+pub chains-trail-words : Seen chains.trail.Kinds.ps chains.trail.Kinds.r chains.trail.Reads.Learnt (λ κs x s. now (s .1 .1 .1 .1 .0))
+chains-trail-words κs a x y s t p q = same (p .put-is) (q .put-is)
+
+pub chains-flag-at : Result chains.flag_at.Kinds.ps chains.flag_at.Kinds.r chains.flag_at.Reads.Learnt
+chains-flag-at κs a x y s t p q = same p q
+
+-- ---- fast_read: the reader of one record into lent words by these: the answer, and the words at exit
+
+pub fast-read-read-into : Result fast-read.read_into.Kinds.ps fast-read.read_into.Kinds.r fast-read.read_into.Reads.Learnt
+fast-read-read-into κs a x y s t p q = same (p .0) (q .0)
+
+pub fast-read-read-into-words : Seen fast-read.read_into.Kinds.ps fast-read.read_into.Kinds.r fast-read.read_into.Reads.Learnt (λ κs x s. now (s .1 .1 .1 .0))
+fast-read-read-into-words κs a x y s t p q = same (p .1) (q .1)
 
 -- ---- names: the copier of names: the answer, and the buffer at exit
 
@@ -647,7 +813,7 @@ event-one-read-events κs a x y s t p q = same (p .0) (q .0)
 pub event-one-read-events-words : Seen single.read_events.Kinds.ps single.read_events.Kinds.r single.read_events.Reads.Learnt (λ κs x s. now (s .1 .1 .1 .1 .0))
 event-one-read-events-words κs a x y s t p q = same (p .1) (q .1)
 
--- ---- two rings compared: bytes of two records, one item of both, what is told, and both scratches at exit
+-- ---- two rings compared: bytes of two records, one item of both, all but ignored bytes, what is told, and both scratches at exit
 
 -- what a scratch holds is an equation over what is told, which is one thing
 told-scratch : (l : Side) (x y z : Compared) (u v : List ℕ) → x ≡ z → y ≡ z → u ≡ scratchThen x l → v ≡ scratchThen y l → u ≡ v
@@ -656,11 +822,11 @@ told-scratch l x y z u v p q a b = a ∙ ap (λ (c : Compared). scratchThen c l)
 pub extents-same-bytes : Result extents.same_bytes.Kinds.ps extents.same_bytes.Kinds.r extents.same_bytes.Reads.Learnt
 extents-same-bytes κs a x y s t p q = same p q
 
-pub extents-same-until : Result extents.same_until.Kinds.ps extents.same_until.Kinds.r extents.same_until.Reads.Learnt
-extents-same-until κs a x y s t p q = same p q
-
 pub extents-pass-item : Result extents.pass_item.Kinds.ps extents.pass_item.Kinds.r extents.pass_item.Reads.Learnt
 extents-pass-item κs a x y s t p q = passed-one _ _ _ _ _ _ _ x y p q
+
+pub twins-same-but : Result twins.same_but.Kinds.ps twins.same_but.Kinds.r twins.same_but.Reads.Learnt
+twins-same-but κs a x y s t p q = same p q
 
 pub comparing-compare-rings : Result comparing.compare_rings.Kinds.ps comparing.compare_rings.Kinds.r comparing.compare_rings.Reads.Learnt
 comparing-compare-rings κs a x y s t p q = same (p .0) (q .0)
@@ -688,6 +854,21 @@ fast-scratch κs a x y s t p q = same (p .1 .1) (q .1 .1)
 
 -- ---- settings: the store, read and written
 
+pub settings-walk-version-of : Result settings-walk.version_of.Kinds.ps settings-walk.version_of.Kinds.r settings-walk.version_of.Reads.Learnt
+settings-walk-version-of κs a x y s t p q = same p q
+
+pub settings-walk-first-answer : Result settings-walk.first_answer.Kinds.ps settings-walk.first_answer.Kinds.r settings-walk.first_answer.Reads.Learnt
+settings-walk-first-answer κs a x y s t p q = same p q
+
+pub settings-walk-last-answer : Result settings-walk.last_answer.Kinds.ps settings-walk.last_answer.Kinds.r settings-walk.last_answer.Reads.Learnt
+settings-walk-last-answer κs a x y s t p q = same p q
+
+-- the place follows from the count
+pub settings-walk-count-events : Result settings-walk.count_events.Kinds.ps settings-walk.count_events.Kinds.r settings-walk.count_events.Reads.Learnt
+settings-walk-count-events κs a x y s t p q =
+    let n = same (p .0) (q .0)
+    in λ i. record { count = n i; at = (p .1 ∙ (ap (λ (k : ℕ). placeOf (a .1 .0) k) n ∙ sym (q .1))) i }
+
 pub settings-read-store : Result settings-read.read_store.Kinds.ps settings-read.read_store.Kinds.r settings-read.read_store.Reads.Learnt
 settings-read-store κs a x y s t p q = same (p .0) (q .0)
 
@@ -702,10 +883,10 @@ settings-write-store-buffer κs a x y s t p q = same (p .1) (q .1)
 
 -- ---- walk_back: the walk over a backward ring
 
-pub walk-back-placed-at : Result walks.placed_at.Kinds.ps walks.placed_at.Kinds.r walks.placed_at.Reads.Learnt
+pub walk-back-placed-at : Result backrows.placed_at.Kinds.ps backrows.placed_at.Kinds.r backrows.placed_at.Reads.Learnt
 walk-back-placed-at κs a x y s t p q = same p q
 
-pub walk-back-next-back : Result walks.next_back.Kinds.ps walks.next_back.Kinds.r walks.next_back.Reads.Learnt
+pub walk-back-next-back : Result backrows.next_back.Kinds.ps backrows.next_back.Kinds.r backrows.next_back.Reads.Learnt
 walk-back-next-back κs a x y s t p q = same p q
 
 pub walk-back-walk-back : Result walks.walk_back.Kinds.ps walks.walk_back.Kinds.r walks.walk_back.Reads.Learnt
@@ -742,6 +923,18 @@ readers-publish κs a x y s t p q = same p q
 
 -- ---- replay
 
+pub rooms-put-round : Seen rooms.put_round.Kinds.ps rooms.put_round.Kinds.r rooms.put_round.Reads.Learnt (λ κs x s. now (s .0))
+rooms-put-round κs a x y s t p q = same p q
+
+pub rooms-drain-within : Result rooms.drain_within.Kinds.ps rooms.drain_within.Kinds.r rooms.drain_within.Reads.Learnt
+rooms-drain-within κs a x y s t p q = same (p .0) (q .0)
+
+pub rooms-drain-within-journal : Seen rooms.drain_within.Kinds.ps rooms.drain_within.Kinds.r rooms.drain_within.Reads.Learnt (λ κs x s. now (s .1 .1 .1 .1 .1 .1 .1 .0))
+rooms-drain-within-journal κs a x y s t p q = same (p .1 .0) (q .1 .0)
+
+pub rooms-drain-within-rooms : Seen rooms.drain_within.Kinds.ps rooms.drain_within.Kinds.r rooms.drain_within.Reads.Learnt (λ κs x s. now (s .0))
+rooms-drain-within-rooms κs a x y s t p q = same (p .1 .1) (q .1 .1)
+
 pub replay-replay : Result replaying.replay.Kinds.ps replaying.replay.Kinds.r replaying.replay.Reads.Learnt
 replay-replay κs a x y s t p q = same (p .0) (q .0)
 
@@ -753,16 +946,16 @@ replay-replay-journal κs a x y s t p q = same (p .1 .1) (q .1 .1)
 
 -- ---- salvage
 
-pub salvage-kept-size : Result salvage.kept_size.Kinds.ps salvage.kept_size.Kinds.r salvage.kept_size.Reads.Learnt
+pub salvage-kept-size : Result salvaging.kept_size.Kinds.ps salvaging.kept_size.Kinds.r salvaging.kept_size.Reads.Learnt
 salvage-kept-size κs a x y s t p q = same p q
 
-pub salvage-salvage : Result salvage.salvage.Kinds.ps salvage.salvage.Kinds.r salvage.salvage.Reads.Learnt
+pub salvage-salvage : Result salvaging.salvage.Kinds.ps salvaging.salvage.Kinds.r salvaging.salvage.Reads.Learnt
 salvage-salvage κs a x y s t p q = same (p .0) (q .0)
 
-pub salvage-salvage-out : Seen salvage.salvage.Kinds.ps salvage.salvage.Kinds.r salvage.salvage.Reads.Learnt (λ κs x s. now (s .1 .1 .1 .1 .0))
+pub salvage-salvage-out : Seen salvaging.salvage.Kinds.ps salvaging.salvage.Kinds.r salvaging.salvage.Reads.Learnt (λ κs x s. now (s .1 .1 .1 .1 .0))
 salvage-salvage-out κs a x y s t p q = same (p .1 .0) (q .1 .0)
 
-pub salvage-salvage-list : Seen salvage.salvage.Kinds.ps salvage.salvage.Kinds.r salvage.salvage.Reads.Learnt (λ κs x s. now (s .1 .1 .1 .1 .1 .0))
+pub salvage-salvage-list : Seen salvaging.salvage.Kinds.ps salvaging.salvage.Kinds.r salvaging.salvage.Reads.Learnt (λ κs x s. now (s .1 .1 .1 .1 .1 .0))
 salvage-salvage-list κs a x y s t p q = same (p .1 .1) (q .1 .1)
 
 -- ---- given, ollskuvan_loop, ollskuvan: what C calls
@@ -797,35 +990,35 @@ ollskuvan-drain-events-journal κs a x y s t p q = same (p .1 .0) (q .1 .0)
 pub ollskuvan-drain-events-scratch : Seen tabled.ollskuvan_drain_events.Kinds.ps tabled.ollskuvan_drain_events.Kinds.r tabled.ollskuvan_drain_events.Reads.Learnt (λ κs x s. now (s .1 .1 .1 .1 .1 .1 .0))
 ollskuvan-drain-events-scratch κs a x y s t p q = same (p .1 .1) (q .1 .1)
 
-pub ollskuvan-compare : Result ollskuvan.ollskuvan_compare.Kinds.ps ollskuvan.ollskuvan_compare.Kinds.r ollskuvan.ollskuvan_compare.Reads.Learnt
+pub ollskuvan-compare : Result saved.ollskuvan_compare.Kinds.ps saved.ollskuvan_compare.Kinds.r saved.ollskuvan_compare.Reads.Learnt
 ollskuvan-compare κs a x y s t p q = same (p .0) (q .0)
 
-pub ollskuvan-compare-left : Seen ollskuvan.ollskuvan_compare.Kinds.ps ollskuvan.ollskuvan_compare.Kinds.r ollskuvan.ollskuvan_compare.Reads.Learnt (λ κs x s. now (s .1 .1 .1 .0))
+pub ollskuvan-compare-left : Seen saved.ollskuvan_compare.Kinds.ps saved.ollskuvan_compare.Kinds.r saved.ollskuvan_compare.Reads.Learnt (λ κs x s. now (s .1 .1 .1 .0))
 ollskuvan-compare-left κs a x y s t p q =
     told-scratch (sideOf (askedEvents eventLimit editions (a .1 .1 .1 .1 .1 .1 .1 .1 .1 .0) (eventsOf (now (a .1 .1 .1 .1 .1 .1 .1 .1 .0)))) (now (a .0)) (a .1 .0) (a .1 .1 .0) (now (a .1 .1 .1 .0)))
     x y _ _ _ (p .0) (q .0) (p .1 .0) (q .1 .0)
 
-pub ollskuvan-compare-right : Seen ollskuvan.ollskuvan_compare.Kinds.ps ollskuvan.ollskuvan_compare.Kinds.r ollskuvan.ollskuvan_compare.Reads.Learnt (λ κs x s. now (s .1 .1 .1 .1 .1 .1 .1 .0))
+pub ollskuvan-compare-right : Seen saved.ollskuvan_compare.Kinds.ps saved.ollskuvan_compare.Kinds.r saved.ollskuvan_compare.Reads.Learnt (λ κs x s. now (s .1 .1 .1 .1 .1 .1 .1 .0))
 ollskuvan-compare-right κs a x y s t p q =
     told-scratch (sideOf (askedEvents eventLimit editions (a .1 .1 .1 .1 .1 .1 .1 .1 .1 .0) (eventsOf (now (a .1 .1 .1 .1 .1 .1 .1 .1 .0)))) (now (a .1 .1 .1 .1 .0)) (a .1 .1 .1 .1 .1 .0) (a .1 .1 .1 .1 .1 .1 .0) (now (a .1 .1 .1 .1 .1 .1 .1 .0)))
     x y _ _ _ (p .0) (q .0) (p .1 .1) (q .1 .1)
 
-pub ollskuvan-read-one-events : Result ollskuvan.ollskuvan_read_one_events.Kinds.ps ollskuvan.ollskuvan_read_one_events.Kinds.r ollskuvan.ollskuvan_read_one_events.Reads.Learnt
+pub ollskuvan-read-one-events : Result recorded.ollskuvan_read_one_events.Kinds.ps recorded.ollskuvan_read_one_events.Kinds.r recorded.ollskuvan_read_one_events.Reads.Learnt
 ollskuvan-read-one-events κs a x y s t p q = same (p .0) (q .0)
 
-pub ollskuvan-read-one-events-scratch : Seen ollskuvan.ollskuvan_read_one_events.Kinds.ps ollskuvan.ollskuvan_read_one_events.Kinds.r ollskuvan.ollskuvan_read_one_events.Reads.Learnt (λ κs x s. now (s .1 .1 .1 .1 .1 .0))
+pub ollskuvan-read-one-events-scratch : Seen recorded.ollskuvan_read_one_events.Kinds.ps recorded.ollskuvan_read_one_events.Kinds.r recorded.ollskuvan_read_one_events.Reads.Learnt (λ κs x s. now (s .1 .1 .1 .1 .1 .0))
 ollskuvan-read-one-events-scratch κs a x y s t p q = same (p .1 .0) (q .1 .0)
 
-pub ollskuvan-read-one-events-words : Seen ollskuvan.ollskuvan_read_one_events.Kinds.ps ollskuvan.ollskuvan_read_one_events.Kinds.r ollskuvan.ollskuvan_read_one_events.Reads.Learnt (λ κs x s. now (s .1 .1 .1 .1 .1 .1 .0))
+pub ollskuvan-read-one-events-words : Seen recorded.ollskuvan_read_one_events.Kinds.ps recorded.ollskuvan_read_one_events.Kinds.r recorded.ollskuvan_read_one_events.Reads.Learnt (λ κs x s. now (s .1 .1 .1 .1 .1 .1 .0))
 ollskuvan-read-one-events-words κs a x y s t p q = same (p .1 .1) (q .1 .1)
 
-pub ollskuvan-check-events : Result ollskuvan.ollskuvan_check_events.Kinds.ps ollskuvan.ollskuvan_check_events.Kinds.r ollskuvan.ollskuvan_check_events.Reads.Learnt
+pub ollskuvan-check-events : Result recorded.ollskuvan_check_events.Kinds.ps recorded.ollskuvan_check_events.Kinds.r recorded.ollskuvan_check_events.Reads.Learnt
 ollskuvan-check-events κs a x y s t p q = same p q
 
-pub ollskuvan-read-events : Result ollskuvan.ollskuvan_read_events.Kinds.ps ollskuvan.ollskuvan_read_events.Kinds.r ollskuvan.ollskuvan_read_events.Reads.Learnt
+pub ollskuvan-read-events : Result recorded.ollskuvan_read_events.Kinds.ps recorded.ollskuvan_read_events.Kinds.r recorded.ollskuvan_read_events.Reads.Learnt
 ollskuvan-read-events κs a x y s t p q = same (p .0) (q .0)
 
-pub ollskuvan-read-events-fields : Seen ollskuvan.ollskuvan_read_events.Kinds.ps ollskuvan.ollskuvan_read_events.Kinds.r ollskuvan.ollskuvan_read_events.Reads.Learnt (λ κs x s. now (s .1 .1 .1 .0))
+pub ollskuvan-read-events-fields : Seen recorded.ollskuvan_read_events.Kinds.ps recorded.ollskuvan_read_events.Kinds.r recorded.ollskuvan_read_events.Reads.Learnt (λ κs x s. now (s .1 .1 .1 .0))
 ollskuvan-read-events-fields κs a x y s t p q = same (p .1) (q .1)
 
 pub ollskuvan-check : Result ollskuvan.ollskuvan_check.Kinds.ps ollskuvan.ollskuvan_check.Kinds.r ollskuvan.ollskuvan_check.Reads.Learnt
@@ -834,13 +1027,13 @@ ollskuvan-check κs a x y s t p q = same p q
 pub ollskuvan-publish : Result ollskuvan.ollskuvan_publish.Kinds.ps ollskuvan.ollskuvan_publish.Kinds.r ollskuvan.ollskuvan_publish.Reads.Learnt
 ollskuvan-publish κs a x y s t p q = same p q
 
-pub ollskuvan-replay : Result ollskuvan.ollskuvan_replay.Kinds.ps ollskuvan.ollskuvan_replay.Kinds.r ollskuvan.ollskuvan_replay.Reads.Learnt
+pub ollskuvan-replay : Result saved.ollskuvan_replay.Kinds.ps saved.ollskuvan_replay.Kinds.r saved.ollskuvan_replay.Reads.Learnt
 ollskuvan-replay κs a x y s t p q = same (p .0) (q .0)
 
-pub ollskuvan-replay-rooms : Seen ollskuvan.ollskuvan_replay.Kinds.ps ollskuvan.ollskuvan_replay.Kinds.r ollskuvan.ollskuvan_replay.Reads.Learnt (λ κs x s. now (s .1 .1 .1 .1 .0))
+pub ollskuvan-replay-rooms : Seen saved.ollskuvan_replay.Kinds.ps saved.ollskuvan_replay.Kinds.r saved.ollskuvan_replay.Reads.Learnt (λ κs x s. now (s .1 .1 .1 .1 .0))
 ollskuvan-replay-rooms κs a x y s t p q = same (p .1 .0) (q .1 .0)
 
-pub ollskuvan-replay-journal : Seen ollskuvan.ollskuvan_replay.Kinds.ps ollskuvan.ollskuvan_replay.Kinds.r ollskuvan.ollskuvan_replay.Reads.Learnt (λ κs x s. now (s .1 .1 .1 .1 .1 .0))
+pub ollskuvan-replay-journal : Seen saved.ollskuvan_replay.Kinds.ps saved.ollskuvan_replay.Kinds.r saved.ollskuvan_replay.Reads.Learnt (λ κs x s. now (s .1 .1 .1 .1 .1 .0))
 ollskuvan-replay-journal κs a x y s t p q = same (p .1 .1) (q .1 .1)
 
 pub ollskuvan-walk-back : Result loop.ollskuvan_walk_back.Kinds.ps loop.ollskuvan_walk_back.Kinds.r loop.ollskuvan_walk_back.Reads.Learnt
@@ -861,13 +1054,13 @@ ollskuvan-walk-back-events-journal κs a x y s t p q = same (p .1 .0) (q .1 .0)
 pub ollskuvan-walk-back-events-scratch : Seen tabled.ollskuvan_walk_back_events.Kinds.ps tabled.ollskuvan_walk_back_events.Kinds.r tabled.ollskuvan_walk_back_events.Reads.Learnt (λ κs x s. now (s .1 .1 .1 .1 .1 .0))
 ollskuvan-walk-back-events-scratch κs a x y s t p q = same (p .1 .1) (q .1 .1)
 
-pub ollskuvan-salvage : Result ollskuvan.ollskuvan_salvage.Kinds.ps ollskuvan.ollskuvan_salvage.Kinds.r ollskuvan.ollskuvan_salvage.Reads.Learnt
+pub ollskuvan-salvage : Result saved.ollskuvan_salvage.Kinds.ps saved.ollskuvan_salvage.Kinds.r saved.ollskuvan_salvage.Reads.Learnt
 ollskuvan-salvage κs a x y s t p q = same (p .0) (q .0)
 
-pub ollskuvan-salvage-out : Seen ollskuvan.ollskuvan_salvage.Kinds.ps ollskuvan.ollskuvan_salvage.Kinds.r ollskuvan.ollskuvan_salvage.Reads.Learnt (λ κs x s. now (s .1 .1 .1 .0))
+pub ollskuvan-salvage-out : Seen saved.ollskuvan_salvage.Kinds.ps saved.ollskuvan_salvage.Kinds.r saved.ollskuvan_salvage.Reads.Learnt (λ κs x s. now (s .1 .1 .1 .0))
 ollskuvan-salvage-out κs a x y s t p q = same (p .1 .0) (q .1 .0)
 
-pub ollskuvan-salvage-changes : Seen ollskuvan.ollskuvan_salvage.Kinds.ps ollskuvan.ollskuvan_salvage.Kinds.r ollskuvan.ollskuvan_salvage.Reads.Learnt (λ κs x s. now (s .1 .1 .1 .1 .0))
+pub ollskuvan-salvage-changes : Seen saved.ollskuvan_salvage.Kinds.ps saved.ollskuvan_salvage.Kinds.r saved.ollskuvan_salvage.Reads.Learnt (λ κs x s. now (s .1 .1 .1 .1 .0))
 ollskuvan-salvage-changes κs a x y s t p q = same (p .1 .1) (q .1 .1)
 
 pub ollskuvan-misc-meaning : Result ollskuvan.ollskuvan_misc_meaning.Kinds.ps ollskuvan.ollskuvan_misc_meaning.Kinds.r ollskuvan.ollskuvan_misc_meaning.Reads.Learnt
@@ -891,16 +1084,16 @@ ollskuvan-write κs a x y s t p q = same (p .0) (q .0)
 pub ollskuvan-write-buffer : Seen ollskuvan.ollskuvan_write.Kinds.ps ollskuvan.ollskuvan_write.Kinds.r ollskuvan.ollskuvan_write.Reads.Learnt (λ κs x s. now (s .1 .1 .1 .1 .1 .1 .1 .1 .1 .0))
 ollskuvan-write-buffer κs a x y s t p q = same (p .1) (q .1)
 
-pub ollskuvan-read-store : Result ollskuvan.ollskuvan_read_store.Kinds.ps ollskuvan.ollskuvan_read_store.Kinds.r ollskuvan.ollskuvan_read_store.Reads.Learnt
+pub ollskuvan-read-store : Result stored.ollskuvan_read_store.Kinds.ps stored.ollskuvan_read_store.Kinds.r stored.ollskuvan_read_store.Reads.Learnt
 ollskuvan-read-store κs a x y s t p q = same (p .0) (q .0)
 
-pub ollskuvan-read-store-events : Seen ollskuvan.ollskuvan_read_store.Kinds.ps ollskuvan.ollskuvan_read_store.Kinds.r ollskuvan.ollskuvan_read_store.Reads.Learnt (λ κs x s. now (s .1 .0))
+pub ollskuvan-read-store-events : Seen stored.ollskuvan_read_store.Kinds.ps stored.ollskuvan_read_store.Kinds.r stored.ollskuvan_read_store.Reads.Learnt (λ κs x s. now (s .1 .0))
 ollskuvan-read-store-events κs a x y s t p q = same (p .1) (q .1)
 
-pub ollskuvan-write-store : Result ollskuvan.ollskuvan_write_store.Kinds.ps ollskuvan.ollskuvan_write_store.Kinds.r ollskuvan.ollskuvan_write_store.Reads.Learnt
+pub ollskuvan-write-store : Result stored.ollskuvan_write_store.Kinds.ps stored.ollskuvan_write_store.Kinds.r stored.ollskuvan_write_store.Reads.Learnt
 ollskuvan-write-store κs a x y s t p q = same (p .0) (q .0)
 
-pub ollskuvan-write-store-buffer : Seen ollskuvan.ollskuvan_write_store.Kinds.ps ollskuvan.ollskuvan_write_store.Kinds.r ollskuvan.ollskuvan_write_store.Reads.Learnt (λ κs x s. now (s .1 .1 .1 .1 .0))
+pub ollskuvan-write-store-buffer : Seen stored.ollskuvan_write_store.Kinds.ps stored.ollskuvan_write_store.Kinds.r stored.ollskuvan_write_store.Reads.Learnt (λ κs x s. now (s .1 .1 .1 .1 .0))
 ollskuvan-write-store-buffer κs a x y s t p q = same (p .1) (q .1)
 
 -- ---- writer: the words that tell an item, and its form
@@ -970,3 +1163,90 @@ write κs a x y s t p q = same (p .0) (q .0)
 
 pub write-buffer : Seen writer.write.Kinds.ps writer.write.Kinds.r writer.write.Reads.Learnt (λ κs x s. now (s .1 .1 .1 .1 .0))
 write-buffer κs a x y s t p q = same (p .1) (q .1)
+
+-- ---- the straight writer: of an item, or of a type's items, whether they fit, and if so the place and the counts after them
+
+abbrev ended : Reached → Cursor
+ended x = cond (x .bad) unfit (stateOf x)
+
+tried-same : {is : List Item} {src ws : List ℕ} {w : ℕ} {c x y : Reached} → Tried is src ws w c x → Tried is src ws w c y → ended x ≡ ended y
+unfolding tryFrom tryItems
+tried-same {is} {src} {ws} {w} {c} {x} {y} t u = go (x .bad) (y .bad) refl refl
+  where
+    go : (b d : Bool) → x .bad ≡ b → y .bad ≡ d → cond b unfit (stateOf x) ≡ cond d unfit (stateOf y)
+    go true true h k = refl
+    go false false h k = sym (t .fits h []) ∙ u .fits k []
+    go false true h k = sym (t .fits h []) ∙ u .misfits (t .kept h) k []
+    go true false h k = sym (t .misfits (u .kept k) h []) ∙ u .fits k []
+
+pub write-fits-number : Seen fits.number.Kinds.ps fits.number.Kinds.r fits.number.Reads.Learnt (λ κs x s. ended x)
+write-fits-number κs a x y s t p q = tried-same p q
+
+pub write-fits-count : Seen fits.count.Kinds.ps fits.count.Kinds.r fits.count.Reads.Learnt (λ κs x s. ended x)
+write-fits-count κs a x y s t p q = tried-same p q
+
+pub write-fits-size : Seen fits.size.Kinds.ps fits.size.Kinds.r fits.size.Reads.Learnt (λ κs x s. ended x)
+write-fits-size κs a x y s t p q = tried-same p q
+
+pub write-fits-limit : Seen fits.limit.Kinds.ps fits.limit.Kinds.r fits.limit.Reads.Learnt (λ κs x s. ended x)
+write-fits-limit κs a x y s t p q = tried-same p q
+
+pub write-fits-abi : Seen fits.abi.Kinds.ps fits.abi.Kinds.r fits.abi.Reads.Learnt (λ κs x s. ended x)
+write-fits-abi κs a x y s t p q = tried-same p q
+
+pub write-fits-filled : Seen fits.filled.Kinds.ps fits.filled.Kinds.r fits.filled.Reads.Learnt (λ κs x s. ended x)
+write-fits-filled κs a x y s t p q = tried-same p q
+
+pub write-fits-ignored : Seen fits.ignored.Kinds.ps fits.ignored.Kinds.r fits.ignored.Reads.Learnt (λ κs x s. ended x)
+write-fits-ignored κs a x y s t p q = tried-same p q
+
+pub write-fits-pad : Seen fits.pad.Kinds.ps fits.pad.Kinds.r fits.pad.Reads.Learnt (λ κs x s. ended x)
+write-fits-pad κs a x y s t p q = tried-same p q
+
+pub write-fits-times : Seen fits.times.Kinds.ps fits.times.Kinds.r fits.times.Reads.Learnt (λ κs x s. ended x)
+write-fits-times κs a x y s t p q = tried-same p q
+
+pub write-fits-values : Seen fits.values.Kinds.ps fits.values.Kinds.r fits.values.Reads.Learnt (λ κs x s. ended x)
+write-fits-values κs a x y s t p q = tried-same p q
+
+pub write-fits-earlier : Seen fits.earlier.Kinds.ps fits.earlier.Kinds.r fits.earlier.Reads.Learnt (λ κs x s. ended x)
+write-fits-earlier κs a x y s t p q = tried-same p q
+
+pub write-fits-registers : Seen fits.registers.Kinds.ps fits.registers.Kinds.r fits.registers.Reads.Learnt (λ κs x s. ended x)
+write-fits-registers κs a x y s t p q = tried-same p q
+
+pub write-fits-listed : Seen fits.listed.Kinds.ps fits.listed.Kinds.r fits.listed.Reads.Learnt (λ κs x s. ended x)
+write-fits-listed κs a x y s t p q = tried-same p q
+
+pub write-fits-bytes : Seen fits.bytes.Kinds.ps fits.bytes.Kinds.r fits.bytes.Reads.Learnt (λ κs x s. ended x)
+write-fits-bytes κs a x y s t p q = tried-same p q
+
+pub write-fits-name : Seen fits.name.Kinds.ps fits.name.Kinds.r fits.name.Reads.Learnt (λ κs x s. ended x)
+write-fits-name κs a x y s t p q = tried-same p q
+
+pub write-fits-registers-by : Result fits.registers_by.Kinds.ps fits.registers_by.Kinds.r fits.registers_by.Reads.Learnt
+write-fits-registers-by κs a x y s t p q = same p q
+
+pub write-fits-group-bytes : Result fits.group_bytes.Kinds.ps fits.group_bytes.Kinds.r fits.group_bytes.Reads.Learnt
+write-fits-group-bytes κs a x y s t p q = same (p .0) (q .0)
+
+pub fit-chains-fields : Seen tests.fields.Kinds.ps tests.fields.Kinds.r tests.fields.Reads.Learnt (λ κs x s. ended x)
+fit-chains-fields κs a x y s t p q = tried-same p q
+
+pub fit-chains-trail : Seen tests.trail.Kinds.ps tests.trail.Kinds.r tests.trail.Reads.Learnt (λ κs x s. ended x)
+fit-chains-trail κs a x y s t p q = tried-same p q
+
+pub fit-chains-trailer-bits : Result tests.trailer_bits.Kinds.ps tests.trailer_bits.Kinds.r tests.trailer_bits.Reads.Learnt
+fit-chains-trailer-bits κs a x y s t p q = same p q
+
+pub fit-chains-own-end : Result tests.own_end.Kinds.ps tests.own_end.Kinds.r tests.own_end.Reads.Learnt
+fit-chains-own-end κs a x y s t p q = same (p .0) (q .0)
+
+pub write-puts-header-buffer : Seen puts.header.Kinds.ps puts.header.Kinds.r puts.header.Reads.Learnt (λ κs x s. now (s .1 .1 .1 .0))
+write-puts-header-buffer κs a x y s t p q = same p q
+
+pub fast-write : Result straight.write.Kinds.ps straight.write.Kinds.r straight.write.Reads.Learnt
+fast-write κs a x y s t p q = same (p .0) (q .0)
+
+pub fast-write-buffer : Seen straight.write.Kinds.ps straight.write.Kinds.r straight.write.Reads.Learnt (λ κs x s. now (s .1 .1 .1 .1 .0))
+fast-write-buffer κs a x y s t p q = same (p .1) (q .1)

@@ -10,8 +10,8 @@ use Rattle.meaning.specs.Refusals.{orElse}
 use Rattle.reader.specs.declared.Field.{Field}
 use Rattle.reader.specs.declared.Header.{Header}
 
-abbrev pub taken : ℕ → ℕ → Field
-taken value next = record { why = 0; value = value; next = next }
+abbrev pub fieldFound : ℕ → ℕ → Field
+fieldFound value next = record { why = 0; value = value; next = next }
 
 -- "30: a field would pass the record's end"; the place stays
 abbrev pub passes : ℕ → Field
@@ -23,7 +23,7 @@ isWidth k = eqb k 1 || (eqb k 2 || (eqb k 4 || eqb k 8))
 
 -- the field of k bytes at a place; of another width there is none
 unfoldable pub fieldAt : ℕ → List ℕ → ℕ → Field
-fieldAt k xs at = cond (isWidth k && leb (at + k) (length xs)) (taken (numberAt k xs at) (at + k)) (passes at)
+fieldAt k xs at = cond (isWidth k && leb (at + k) (length xs)) (fieldFound (numberAt k xs at) (at + k)) (passes at)
 
 -- n bytes on, and at most at the end
 unfoldable pub forwardAt : List ℕ → ℕ → ℕ → ℕ

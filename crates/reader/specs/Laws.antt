@@ -18,7 +18,7 @@ use Rattle.meaning.specs.Bytes.{numberAt}
 use Rattle.meaning.specs.Items.{con, cursor, bytes, span, rule, holds, counted, before, past, part, settle, shapeStep, step, content}
 use Rattle.meaning.specs.Records.{kindOf, miscOf, sizeOf}
 use Rattle.meaning.specs.Schema.{always}
-use Rattle.reader.specs.Field.{isWidth, fieldAt, taken, passes, forwardAt, headerAt}
+use Rattle.reader.specs.Field.{isWidth, fieldAt, fieldFound, passes, forwardAt, headerAt}
 use Rattle.reader.specs.declared.Field.{Field}
 use Rattle.reader.specs.declared.Header.{Header}
 use Rattle.reader.specs.declared.Reader.{Reader}
@@ -31,7 +31,7 @@ leb-sub a k n h = go (leb (a + k) n) refl
     go true e = let g = leb-true (a + k) n e in le-leb k (n - a) (omega arith) ∙ sym e
     go false e = let g = leb-false (a + k) n e in lt-leb k (n - a) (omega arith) ∙ sym e
 
-pub field-there : (k : ℕ) (xs : List ℕ) (at : ℕ) → (isWidth k && leb (at + k) (length xs)) ≡ true → fieldAt k xs at ≡ taken (numberAt k xs at) (at + k)
+pub field-there : (k : ℕ) (xs : List ℕ) (at : ℕ) → (isWidth k && leb (at + k) (length xs)) ≡ true → fieldAt k xs at ≡ fieldFound (numberAt k xs at) (at + k)
 unfolding fieldAt
 field-there k xs at e = simp e
 

@@ -7,7 +7,7 @@ ghost use lib.Dec.{leb};
 ghost use lib.ListN.{length, take, drop};
 ghost use Rattle.meaning.specs.Bytes.{numberAt};
 ghost use Rattle.meaning.specs.Refusals.{orElse};
-ghost use Rattle.reader.specs.Field.{isWidth, fieldAt, taken, passes, forwardAt, headerOf, headerAt};
+ghost use Rattle.reader.specs.Field.{isWidth, fieldAt, fieldFound, passes, forwardAt, headerOf, headerAt};
 
 // The record's bytes, and the place of the next field.
 pub struct Reader<'a> {
@@ -44,7 +44,7 @@ fn holds(bytes: &[u8], at: usize, k: usize) -> bool
 }
 
 fn took(value: u64, next: usize) -> Field
-    ensures { λ r. ⌜ r ≡ taken value next ⌝ }
+    ensures { λ r. ⌜ r ≡ fieldFound value next ⌝ }
 {
     Field {
         why: 0,

@@ -27,12 +27,12 @@ pub data Turn (T : Type 0) : Type 0 where
   table-replaced : T → Turn T
 
 -- what each reader was told, drain by drain
-pub record Told : Type 0 where
+pub record BothTold : Type 0 where
   pub first : List End
   pub second : List End
 
 module _ (T : Type 0) (drain : T → Lent → ℕ → End) where
-  unfoldable pub turns : T → Readers → List (Turn T) → Told
+  unfoldable pub turns : T → Readers → List (Turn T) → BothTold
   turns t r [] = record { first = []; second = [] }
   turns t r (first-drains l ∷ ts) =
       record {

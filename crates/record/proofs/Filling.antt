@@ -1,11 +1,9 @@
--- The loop that puts the words of a record's items in their places: the words of one item, the turn, the end; and what an accepted record
--- gives it to start with. Assumes nothing.
+-- The loop that puts the words of a record's items in their places: the turn, the end; and what an accepted record gives it to start with. Assumes nothing.
 use mathlib.Core.Path.{_≡_, refl, sym, ap, ap₂, _∙_}
 use mathlib.Core.List.{List, [], _∷_, _++_, map}
 use Prim.Native.Nat.{ℕ, _+_, _<_, _≤_}
-use native.Mathlib.Nat.{add-zero}
 use native.Mathlib.Omega.{arith}
-use lib.ListN.{length, getD, set}
+use lib.ListN.{length, getD}
 use lib.Seq.{slice}
 use Rattle.meaning.specs.declared.Cursor.{Cursor}
 use Rattle.meaning.specs.declared.Item.{Item}
@@ -13,24 +11,12 @@ use Rattle.meaning.specs.Bytes.{put}
 use Rattle.meaning.specs.Items.{step}
 use Rattle.meaning.specs.Values.{slotItem, tell, wordsOf, width, words}
 use Rattle.laws.specs.Again.{fine}
-use Rattle.laws.specs.Put.{put-nil, put-snoc, put-put, length-put}
+use Rattle.laws.specs.Put.{put-nil, put-put, length-put}
 use Rattle.fields.specs.declared.Words.{Words}
 use Rattle.fields.specs.Told.{toldOf, wordsIn, told-words, words-length}
 use Rattle.table.specs.Rows.{rows, allRows}
 use Rattle.table.specs.Turns.{rows-next, rows-over, walk-next}
 use Rattle.record.specs.Into.{Fills}
-
--- ---- the words of one item
-
-module _ (d : List ℕ) (at : ℕ) where
-  pub put-one : (v : ℕ) → at < length d → set d at v ≡ put d at (v ∷ [])
-  put-one v h =
-      ap (λ (l : List ℕ). set l at v) (sym (put-nil d at (omega arith)))
-      ∙ ap (λ (n : ℕ). set (put d at []) n v) (sym (add-zero at))
-      ∙ put-snoc d at [] v (omega arith)
-
-  pub put-two : (v w : ℕ) → at + 1 < length d → set (set d at v) (at + 1) w ≡ put d at (v ∷ w ∷ [])
-  put-two v w h = ap (λ (l : List ℕ). set l (at + 1) w) (put-one v (omega arith)) ∙ put-snoc d at (v ∷ []) w h
 
 -- ---- the loop over rows
 

@@ -1,2 +1,4 @@
 pub mod Into
 pub mod Same
+pub mod Lent
+pub mod Flag

@@ -25,7 +25,7 @@ fn any_set(s: &[u8], from: usize) -> bool
 }
 
 // The bytes from a place on, which is not past the end: is one after the first zero not zero?
-fn stale_from(s: &[u8], at: usize) -> bool
+pub fn stale_from(s: &[u8], at: usize) -> bool
     requires { ⌜ at ≤ length (now s) ⌝ }
     ensures { λ r. ⌜ r ≡ stale (drop at (now (s .entry))) ⌝ }
 {

@@ -8,6 +8,7 @@ pub use answers::check;
 pub use answers::judge;
 pub use answers::trailer_room;
 pub use answers::walk;
+pub use flag::stale_from;
 use meaning::Attributes;
 use meaning::Reading;
 pub use rules::allowed;

@@ -165,7 +165,7 @@ laid v rows ring edition budget ok most words rb eb bb =
 -- ---- the answers
 
 -- what a caller hands to the writer, and the writer takes
-pub record Taken (v : Version) (ks : List Known) (rows : List (List ℕ)) (ring edition budget : ℕ) : Type 0 where
+pub record Writable (v : Version) (ks : List Known) (rows : List (List ℕ)) (ring edition budget : ℕ) : Type 0 where
   pub words : Words rows
   pub sound : sound (v .limit) (eventsOf rows) ≡ true
   pub ring-allowed : lengthAllowed ring ≡ true
@@ -173,7 +173,7 @@ pub record Taken (v : Version) (ks : List Known) (rows : List (List ℕ)) (ring 
   pub edition-byte : edition < 256 ^ 1
   pub budget-word : budget < 256 ^ 4
 
-pub laid-by : (v : Version) (ks : List Known) (rows : List (List ℕ)) (ring edition budget : ℕ) → Proper v → Taken v ks rows ring edition budget
+pub laid-by : (v : Version) (ks : List Known) (rows : List (List ℕ)) (ring edition budget : ℕ) → Proper v → Writable v ks rows ring edition budget
     → Laid v rows ring edition budget (storeBytes v rows ring edition budget)
 laid-by v ks rows ring edition budget ok t =
     laid v rows ring edition budget ok (rows-limit (v .limit) rows (t .sound)) (t .words) (omega (arith, length-bounds ring (t .ring-allowed) .1)) (t .edition-byte)
@@ -196,7 +196,7 @@ past-first vs ks v xs lent w h s =
 
 -- past the last
 pub past-last : (v : Version) (ks : List Known) (rows : List (List ℕ)) (ring edition budget : ℕ) (xs : List ℕ) (lent : ℕ)
-    → Taken v ks rows ring edition budget → Laid v rows ring edition budget xs
+    → Writable v ks rows ring edition budget → Laid v rows ring edition budget xs
     → restAnswer v ks xs (length rows) lent ≡ first (refusal (ltb lent (length rows)) 40 ∷ []) 0
 unfolding restAnswer fits isEventOf
 past-last v ks rows ring edition budget xs lent t l =
@@ -217,7 +217,7 @@ past-last v ks rows ring edition budget xs lent t l =
 
 -- the same up to the edition, which is not one of this build's
 pub other-edition : (vs : List Version) (ks others : List Known) (v : Version) (rows : List (List ℕ)) (ring edition budget lent : ℕ) → Proper v
-    → versionOf vs (v .number) ≡ v → Taken v others rows ring edition budget → allowed ks edition ≡ false
+    → versionOf vs (v .number) ≡ v → Writable v others rows ring edition budget → allowed ks edition ≡ false
     → storeAnswer vs ks (storeBytes v rows ring edition budget) lent ≡ 52
 unfolding restAnswer fits isEventOf
 other-edition vs ks others v rows ring edition budget lent ok h t out =
@@ -233,7 +233,7 @@ other-edition vs ks others v rows ring edition budget lent ok h t out =
 
 -- the answer is 0, or 40 where the lent table is too short
 pub back-answer : (vs : List Version) (ks : List Known) (v : Version) (rows : List (List ℕ)) (ring edition budget lent : ℕ) → Proper v → versionOf vs (v .number) ≡ v
-    → Taken v ks rows ring edition budget
+    → Writable v ks rows ring edition budget
     → storeAnswer vs ks (storeBytes v rows ring edition budget) lent ≡ first (refusal (ltb lent (length rows)) 40 ∷ []) 0
 back-answer vs ks v rows ring edition budget lent ok h t =
     let xs : List ℕ = storeBytes v rows ring edition budget in
@@ -247,7 +247,7 @@ settings events ring edition budget = record { answer = 0; events = events; ring
 
 -- "Write the table, ring length, edition and budget into lent bytes, and read them back"
 pub reads-back : (vs : List Version) (ks : List Known) (v : Version) (rows : List (List ℕ)) (ring edition budget : ℕ) (lent : List (List ℕ))
-    → Proper v → versionOf vs (v .number) ≡ v → Taken v ks rows ring edition budget → length rows ≤ length lent
+    → Proper v → versionOf vs (v .number) ≡ v → Writable v ks rows ring edition budget → length rows ≤ length lent
     → (readStore vs ks (storeBytes v rows ring edition budget) (length lent) ≡ settings (length rows) ring edition budget)
     × (rowsAfter vs ks (storeBytes v rows ring edition budget) lent ≡ keptRows rows ++ drop (length rows) lent)
 unfolding readStore rowsAfter

@@ -26,7 +26,7 @@ use Rattle.meaning.specs.Refusals.{Refusal, refusal, first}
 use Rattle.laws.specs.Rows.{gives, before, Passed, stopped-reason, first-passed, first-stops, first-in, first-no, first-none}
 use Rattle.settings.specs.Firsts.{passed, first-app}
 use Rattle.settings.specs.Turns.{keptRows, Words, Proper}
-use Rattle.settings.specs.Back.{Taken, settings, reads-back, other-edition}
+use Rattle.settings.specs.Back.{Writable, settings, reads-back, other-edition}
 use Rattle.settings.specs.Puts.{store-length, write-refused, write-given}
 use Rattle.settings.specs.Only.{accepted, encoded, rows-length}
 
@@ -38,9 +38,9 @@ proper-two = record { known = omega arith; narrow = omega arith; indexes = omega
 
 -- ---- what is told, and what the lent table holds, by the answer
 
-pub told : (vs : List Version) (ks : List Known) (xs : List ℕ) (lent : ℕ) → readStore vs ks xs lent .answer ≡ storeAnswer vs ks xs lent
+pub answer-told : (vs : List Version) (ks : List Known) (xs : List ℕ) (lent : ℕ) → readStore vs ks xs lent .answer ≡ storeAnswer vs ks xs lent
 unfolding readStore
-told vs ks xs lent = by (eqb (storeAnswer vs ks xs lent) 0) refl
+answer-told vs ks xs lent = by (eqb (storeAnswer vs ks xs lent) 0) refl
   where
     n : ℕ
     n = countOf (shown vs xs) xs
@@ -59,9 +59,9 @@ unfolding readStore rowsAfter
 refused-unchanged vs ks xs rows h =
     let n : ℕ = countOf (shown vs xs) xs in
     let a : ℕ = storeAnswer vs ks xs (length rows) in
-    let q : eqb a 0 ≡ false = ne-eqb a 0 (λ e. h (told vs ks xs (length rows) ∙ e)) in (
+    let q : eqb a 0 ≡ false = ne-eqb a 0 (λ e. h (answer-told vs ks xs (length rows) ∙ e)) in (
       ap (λ (b : Bool). cond b (rowsOf (shown vs xs) xs n ++ drop n rows) rows) q,
-      ap (λ (b : Bool). cond b (settingsAt xs n (placeOf (shown vs xs) n)) (refused a)) q ∙ ap refused (sym (told vs ks xs (length rows))),
+      ap (λ (b : Bool). cond b (settingsAt xs n (placeOf (shown vs xs) n)) (refused a)) q ∙ ap refused (sym (answer-told vs ks xs (length rows))),
     )
 
 -- what an answer of 0 tells and leaves
@@ -74,7 +74,7 @@ unfolding readStore rowsAfter
 given vs ks xs rows h =
     let n : ℕ = countOf (shown vs xs) xs in
     let a : ℕ = storeAnswer vs ks xs (length rows) in
-    let q : eqb a 0 ≡ true = eq-eqb a 0 (sym (told vs ks xs (length rows)) ∙ h) in
+    let q : eqb a 0 ≡ true = eq-eqb a 0 (sym (answer-told vs ks xs (length rows)) ∙ h) in
     record {
       read = ap (λ (b : Bool). cond b (settingsAt xs n (placeOf (shown vs xs) n)) (refused a)) q;
       after = ap (λ (b : Bool). cond b (rowsOf (shown vs xs) xs n ++ drop n rows) rows) q;
@@ -90,7 +90,7 @@ accepted-rest vs ks xs rows h =
     let g = given vs ks xs rows h in
     let c : readStore vs ks xs (length rows) .events ≡ n = ap (λ (s : Settings). s .events) (g .read) in
     let l : length (rowsOf v xs n) ≡ n = rows-length v xs n in
-    let a = accepted vs ks xs (length rows) (sym (told vs ks xs (length rows)) ∙ h) in (
+    let a = accepted vs ks xs (length rows) (sym (answer-told vs ks xs (length rows)) ∙ h) in (
       (λ j. drop (c j) (g .after j)) ∙ drop-at (rowsOf v xs n) (drop n rows) n l ∙ ap (λ (k : ℕ). drop k rows) (sym c),
       ap length (g .after) ∙ length-append (rowsOf v xs n) (drop n rows) ∙ omega (arith, length-drop n rows, a .room),
     )
@@ -117,7 +117,7 @@ by-rows vs ks xs lent =
 pub one-of : (vs : List Version) (ks : List Known) (xs : List ℕ) (lent : ℕ)
     → isIn (readStore vs ks xs lent .answer) (0 ∷ 50 ∷ 51 ∷ 52 ∷ 11 ∷ 40 ∷ []) ≡ true
 one-of vs ks xs lent =
-    ap (λ (k : ℕ). isIn k (0 ∷ 50 ∷ 51 ∷ 52 ∷ 11 ∷ 40 ∷ [])) (told vs ks xs lent ∙ by-rows vs ks xs lent)
+    ap (λ (k : ℕ). isIn k (0 ∷ 50 ∷ 51 ∷ 52 ∷ 11 ∷ 40 ∷ [])) (answer-told vs ks xs lent ∙ by-rows vs ks xs lent)
     ∙ first-in (0 ∷ 50 ∷ 51 ∷ 52 ∷ 11 ∷ 40 ∷ []) (storeRows vs ks xs lent) 0 refl refl
 
 -- a row with the number holds, and none before the first row that has it
@@ -128,7 +128,7 @@ reason rs k e z =
 
 pub own-reason : (vs : List Version) (ks : List Known) (xs : List ℕ) (lent k : ℕ) → readStore vs ks xs lent .answer ≡ k → (k ≡ 0 → ⊥)
     → (gives k (storeRows vs ks xs lent) ≡ true) × Passed (before k (storeRows vs ks xs lent))
-own-reason vs ks xs lent k e z = reason (storeRows vs ks xs lent) k (sym (by-rows vs ks xs lent) ∙ sym (told vs ks xs lent) ∙ e) z
+own-reason vs ks xs lent k e z = reason (storeRows vs ks xs lent) k (sym (by-rows vs ks xs lent) ∙ sym (answer-told vs ks xs lent) ∙ e) z
 
 -- ---- the writer
 
@@ -195,7 +195,7 @@ module _ (v : Version) (ks : List Known) (rows : List (List ℕ)) (ring edition 
 
 -- the writer takes what a table, a ring length and an edition allow, and a buffer holds
 pub writer-takes : (v : Version) (ks : List Known) (rows : List (List ℕ)) (ring edition budget room : ℕ) → length ks < 256 → Words rows → budget < 256 ^ 4
-    → writeAnswer v ks rows ring edition budget room ≡ 0 → Taken v ks rows ring edition budget × (length (storeBytes v rows ring edition budget) ≤ room)
+    → writeAnswer v ks rows ring edition budget room ≡ 0 → Writable v ks rows ring edition budget × (length (storeBytes v rows ring edition budget) ≤ room)
 unfolding writeAnswer
 writer-takes v ks rows ring edition budget room few w b h =
     let r1 = passed (not (sound (v .limit) (eventsOf rows))) 11 _ _ (omega arith) h in
@@ -232,7 +232,7 @@ only-encoding vs ks xs rows s h =
     let v : Version = shown vs xs in
     let n : ℕ = countOf v xs in
     let g = given vs ks xs rows h in
-    let a = accepted vs ks xs (length rows) (sym (told vs ks xs (length rows)) ∙ h) in
+    let a = accepted vs ks xs (length rows) (sym (answer-told vs ks xs (length rows)) ∙ h) in
     let r : take (readStore vs ks xs (length rows) .events) (rowsAfter vs ks xs rows) ≡ rowsOf v xs n =
     (λ j. take (g .read j .events) (g .after j)) ∙ take-at (rowsOf v xs n) (drop n rows) n (rows-length v xs n) in
     encoded v ks xs (length rows) s a ∙ (λ j. storeBytes v (sym r j) (sym (g .read) j .ring) (sym (g .read) j .edition) (sym (g .read) j .budget))
@@ -257,7 +257,7 @@ writes-again vs ks xs rows room s h l =
     let v : Version = shown vs xs in
     let n : ℕ = countOf v xs in
     let g = given vs ks xs rows h in
-    let a = accepted vs ks xs (length rows) (sym (told vs ks xs (length rows)) ∙ h) in
+    let a = accepted vs ks xs (length rows) (sym (answer-told vs ks xs (length rows)) ∙ h) in
     let st : Settings = readStore vs ks xs (length rows) in
     let r : take (st .events) (rowsAfter vs ks xs rows) ≡ rowsOf v xs n =
     (λ j. take (g .read j .events) (g .after j)) ∙ take-at (rowsOf v xs n) (drop n rows) n (rows-length v xs n) in
@@ -271,7 +271,7 @@ writes-again vs ks xs rows room s h l =
 
 -- an edition that a build does not know is 52, whoever wrote the store: "Settings of M-103 may hold edition 4, which older builds refuse with 52"
 pub unknown-edition : (vs : List Version) (ks others : List Known) (v : Version) (rows : List (List ℕ)) (ring edition budget lent : ℕ)
-    → Proper v → versionOf vs (v .number) ≡ v → Taken v others rows ring edition budget → allowed ks edition ≡ false
+    → Proper v → versionOf vs (v .number) ≡ v → Writable v others rows ring edition budget → allowed ks edition ≡ false
     → readStore vs ks (storeBytes v rows ring edition budget) lent .answer ≡ 52
 unknown-edition vs ks others v rows ring edition budget lent ok h t out =
-    told vs ks (storeBytes v rows ring edition budget) lent ∙ other-edition vs ks others v rows ring edition budget lent ok h t out
+    answer-told vs ks (storeBytes v rows ring edition budget) lent ∙ other-edition vs ks others v rows ring edition budget lent ok h t out

@@ -1,183 +1,15 @@
 // A store of settings, read into a lent table.
 ghost use mathlib.Core.Path.{_≡_};
-ghost use mathlib.Core.List.{[], _∷_, _++_};
+ghost use mathlib.Core.List.{_++_};
 ghost use Prim.Native.Nat.{_+_, _≤_};
 ghost use lib.ListN.{length, drop};
-ghost use Rattle.meaning.specs.Bytes.{numberAt};
-ghost use Rattle.meaning.specs.Refusals.{first};
 ghost use Rattle.meaning.specs.Editions.{editions};
 ghost use Rattle.meaning.specs.Events.{identifiers, eventsOf, allMarked, sound};
-ghost use Rattle.settings.specs.Versions.{versions, versionOf, placeOf};
-ghost use Rattle.settings.specs.Reading.{showsVersion, isEvent, isLast, isEventOf, fits, inTurn, countOf, rowFrom, rowsOf, firstRows, lastRows, afterRows, refused, readStore, rowsAfter};
+ghost use Rattle.settings.specs.Versions.{versions, placeOf};
+ghost use Rattle.settings.specs.Reading.{rowFrom, rowsOf, refused, readStore, rowsAfter};
 ghost use Rattle.settings.specs.Narrow.{Narrow};
-use entries::Entry;
 use settings::Settings;
 use settings::Version;
-
-// ---- versions
-
-// The version with a number, of those that this build reads; width 0 where it reads none.
-fn version_of(number: u64) -> Version
-    ensures { λ r. ⌜ r ≡ versionOf versions number ⌝ }
-{
-    if number == 1 {
-        return Version {
-            number: 1,
-            width: 1,
-            limit: 32,
-        };
-    }
-    if number == 2 {
-        return Version {
-            number: 2,
-            width: 2,
-            limit: 1024,
-        };
-    }
-    Version {
-        number: 0,
-        width: 0,
-        limit: 0,
-    }
-}
-
-// ---- entries of a known kind
-
-fn shows_version(e: Entry) -> bool
-    ensures { λ r. ⌜ r ≡ showsVersion e ⌝ }
-{
-    e.whole & ((e.kind == 1) & (e.length == 2))
-}
-
-fn is_event(v: Version, e: Entry) -> bool
-    requires { ⌜ Narrow v ⌝ }
-    ensures { λ r. ⌜ r ≡ isEvent v e ⌝ }
-{
-    e.whole & ((e.kind == 2) & (e.length == v.width + 48))
-}
-
-fn is_last(e: Entry) -> bool
-    ensures { λ r. ⌜ r ≡ isLast e ⌝ }
-{
-    e.whole & ((e.kind == 3) & (e.length == 13))
-}
-
-// An event of any version that this build reads.
-fn is_any_event(e: Entry) -> bool
-    ensures { λ r. ⌜ r ≡ isEventOf versions e ⌝ }
-{
-    let one = Version {
-        number: 1,
-        width: 1,
-        limit: 32,
-    };
-    let two = Version {
-        number: 2,
-        width: 2,
-        limit: 1024,
-    };
-    is_event(one, e) | is_event(two, e)
-}
-
-fn fits(v: Version, e: Entry) -> bool
-    requires { ⌜ Narrow v ⌝ }
-    ensures { λ r. ⌜ r ≡ fits (v ∷ []) e ⌝ }
-{
-    shows_version(e) | (is_event(v, e) | is_last(e))
-}
-
-// ---- reading
-
-// The first entry: 50, 51, 52, or 0.
-fn first_answer(bytes: &[u8]) -> u16
-    ensures { λ r. ⌜ r ≡ first (firstRows versions (now (bytes .entry))) 0 ⌝ }
-{
-    let e = entries::entry_at(bytes, 0);
-    if shows_version(e) {
-        let v = version_of(wire::u16_at(bytes, 6));
-        if v.width == 0 {
-            return 50;
-        }
-        return 0;
-    }
-    if is_any_event(e) {
-        return 52;
-    }
-    if is_last(e) {
-        return 52;
-    }
-    51
-}
-
-fn index_at(bytes: &[u8], at: usize, width: usize) -> u64
-    requires { ⌜ (1 ≤ width) × (width ≤ 2) × (at + width ≤ length (now bytes)) ⌝ }
-    ensures { λ r. ⌜ r ≡ numberAt width (now (bytes .entry)) at ⌝ }
-{
-    if width == 1 {
-        return wire::u8_at(bytes, at);
-    }
-    wire::u16_at(bytes, at)
-}
-
-// Does the event entry of index n stand at its place?
-fn in_turn(bytes: &[u8], v: Version, at: usize, n: usize) -> bool
-    requires { ⌜ Narrow v × (at ≡ placeOf v n) ⌝ }
-    ensures { λ r. ⌜ r ≡ inTurn v (now (bytes .entry)) n ⌝ }
-{
-    let e = entries::entry_at(bytes, at);
-    if !is_event(v, e) {
-        return false;
-    }
-    index_at(bytes, at + 6, v.width) == n as u64
-}
-
-// How many event entries stand one after the other after the first entry, and where the last of them ends.
-struct Walked {
-    count: usize,
-    at: usize,
-}
-
-fn count_events(bytes: &[u8], v: Version) -> Walked
-    requires { ⌜ Narrow v ⌝ }
-    ensures { λ r. ⌜ (r .count ≡ countOf v (now (bytes .entry))) × (r .at ≡ placeOf v (r .count)) ⌝ }
-{
-    let size = v.width + 54;
-    let mut n = 0;
-    let mut at = 8;
-    while in_turn(bytes, v, at, n) {
-        n += 1;
-        at += size;
-    }
-    Walked { count: n, at }
-}
-
-// The entry after the events, at a place, and what follows it: 51, 52, or 0.
-fn last_answer(bytes: &[u8], v: Version, at: usize) -> u16
-    requires { ⌜ Narrow v ⌝ }
-    ensures { λ r. ⌜ r ≡ first (lastRows v editions (now (bytes .entry)) at) (first (afterRows v (now (bytes .entry)) (at + 19)) 0) ⌝ }
-{
-    let e = entries::entry_at(bytes, at);
-    if !fits(v, e) {
-        return 51;
-    }
-    if e.kind != 3 {
-        return 52;
-    }
-    if !ring::length_allowed(wire::u64_at(bytes, at + 6) as usize) {
-        return 52;
-    }
-    if !record::allowed(wire::u8_at(bytes, at + 14)) {
-        return 52;
-    }
-    if at + 19 == bytes.len() {
-        return 0;
-    }
-    let f = entries::entry_at(bytes, at + 19);
-    if !fits(v, f) {
-        return 51;
-    }
-    52
-}
 
 // The six words of an event, from a place on; sample_id_all is set.
 fn row_at(bytes: &[u8], at: usize) -> [u64; 7]
@@ -265,15 +97,15 @@ pub fn read_store(bytes: &[u8], rows: &mut [[u64; 7]]) -> Settings
     ensures { λ r. ⌜ r ≡ readStore versions editions (now (bytes .entry)) (length (now (rows .entry))) ⌝ }
     ensures { λ _. ⌜ now (rows .exit) ≡ rowsAfter versions editions (now (bytes .entry)) (now (rows .entry)) ⌝ }
 {
-    let a = first_answer(bytes);
+    let a = settings_walk::first_answer(bytes);
     if a != 0 {
         return refuse(a);
     }
-    let v = version_of(wire::u16_at(bytes, 6));
-    let w = count_events(bytes, v);
+    let v = settings_walk::version_of(wire::u16_at(bytes, 6));
+    let w = settings_walk::count_events(bytes, v);
     let n = w.count;
     let at = w.at;
-    let b = last_answer(bytes, v, at);
+    let b = settings_walk::last_answer(bytes, v, at);
     if b != 0 {
         return refuse(b);
     }

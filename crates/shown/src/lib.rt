@@ -1,5 +1,5 @@
 // "Two lent slices go in; the record comes back as a part of whichever holds it whole, status beside it": the struct that
-// holds the part and the status. Both functions are thin: `ring::shown` finds the part, `record::read_into` reads it.
+// holds the part and the status. Both functions are thin: `ring::shown` finds the part, `fast_read::read_into` reads it.
 ghost use mathlib.Core.Path.{_≡_};
 ghost use denote.Ref.{ptr};
 ghost use Rattle.meaning.specs.Editions.{editions};
@@ -44,5 +44,5 @@ pub fn read_shown<'a>(
         × (now (words .exit) ≡ readIntoWords editions e a (shown (now (ring .entry)) (now (scratch .entry)) f) (now (words .entry))) ⌝ }
 {
     let s = show(ring, scratch, f);
-    record::read_into(s.part, e, a, words)
+    fast_read::read_into(s.part, e, a, words)
 }

@@ -16,7 +16,7 @@ use Rattle.table.specs.declared.Part.{Part}
 use Rattle.table.specs.Rows.{rows, fieldRows, allRows, types, ends, itemOf, cut}
 
 -- what a part of the rows is, as the part of a type
-pub record Holds (kind : ℕ) (p : Part) : Type 0 where
+pub record LaidOut (kind : ℕ) (p : Part) : Type 0 where
   pub ordered : p .from ≤ p .to
   pub within : p .to ≤ fieldRows
   pub layout-is : (misc : ℕ) (a : Attributes) → map (itemOf a misc kind) (slice (p .from) (p .to) rows) ≡ schema kind misc a
@@ -63,7 +63,7 @@ rises-at from (to ∷ tos) r zero h =
 rises-at from (to ∷ tos) r (suc k) h =
     rises-at to tos (and-true (leb to fieldRows) (rises to tos) (and-true (leb from to) (leb to fieldRows && rises to tos) r .1) .1) k (omega arith)
 
-pub part-holds : (kind : ℕ) (p : Part) → kind < types → p .from ≡ getD (0 ∷ ends) kind 0 → p .to ≡ getD ends kind 0 → Holds kind p
+pub part-holds : (kind : ℕ) (p : Part) → kind < types → p .from ≡ getD (0 ∷ ends) kind 0 → p .to ≡ getD ends kind 0 → LaidOut kind p
 part-holds kind p h e f =
     let b = rises-at 0 ends refl kind h in record {
       ordered = rw (e, f) (b .0);
@@ -73,7 +73,7 @@ part-holds kind p h e f =
     }
 
 -- a type past the table has no rows
-pub none-holds : (kind : ℕ) (p : Part) → types ≤ kind → p .from ≡ 0 → p .to ≡ 0 → Holds kind p
+pub none-holds : (kind : ℕ) (p : Part) → types ≤ kind → p .from ≡ 0 → p .to ≡ 0 → LaidOut kind p
 none-holds kind p h e f = record {
   ordered = omega arith;
   within = omega arith;

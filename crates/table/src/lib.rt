@@ -6,7 +6,7 @@ ghost use lib.ListN.{getD};
 ghost use Rattle.meaning.specs.Schema.{trails};
 ghost use Rattle.table.specs.Rows.{rows, allRows, guard, guards, shape, itemOf};
 ghost use Rattle.table.specs.Flags.{flagAt};
-ghost use Rattle.table.specs.Same.{Holds};
+ghost use Rattle.table.specs.Same.{LaidOut};
 use meaning::Attributes;
 use meaning::Item;
 use meaning::Shape;
@@ -22,7 +22,7 @@ pub struct Part {
 
 // The rows of a type's fields; of a type that document 01 does not have, none.
 pub fn part_of(kind: u64) -> Part
-    ensures { λ r. ⌜ Holds kind r ⌝ }
+    ensures { λ r. ⌜ LaidOut kind r ⌝ }
 {
     if kind < rows::TYPES {
         let k = kind as usize;

@@ -7,9 +7,9 @@ use mathlib.Core.List.{List, [], _∷_, _++_}
 use Rattle.tables.specs.Numbers.{from, spelled, among, word, trailerMask}
 
 -- a word of a value: the number of so many bytes at a place; or this number: a place, a count, or 0 for what is not there
-pub data Told : Type 0 where
-  at : ℕ → ℕ → Told
-  is : ℕ → Told
+pub data WordAs : Type 0 where
+  at : ℕ → ℕ → WordAs
+  is : ℕ → WordAs
 
 -- a record of edition 3, or of edition 4 if no other has it, that decodes: the high byte of misc, the attributes, the bytes, its words, the flag's word
 -- where a byte after its name's zero is not zero, and the places of ignored bytes
@@ -24,12 +24,12 @@ pub record Row : Type 0 where
   pub branch : ℕ
   pub size : ℕ
   pub body : List ℕ
-  pub told : List Told
-  pub flag : List Told
-  pub trail : List Told
+  pub told : List WordAs
+  pub flag : List WordAs
+  pub trail : List WordAs
   pub ignored : List ℕ
 
-abbrev flaggedRow : ℕ → ℕ → ℕ → ℕ → ℕ → List ℕ → List Told → List Told → List ℕ → Row
+abbrev flaggedRow : ℕ → ℕ → ℕ → ℕ → ℕ → List ℕ → List WordAs → List WordAs → List ℕ → Row
 flaggedRow kind high sample format size body told flag ignored =
     record {
       kind = kind;
@@ -48,27 +48,27 @@ flaggedRow kind high sample format size body told flag ignored =
       ignored = ignored;
     }
 
-abbrev row : ℕ → ℕ → ℕ → ℕ → ℕ → List ℕ → List Told → List ℕ → Row
+abbrev row : ℕ → ℕ → ℕ → ℕ → ℕ → List ℕ → List WordAs → List ℕ → Row
 row kind high sample format size body told ignored = flaggedRow kind high sample format size body told [] ignored
 
 -- a record of numbers alone: each byte after the header is its own place
-abbrev plain : ℕ → ℕ → List Told → Row
+abbrev plain : ℕ → ℕ → List WordAs → Row
 plain kind size told = row kind 0 0 0 size (from 8 (size - 8)) told []
 
 -- the name "abc" in the last eight bytes; the four after its zero are ignored, and not zero, so that the record is flagged
 abbrev abc : List ℕ
 abc = 97 ∷ 98 ∷ 99 ∷ 0 ∷ 1 ∷ 2 ∷ 3 ∷ 4 ∷ []
 
-abbrev named : ℕ → ℕ → List Told → Row
+abbrev named : ℕ → ℕ → List WordAs → Row
 named kind place told =
     flaggedRow kind 0 0 0 (place + 8) (from 8 (place - 8) ++ abc) (told ++ (is place ∷ is 3 ∷ [])) (is 1 ∷ []) (from (place + 4) 4)
 
 -- the same with zeros after the name's zero: every byte is kept, and the flag's word is 0
-abbrev tidy : ℕ → ℕ → List Told → Row
+abbrev tidy : ℕ → ℕ → List WordAs → Row
 tidy kind place told = row kind 0 0 0 (place + 8) (from 8 (place - 8) ++ (97 ∷ 98 ∷ 99 ∷ 0 ∷ 0 ∷ 0 ∷ 0 ∷ 0 ∷ [])) (told ++ (is place ∷ is 3 ∷ is 0 ∷ [])) []
 
 -- READ by its format, with what stands behind pid and tid
-abbrev reading : ℕ → ℕ → List ℕ → List Told → Row
+abbrev reading : ℕ → ℕ → List ℕ → List WordAs → Row
 reading format size values told = row 8 0 0 format size (from 8 8 ++ values) (at 8 4 ∷ at 12 4 ∷ told) []
 
 abbrev pub types : List Row
@@ -149,13 +149,13 @@ sampleBody =
     ++ (from 0 16
     ++ (word 16 ++ from 24 16)))))))))))))))
 
-abbrev sampleNumbers : List Told
+abbrev sampleNumbers : List WordAs
 sampleNumbers =
     at 8 8 ∷ at 16 8 ∷ at 24 4 ∷ at 28 4 ∷ at 32 8 ∷ at 40 8 ∷ at 48 8 ∷ at 56 8 ∷ at 64 4 ∷ at 72 8  -- identifier to period
     ∷ at 80 8 ∷ is 0 ∷ is 0 ∷ is 0 ∷ is 0 ∷ is 0 ∷ is 0  -- the read value
     ∷ []
 
-abbrev sampleLists : List Told
+abbrev sampleLists : List WordAs
 sampleLists =
     is 2 ∷ is 96  -- callchain: n, place
     ∷ is 4 ∷ is 116  -- raw: size, place
@@ -231,7 +231,7 @@ flags =
     ∷ []
   where
     -- CGROUP with a time behind it, that has no zero byte
-    timed : List ℕ → List Told → Row
+    timed : List ℕ → List WordAs → Row
     timed name flag =
         record {
           kind = 19;
@@ -283,13 +283,13 @@ orders =
 abbrev pub laid : Row → List ℕ
 laid r = r .kind ∷ 0 ∷ 0 ∷ 0 ∷ 0 ∷ r .high ∷ r .size % 256 ∷ r .size / 256 ∷ r .body
 
-abbrev tells : List ℕ → List Told → List ℕ
+abbrev tells : List ℕ → List WordAs → List ℕ
 tells xs [] = []
 tells xs (at place k ∷ ts) = spelled k place xs ∷ tells xs ts
 tells xs (is n ∷ ts) = n ∷ tells xs ts
 
 -- 56 words: type, misc, size; 45 of the body; 8 of the trailer. Those that a writer takes have no flag
-abbrev wordsWith : Row → List Told → List ℕ
+abbrev wordsWith : Row → List WordAs → List ℕ
 wordsWith r told = r .kind ∷ 256 * r .high ∷ r .size ∷ (filled 45 (tells (laid r) told) ++ filled 8 (tells (laid r) (r .trail)))
 
 abbrev pub said : Row → List ℕ
@@ -302,7 +302,7 @@ given r = wordsWith r (r .told)
 abbrev flaggedElse : Row → ℕ → ℕ
 flaggedElse r n = by (r .flag)
   where
-    by : List Told → ℕ
+    by : List WordAs → ℕ
     by [] = 0
     by (t ∷ ts) = n
 

@@ -1,4 +1,4 @@
--- 43, and the answers from 41 on, of a type that the edition knows, by the size that was measured. Not what must be believed: proofs/Answers says that they
+-- 43, and the answers from 41 on, of a type that the edition knows, by the size that was measured. Not what must be believed: Answers says that they
 -- are the writer's of `meaning`. Assumes nothing: these are definitions.
 use Prim.Native.Nat.{ℕ}
 use mathlib.Core.Bool.{Bool, false, cond, not}

@@ -6,10 +6,10 @@ use Rattle.meaning.specs.declared.Attributes.{Attributes}
 use Rattle.meaning.specs.Schema.{schema, trailer}
 use Rattle.table.specs.Rows.{allRows, fieldRows}
 use Rattle.table.specs.declared.Part.{Part}
-use Rattle.table.specs.Same.{Holds, trailer-rows}
+use Rattle.table.specs.Same.{LaidOut, trailer-rows}
 use Rattle.writer_parts.specs.Parts.{itemsFrom, Lays}
 
-pub body-lays : (a : Attributes) (kind misc : ℕ) (q : Part) → Holds kind q
+pub body-lays : (a : Attributes) (kind misc : ℕ) (q : Part) → LaidOut kind q
     → Lays (record { attributes = a; kind = kind; misc = misc; from = q .from; to = q .to }) a kind (schema kind misc a)
 unfolding itemsFrom
 body-lays a kind misc q h = let w = h .within in record { attributes = refl; kind = refl; ordered = h .ordered; within = omega (arith, w); items = h .layout-is misc a }

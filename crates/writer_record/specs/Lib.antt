@@ -1,1 +1,4 @@
 pub mod Measures
+pub mod Measuring
+pub mod Records
+pub mod Spare

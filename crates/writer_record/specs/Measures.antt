@@ -1,5 +1,5 @@
 -- What the writer measures before it writes: the value that the words tell, and its size where it can be written. Not what must be believed:
--- proofs/Measuring ties it to `writable`. Assumes nothing: these are definitions.
+-- Measuring ties it to `writable`. Assumes nothing: these are definitions.
 use Prim.Native.Nat.{ℕ}
 use mathlib.Core.Path.{_≡_}
 use mathlib.Core.Bool.{false, cond, _&&_}

@@ -23,19 +23,19 @@ returns-2 c = let a = c .before .before .before .before .args in let xs : List �
 
 returns-3 : tie.Need-returns-3
 returns-3 c = let a = c .before .before .before .before .before .before .args in let xs : List ℕ = now (a .s) in
-    let e = c .before .before .u64-at .ensures in
+    let e = c .before .before .size8 .ensures in
     as-known (λ (t : Bool). sizedBytes t W8) xs (a .at) _ true (a .on) (not-false (a .on) (c .before .before .before .before .if1 .left))
     (refusing xs _ (a .at) _ 32 (c .refused2 .ensures) (λ q. omega (arith, q)) (sized-bad W8 xs (a .at) (omega arith) (λ q. c .before .if3 .taken (omega (arith, e, q)))))
 
 returns-4 : tie.Need-returns-4
 returns-4 c = let a = c .before .before .before .before .before .before .before .args in let xs : List ℕ = now (a .s) in
-    let e = c .before .before .before .u64-at .ensures in
+    let e = c .before .before .before .size8 .ensures in
     as-known (λ (t : Bool). sizedBytes t W8) xs (a .at) _ true (a .on) (not-false (a .on) (c .before .before .before .before .before .if1 .left))
     (refusing xs _ (a .at) _ 30 (c .refused3 .ensures) (λ q. omega (arith, q)) (sized-long W8 xs (a .at) (omega arith) (omega (arith, e, c .before .before .if3 .left)) (omega (arith, e))))
 
 returns-5 : tie.Need-returns-5
 returns-5 c = let a = c .before .before .before .before .before .before .args in let xs : List ℕ = now (a .s) in
-    let e = c .before .before .u64-at .ensures in
+    let e = c .before .before .size8 .ensures in
     as-known (λ (t : Bool). sizedBytes t W8) xs (a .at) _ true (a .on) (not-false (a .on) (c .before .before .before .before .if1 .left))
     (going xs _ (a .at) _ (omega arith) (subst (λ (n : ℕ). Leaves xs (sizedBytes true W8) (a .at) (place (a .at + 8 + n) 0)) (sym e)
     (sized-in W8 xs (a .at) (omega arith) (omega (arith, e, c .before .if3 .left)) (omega (arith, e)))))

@@ -23,19 +23,19 @@ returns-2 c = let a = c .before .before .before .before .args in let xs : List �
 
 returns-3 : tie.Need-returns-3
 returns-3 c = let a = c .before .before .before .before .before .before .args in let xs : List ℕ = now (a .s) in
-    let e = c .before .before .u32-at .ensures .0 in
+    let e = c .before .before .size4 .ensures .0 in
     as-known (λ (t : Bool). sizedBytes t W4) xs (a .at) _ true (a .on) (not-false (a .on) (c .before .before .before .before .if1 .left))
     (refusing xs _ (a .at) _ 32 (c .refused2 .ensures) (λ q. omega (arith, q)) (sized-bad W4 xs (a .at) (omega arith) (λ q. c .before .if3 .taken (ap (λ (n : ℕ). (n + 4) % 8) e ∙ q))))
 
 returns-4 : tie.Need-returns-4
 returns-4 c = let a = c .before .before .before .before .before .before .before .args in let xs : List ℕ = now (a .s) in
-    let e = c .before .before .before .u32-at .ensures .0 in
+    let e = c .before .before .before .size4 .ensures .0 in
     as-known (λ (t : Bool). sizedBytes t W4) xs (a .at) _ true (a .on) (not-false (a .on) (c .before .before .before .before .before .if1 .left))
     (refusing xs _ (a .at) _ 30 (c .refused3 .ensures) (λ q. omega (arith, q)) (sized-long W4 xs (a .at) (omega arith) (ap (λ (n : ℕ). (n + 4) % 8) (sym e) ∙ c .before .before .if3 .left) (omega (arith, e))))
 
 returns-5 : tie.Need-returns-5
 returns-5 c = let a = c .before .before .before .before .before .before .args in let xs : List ℕ = now (a .s) in
-    let e = c .before .before .u32-at .ensures .0 in
+    let e = c .before .before .size4 .ensures .0 in
     as-known (λ (t : Bool). sizedBytes t W4) xs (a .at) _ true (a .on) (not-false (a .on) (c .before .before .before .before .if1 .left))
     (going xs _ (a .at) _ (omega arith) (subst (λ (n : ℕ). Leaves xs (sizedBytes true W4) (a .at) (place (a .at + 4 + n) 0)) (sym e)
     (sized-in W4 xs (a .at) (omega arith) (ap (λ (n : ℕ). (n + 4) % 8) (sym e) ∙ c .before .if3 .left) (omega (arith, e)))))

@@ -10,6 +10,8 @@ use Rattle.meaning.specs.Records.{kindOf, miscOf}
 use Rattle.meaning.specs.Events.{attributesOf, eventAt, eventsOf, identifiers, identifierOf, indexOf, judgeEvents}
 use Rattle.laws.specs.Bytes.{apart}
 use Rattle.laws.specs.Lookup.{rows-length}
+use Rattle.twins.specs.Twins.{Beside}
+use Rattle.twins.specs.Whole.{same-like}
 use Rattle.comparing.proofs.Start.{kind-is, misc-is, framed-long, accepted-long, accepted-there, beside-is, like-alike}
 use Rattle.comparing.proofs.like.Statement.{statement}
 use Rattle.comparing.proofs.like.Tie as tie
@@ -77,19 +79,22 @@ attributes-at-requires c κs =
 attributes-are : (c : tie.After-attributes-at) → c .attributes-at .result ≡ attributesOf (eventAt (eventsOf (now (c .before .before .before .before .before .before .before .before .before .before .before .before .before .before .before .before .args .rows))) (indexOf (identifierOf (now (c .before .before .before .before .before .before .before .before .before .before .before .before .before .before .before .before .args .x))) (identifiers (eventsOf (now (c .before .before .before .before .before .before .before .before .before .before .before .before .before .before .before .before .args .rows))))))
 attributes-are c = c .attributes-at .ensures ∙ ap (λ (i : ℕ). attributesOf (eventAt (eventsOf (now (c .before .before .before .before .before .before .before .before .before .before .before .before .before .before .before .before .args .rows))) i)) (found (c .before))
 
-record-alike-requires : tie.Need-record-alike-requires
-record-alike-requires c κs =
+beside : (c : tie.After-attributes-at) → Beside (now (c .before .before .before .before .before .before .before .before .before .before .before .before .before .before .before .before .args .x)) (now (c .before .before .before .before .before .before .before .before .before .before .before .before .before .before .before .before .args .y)) (c .before .before .before .before .before .before .before .before .before .before .before .before .u32-at .result) (c .before .before .before .before .before .before .before .before .before .u16-at .result) (c .attributes-at .result)
+beside c =
     let s = c .before .before .before .before .before .before .before .before .before .before .before .before .before .before .before .before in
     let a = s .args in
     beside-is (known editions (a .e)) (eventsOf (now (a .rows))) (s .pre .1) (now (a .x)) (now (a .y)) (s .pre .0 .0) (s .pre .0 .1) (accepted (c .before .before .before .before .before)) (kinds (c .before .before .before .before .before .before .before .before .before .before)) (miscs (c .before .before .before .before .before .before .before)) (c .before .before .before .before .before .before .before .before .before .before .before .before .before .if1 .left) (ids (c .before .before))
     (c .attributes-at .result) (attributes-are c) _ _ (c .before .before .before .before .before .before .before .before .before .before .before .before .u32-at .ensures .0 ∙ kind-is (now (a .x))) (c .before .before .before .before .before .before .before .before .before .u16-at .ensures .0 ∙ misc-is (now (a .x)))
+
+same-but-requires : tie.Need-same-but-requires
+same-but-requires c κs = beside c
 
 returns-6 : tie.Need-returns-6
 returns-6 c q =
     let s = c .before .before .before .before .before .before .before .before .before .before .before .before .before .before .before .before .before in
     let a = s .args in
     like-alike (known editions (a .e)) (eventsOf (now (a .rows))) (s .pre .1) (now (a .x)) (now (a .y)) (s .pre .0 .0) (s .pre .0 .1) (accepted (c .before .before .before .before .before .before)) (kinds (c .before .before .before .before .before .before .before .before .before .before .before)) (miscs (c .before .before .before .before .before .before .before .before)) (c .before .before .before .before .before .before .before .before .before .before .before .before .before .before .if1 .left) (ids (c .before .before .before))
-    (c .before .attributes-at .result) (attributes-are (c .before)) (c .record-alike .ensures q)
+    (c .before .attributes-at .result) (attributes-are (c .before)) (same-like (now (a .x)) (now (a .y)) _ _ _ (beside (c .before)) (sym (c .same-but .ensures) ∙ q))
 
 pub like-spec : {M : Type 1} → statement M
 like-spec =
@@ -109,5 +114,5 @@ like-spec =
     (λ c q. absurd (apart q))
     (λ c κs. search needs)
     attributes-at-requires
-    record-alike-requires
+    same-but-requires
     returns-6)

@@ -7,16 +7,17 @@ use borrow.Author.Needs.{needs}
 use Rattle.meaning.specs.Editions.{editions, known}
 use Rattle.meaning.specs.Events.{eventsOf, judged}
 use Rattle.laws.specs.Lookup.{rows-length}
-use Rattle.events.specs.Match.{match-there, match-most, inspected-by}
+use Rattle.events.specs.Match.{match-there, inspected-by}
 use Rattle.event_one.proofs.Laws.{read-none, read-own}
 use Rattle.event_one.proofs.read_event.Statement.{statement}
 use Rattle.event_one.proofs.read_event.Tie as tie
 
 inspected-requires : tie.Need-inspected-requires
 inspected-requires c κs =
-    let a = c .before .before .before .args in
-    let m = match-most (known editions (a .e)) (eventsOf (now (a .rows))) (now (a .r)) (c .match-event .result) (c .match-event .ensures) in
-    (omega (arith, c .before .before .before .pre .1, rows-length (now (a .rows)), m), c .before .before .before .pre .1)
+    let s = c .before .before .before in
+    let a = s .args in
+    let there = match-there (known editions (a .e)) (eventsOf (now (a .rows))) (now (a .r)) (c .match-event .result) (c .match-event .ensures) in
+    ((λ z. let h = there z in omega (arith, h, s .pre .1, rows-length (now (a .rows)))), s .pre .1)
 
 returns : tie.Need-returns
 returns c =

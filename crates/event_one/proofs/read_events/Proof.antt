@@ -1,6 +1,6 @@
 -- What is refused before the record is looked at; else the record's own.
 use mathlib.Core.Path.{_≡_, sym, ap, _∙_}
-use Prim.Native.Nat.{ℕ, _≤_}
+use Prim.Native.Nat.{ℕ, _≤_, _<_}
 use native.Mathlib.Omega.{arith}
 use lib.ListN.{length}
 use denote.Ref.{now}
@@ -26,7 +26,7 @@ read-event-requires c κs =
     let a = c .before .before .before .before .before .args in
     let es = eventsOf (now (a .rows)) in
     let w = looked (a .limit) editions (a .e) es (now (a .r)) (sym (c .before .before .unasked .ensures) ∙ c .before .if1 .left) in
-    let n : length (now (a .rows)) ≤ 1024 = omega (arith, c .before .before .before .before .before .pre, rows-length (now (a .rows)), sound-limit (a .limit) es (w .table)) in
+    let n : length (now (a .rows)) < 4294967296 = omega (arith, c .before .before .before .before .before .fits .limit .fits, rows-length (now (a .rows)), sound-limit (a .limit) es (w .table)) in
     (w .low, n)
 
 returns-2 : tie.Need-returns-2

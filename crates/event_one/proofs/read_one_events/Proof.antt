@@ -2,7 +2,7 @@
 use mathlib.Core.Path.{_≡_, sym, ap, ap₂, _∙_}
 use mathlib.Core.List.{List}
 use mathlib.Core.Bool.{Bool, true, false}
-use Prim.Native.Nat.{ℕ, _≤_}
+use Prim.Native.Nat.{ℕ, _≤_, _<_}
 use native.Mathlib.Nat.{le-of-lt, le-trans}
 use native.Mathlib.Omega.{arith}
 use lib.ListN.{length}
@@ -57,7 +57,7 @@ read-event-requires c κs =
     let w = going (c .before .before .before .before .before .before .before) in
     let a = c .before .before .before .before .before .before .before .before .before .before .before .before .before .before .before .args in
     let t = sound-limit (a .limit) (eventsOf (now (a .rows))) (not-false _ (w .beside .1 .0)) in
-    let n : length (now (a .rows)) ≤ 1024 = omega (arith, c .before .before .before .before .before .before .before .before .before .before .before .before .before .before .before .pre, rows-length (now (a .rows)), t) in
+    let n : length (now (a .rows)) < 4294967296 = omega (arith, c .before .before .before .before .before .before .before .before .before .before .before .before .before .before .before .fits .limit .fits, rows-length (now (a .rows)), t) in
     (omega (arith, w .size-low, ap length (bytes (c .before)), going-length _ _ _ _ _ _ _ _ w), n)
 
 returns-2 : tie.Need-returns-2

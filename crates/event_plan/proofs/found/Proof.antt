@@ -11,9 +11,9 @@ use Rattle.meaning.specs.Records.{layout, judge}
 use Rattle.meaning.specs.Events.{attributesOf, eventAt, eventsOf}
 use Rattle.laws.specs.Lookup.{rows-length}
 use Rattle.blocks.specs.Steady.{sizes-same}
-use Rattle.plan.specs.Sums.{sumsOf}
-use Rattle.plan.specs.Marks.{Wanted, Marked, size-judged}
-use Rattle.event_plan.specs.Slots.{Filled, attributesFor, note}
+use Rattle.sums.specs.Sums.{sumsOf}
+use Rattle.marks.specs.Marks.{Wanted, Marked, size-judged}
+use Rattle.event_plan.specs.Slots.{Filled, attributesFor}
 use Rattle.event_plan.proofs.found.Statement.{statement}
 use Rattle.event_plan.proofs.found.Tie as tie
 
@@ -25,7 +25,7 @@ module _ (s : tie.Start) where
   slot : Filled (s .args .known) (eventsOf (now (s .args .rows))) (s .args .id) (now (s .args .slot))
   slot = s .pre .1 .1 .1 .1 .1 .1 .1 .0
 
-  is-there : getD (note (now (s .args .slot))) 1 0 ≡ 1
+  is-there : getD (now (s .args .slot)) 1 0 ≡ 2
   is-there = s .pre .1 .1 .1 .1 .1 .1 .1 .1
 
 same : (c : tie.After-attributes-at) → c .attributes-at .result ≡ its (c .before .before .before .before .before)
@@ -51,16 +51,17 @@ attributes-at-requires c κs =
 
 judge-requires : tie.Need-judge-requires
 judge-requires c κs =
-    let s = c .before .before .before .before .before .before in
+    let s = c .before .before .before .before .before .before .before .before .before in
     let a = s .args in
     let p = s .pre in
-    let e = same (c .before) in
-    (p .0, (p .1 .0, (p .1 .1 .0, (p .1 .1 .1 .0, (subst (λ (x : Attributes). Marked (a .known) x (a .kind) (c .before .before .before .before .mark-of .result)) (sym e) (c .before .before .before .before .mark-of .ensures), slot s .planned (is-there s) .sums ∙ ap sumsOf (sym e))))))
+    let m = c .before .before .before .before .before .before .before .mark-of in
+    let e = same (c .before .before .before .before) in
+    (p .0, (p .1 .0, (p .1 .1 .0, (p .1 .1 .1 .0, (subst (λ (x : Attributes). Marked (a .known) x (a .kind) (m .result)) (sym e) (m .ensures), c .before .unpacked .ensures ∙ slot s .planned (is-there s) .sums ∙ ap sumsOf (sym e))))))
 
 returns-2 : tie.Need-returns-2
 returns-2 c =
-    let a = c .before .before .before .before .before .before .before .args in
-    c .judge .ensures ∙ ap (λ (x : Attributes). judge (layout (a .known) x) (now (a .r))) (same (c .before .before))
+    let a = c .before .before .before .before .before .before .before .before .before .before .args in
+    c .judge .ensures ∙ ap (λ (x : Attributes). judge (layout (a .known) x) (now (a .r))) (same (c .before .before .before .before .before))
 
 pub found-spec : {M : Type 1} → statement M
 found-spec =
@@ -69,8 +70,9 @@ found-spec =
     (λ c κs. search needs)
     returns
     (λ c. search needs)
-    (λ c. search needs)
     attributes-at-requires
     (λ c. search needs)
+    (λ c. search needs)
+    (λ c κs. search needs)
     judge-requires
     returns-2)

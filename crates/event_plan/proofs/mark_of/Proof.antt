@@ -11,9 +11,9 @@ use Rattle.meaning.specs.Schema.{trailer}
 use Rattle.meaning.specs.Records.{room}
 use Rattle.meaning.specs.Events.{attributesOf, eventAt, eventsOf}
 use Rattle.laws.specs.Lookup.{rows-length}
-use Rattle.plan.specs.Sums.{trail-small, sums-given}
-use Rattle.plan.specs.Marks.{Marked, unreadable-most}
-use Rattle.event_plan.specs.Slots.{Planned, attributesFor, note}
+use Rattle.sums.specs.Sums.{trail-small, sums-given}
+use Rattle.marks.specs.Marks.{Marked, unreadable-most}
+use Rattle.event_plan.specs.Slots.{Planned, attributesFor}
 use Rattle.event_plan.proofs.mark_of.Statement.{statement}
 use Rattle.event_plan.proofs.mark_of.Tie as tie
 
@@ -30,12 +30,12 @@ same c =
 returns : tie.Need-returns
 returns c =
     let s = c .before .before in
-    subst (λ (n : ℕ). Marked (s .args .known) (attributesFor (eventsOf (now (s .args .rows))) (s .args .id)) n (getD (note (now (s .args .slot))) 3 0)) (sym (c .before .if1 .taken)) (planned s .sample)
+    subst (λ (n : ℕ). Marked (s .args .known) (attributesFor (eventsOf (now (s .args .rows))) (s .args .id)) n (getD (now (s .args .slot)) 3 0)) (sym (c .before .if1 .taken)) (planned s .sample)
 
 returns-2 : tie.Need-returns-2
 returns-2 c =
     let s = c .before .before .before in
-    subst (λ (n : ℕ). Marked (s .args .known) (attributesFor (eventsOf (now (s .args .rows))) (s .args .id)) n (getD (note (now (s .args .slot))) 4 0)) (sym (c .before .if2 .taken)) (planned s .read)
+    subst (λ (n : ℕ). Marked (s .args .known) (attributesFor (eventsOf (now (s .args .rows))) (s .args .id)) n (getD (now (s .args .slot)) 4 0)) (sym (c .before .if2 .taken)) (planned s .read)
 
 attributes-at-requires : tie.Need-attributes-at-requires
 attributes-at-requires c κs =
@@ -67,18 +67,13 @@ mark-of-spec =
     tie.close
     (tie.spec
     (λ c. search needs)
-    (λ c. search needs)
     returns
-    (λ c. search needs)
     (λ c. search needs)
     returns-2
     (λ c. search needs)
-    (λ c. search needs)
     attributes-at-requires
     (λ c. search needs)
-    (λ c. search needs)
     cast-type-mark
-    (λ c. search needs)
     (λ c. search needs)
     type-mark-requires
     returns-3)

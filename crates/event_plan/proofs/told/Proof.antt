@@ -59,7 +59,6 @@ told-spec =
     (λ c. search needs)
     (λ c. search needs)
     (λ c. search needs)
-    (λ c. search needs)
     cast-result
     returns
     (λ c. search needs)

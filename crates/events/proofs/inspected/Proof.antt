@@ -2,12 +2,20 @@
 use mathlib.Core.Path.{sym, ap, _∙_}
 use mathlib.Core.Bool.{Bool, cond}
 use Prim.Native.Nat.{ℕ, _+_}
+use native.Mathlib.Omega.{arith}
 use lib.Dec.{eqb}
 use borrow.Author.Needs.{needs}
 use borrow.Author.Tests.{eq-eqb, ne-eqb}
 use Rattle.events.specs.Match.{inspectedBy}
 use Rattle.events.proofs.inspected.Statement.{statement}
 use Rattle.events.proofs.inspected.Tie as tie
+
+-- the index of an event that was found, plus one
+add-result : tie.Need-add-result
+add-result c = let h = c .before .before .before .pre .0 (c .before .if1 .taken) in omega (arith, h)
+
+cast-result : tie.Need-cast-result
+cast-result c = let h = c .before .before .before .pre .0 (c .before .if1 .taken) in omega (arith, h)
 
 returns : tie.Need-returns
 unfolding inspectedBy
@@ -31,4 +39,4 @@ returns-3 c =
 
 pub inspected-spec : {M : Type 1} → statement M
 inspected-spec =
-    tie.close (tie.spec (λ c. search needs) (λ c. search needs) returns (λ c. search needs) returns-2 returns-3)
+    tie.close (tie.spec add-result cast-result returns (λ c. search needs) returns-2 returns-3)

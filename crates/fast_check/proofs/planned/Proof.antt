@@ -6,7 +6,7 @@ use denote.Ref.{now}
 use borrow.Author.Needs.{needs}
 use Rattle.meaning.specs.declared.Known.{Known}
 use Rattle.meaning.specs.Records.{layout, kindOf, judge}
-use Rattle.plan.specs.Marks.{lastType, kinds-most}
+use Rattle.marks.specs.Marks.{lastType, kinds-most}
 use Rattle.fast_check.proofs.planned.Statement.{statement}
 use Rattle.fast_check.proofs.planned.Tie as tie
 

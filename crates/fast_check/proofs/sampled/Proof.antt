@@ -2,7 +2,7 @@
 use mathlib.Core.Path.{sym, subst}
 use Prim.Native.Nat.{ℕ}
 use borrow.Author.Needs.{needs}
-use Rattle.plan.specs.Marks.{Marked}
+use Rattle.marks.specs.Marks.{Marked}
 use Rattle.fast_check.proofs.sampled.Statement.{statement}
 use Rattle.fast_check.proofs.sampled.Tie as tie
 

@@ -1,4 +1,4 @@
--- The attributes are those that C gives, and the rest is the contract of `record::read_into`.
+-- The attributes are those that C gives, and the rest is the contract of `fast_read::read_into`.
 use mathlib.Core.Path.{ap, _∙_}
 use denote.Ref.{now}
 use borrow.Author.Needs.{needs}

@@ -1,4 +1,4 @@
--- `ollskuvan::ollskuvan_write` meets its contract: the attributes are those given, and the rest is `writer::write`. Assumes nothing.
+-- `ollskuvan::ollskuvan_write` meets its contract: the attributes are those given, and the rest is `fast_writer::write`. Assumes nothing.
 use mathlib.Core.Path.{ap, _∙_}
 use lib.ListN.{length}
 use denote.Ref.{now}

@@ -9,7 +9,7 @@ use denote.Ref.{now}
 use borrow.Author.Needs.{needs}
 use borrow.Author.Tests.{leb-true, not-true, not-false}
 use Rattle.laws.specs.Bytes.{and-true}
-use Rattle.reader.specs.Field.{isWidth, taken}
+use Rattle.reader.specs.Field.{isWidth, fieldFound}
 use Rattle.reader.specs.Laws.{field-there, field-passes}
 use Rattle.reader.proofs.field_at.Statement.{statement}
 use Rattle.reader.proofs.field_at.Tie as tie
@@ -38,7 +38,7 @@ returns-2 : tie.Need-returns-2
 returns-2 c =
     let a = c .before .before .before .before .before .before .args in
     c .took .ensures
-    ∙ ap (λ (x : ℕ). taken x (a .at + a .k)) (c .before .number-at .ensures)
+    ∙ ap (λ (x : ℕ). fieldFound x (a .at + a .k)) (c .before .number-at .ensures)
     ∙ sym (field-there (a .k) (now (a .bytes)) (a .at) (there (c .before .before)))
 
 pub field-at-spec : {M : Type 1} → statement M

@@ -4,7 +4,8 @@ use mathlib.Core.Bool.{Bool, cond}
 use native.Mathlib.Omega.{arith}
 use denote.Ref.{now}
 use Rattle.meaning.specs.Records.{kindOf}
-use Rattle.record.proofs.Dirty.{trailer-there, or-refused, or-flagged}
+use Rattle.record.specs.Flag.{trailer-there}
+use Rattle.record.proofs.Dirty.{or-refused, or-flagged}
 use Rattle.record.proofs.or_dirty.Statement.{statement}
 use Rattle.record.proofs.or_dirty.Tie as tie
 

@@ -3,7 +3,7 @@ use mathlib.Core.Path.{sym, _∙_}
 use denote.Ref.{now}
 use Rattle.meaning.specs.Editions.{editions}
 use Rattle.record.specs.Same.{accepted}
-use Rattle.record.proofs.Readers.{read-accepted, read-refused}
+use Rattle.record.specs.Lent.{read-accepted, read-refused}
 use borrow.Author.Needs.{needs}
 use Rattle.record.proofs.read.Statement.{statement}
 use Rattle.record.proofs.read.Tie as tie

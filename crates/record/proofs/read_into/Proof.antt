@@ -3,7 +3,7 @@ use mathlib.Core.Path.{sym, _∙_}
 use denote.Ref.{now}
 use Rattle.meaning.specs.Editions.{editions}
 use Rattle.record.specs.Same.{accepted}
-use Rattle.record.proofs.Readers.{into-refused, into-short, into-filled}
+use Rattle.record.specs.Lent.{into-refused, into-short, into-filled}
 use borrow.Author.Needs.{needs}
 use Rattle.record.proofs.read_into.Statement.{statement}
 use Rattle.record.proofs.read_into.Tie as tie

@@ -1,5 +1,5 @@
--- `shown::read_shown` meets its contract: a walk of its MIR, by hand, through two calls. `show` returns the struct; its part is taken out, and `record::read_into` reads it into the lent words.
--- All that the proof knows of both is that they meet their contracts. The words' borrow goes to `record::read_into` at its own lifetime, share and name: what that says of the last list is what this says.
+-- `shown::read_shown` meets its contract: a walk of its MIR, by hand, through two calls. `show` returns the struct; its part is taken out, and `fast_read::read_into` reads it into the lent words.
+-- All that the proof knows of both is that they meet their contracts. The words' borrow goes to `fast_read::read_into` at its own lifetime, share and name: what that says of the last list is what this says.
 -- Assumes nothing.
 use mathlib.Core.Path.{_≡_, refl, ap, _∙_}
 use Prim.Native.Nat.{ℕ, _<_, _^_}
@@ -50,10 +50,10 @@ use Rattle.meaning.proofs.Attributes.Laws as P′
 use Rattle.meaning.proofs.Frame as F
 use Rattle.meaning.proofs.Frame.Laws as F′
 use Rattle.record.specs.Into.{readIntoAnswer, readIntoWords}
-use Rattle.record.proofs.read_into as read
-use Rattle.record.proofs.read_into.Symbol as read-def
-use Rattle.record.proofs.read_into.Symbol.{name as #record·read-into}
-use Rattle.record.proofs.read_into.Met as read-thm
+use Rattle.fast_read.proofs.read_into as read
+use Rattle.fast_read.proofs.read_into.Symbol as read-def
+use Rattle.fast_read.proofs.read_into.Symbol.{name as #fast-read·read-into}
+use Rattle.fast_read.proofs.read_into.Met as read-thm
 use Rattle.ring.specs.Part.{shownFrom}
 use Rattle.shown.specs.declared.Shown.{Shown}
 use Rattle.shown.proofs.Shown as T
@@ -141,7 +141,7 @@ module _ {M : Type 1} (𝓤 : URA M) (H : Heap 𝓤) (A : Atoms 𝓤) (W : Given
   abbrev vd : Shown → Values (D .parts)
   vd d = (d .part, (d .go, (d .stop, tt)))
 
-  -- record::read_into, at the struct's part
+  -- fast_read::read_into, at the struct's part
   abbrev passed : Shown → Vals read.signature (κ, (κ′, tt))
   passed d = (of (d .part) ∷ [], (vint w64 e ∷ [], (P′.lowered a ∷ [], (of x ∷ [], tt))))
 
@@ -174,7 +174,7 @@ module _ {M : Type 1} (𝓤 : URA M) (H : Heap 𝓤) (A : Atoms 𝓤) (W : Given
       owned ! P.the-row (Is P.the-row) (LL.makes P.the-type P′.the-plain 𝓤 H A) a _ is-a $ fjoin ! $ owned ! u64 (Is u64) (uint-makes 𝓤 H A W w64) e _ (refl, fits-e) $ fjoin ! $
       owned ! F.the-row (Is F.the-row) (LL.makes F.the-type F′.the-plain 𝓤 H A) h _ is-h $ fjoin ! $ move ! (2 ∷ 0 ∷ []) $ fjoin ! $ move ! (2 ∷ 0 ∷ []) $ fjoin ! $ frame ! $ done !
 
-  module _ (C : Calls 𝓤 H) (Λ : Loops 𝓤 H) (fm : FmC 𝓤 H (W .laws) C) (known-show : Triple 𝓤 (C #shown·show) (Show 𝓤 H A mem run)) (known-read : Triple 𝓤 (C #record·read-into) (Read 𝓤 H A mem run)) where
+  module _ (C : Calls 𝓤 H) (Λ : Loops 𝓤 H) (fm : FmC 𝓤 H (W .laws) C) (known-show : Triple 𝓤 (C #shown·show) (Show 𝓤 H A mem run)) (known-read : Triple 𝓤 (C #fast-read·read-into) (Read 𝓤 H A mem run)) where
     walk : Is (ShrSlice (named 0) κ u8) s (of s ∷ []) → Is (ShrSlice (named 0) κ u8) t (of t ∷ []) → Room u64 (length (now x))
         → ent 𝓤 (onEntry 𝓤 H A f.signature (κ, (κ′, tt)) (q, (q′, tt)) (s, (t, (h, (e, (a, (x, tt)))))) at) (WpFn 𝓤 H C Λ code.function (of s ∷ of t ∷ F′.lowered h ∷ vint w64 e ∷ P′.lowered a ∷ of x ∷ []) Post)
     walk p o room =
@@ -199,7 +199,7 @@ module _ {M : Type 1} (𝓤 : URA M) (H : Heap 𝓤) (A : Atoms 𝓤) (W : Given
         assigns ! (addr ! (from ! (fld ! refl (hop ! (look-in ! 11 (sub ! 0 refl (whole !))) (stop !))))) (from ! (stop !)) (init ! 5 refl (tt, tt)) $
         assigns ! (agg ! (and-then ! (load ! (from ! (stop !)) (look ! 5 refl)) (and-then ! (load ! (from ! (fld ! refl (stop !))) (look-in ! 11 (sub ! 1 refl (whole !)))) (no-more !)))) (from ! (stop !)) (init ! 3 refl (tt, (tt, (record { fits = room .0 }, tt)))) $
         move ! (2 ∷ []) $ split ! $ move ! (1 ∷ []) $ split ! $ move ! (3 ∷ 4 ∷ 1 ∷ []) $ use3 W (raw (Read 𝓤 H A mem run .pre (to-read d))) (goes-read d) $
-        -- [what read_into asks; the scratch; the ring; _10; …; .. ; room for _0; …]: _0 = record::read_into(_8, _4, _5, _10)
+        -- [what read_into asks; the scratch; the ring; _10; …; .. ; room for _0; …]: _0 = fast_read::read_into(_8, _4, _5, _10)
         calls-at ! fm (Read 𝓤 H A mem run) known-read (to-read d) (and-then ! (load ! (from ! (stop !)) (look ! 7 refl)) (and-then ! (load ! (from ! (stop !)) (look ! 15 refl)) (and-then ! (load ! (from ! (stop !)) (look ! 13 refl)) (and-then ! (load ! (from ! (stop !)) (look ! 3 refl)) (no-more !))))) (λ u′.
         use1 W (later (some (λ (r : ℕ). ((‵ (flft κ q) ⊛ (‵ (flft κ′ q′) ⊛ ‵ ftrue)) ⊛ ‵ (u16 .own r (u′ ∷ []))) ⊛ raw (ensured 𝓤 H A read.ended (read.clauses 𝓤 H A mem run) (κ, (κ′, tt)) (d .part, (e, (a, (x, tt)))) tt r)))) (id⊢ 𝓤 _) $ await ! tt $ pick ! (λ r.
         split ! $ move ! (1 ∷ []) $ use1 W (some (λ (zs : Unit {0} × (Unit {0} × (Unit {0} × (List ℕ × Unit {0})))). ‵ (lasts read.ended (κ, (κ′, tt)) (d .part, (e, (a, (x, tt)))) zs) ⊛ (raw (fact 𝓤 (Answers (now (d .part)) r)) ⊛ raw (fact 𝓤 (Fills (now (d .part)) (zs .1 .1 .1 .0)))))) (id⊢ 𝓤 _) $ pick ! (λ zs.
@@ -213,7 +213,7 @@ module _ {M : Type 1} (𝓤 : URA M) (H : Heap 𝓤) (A : Atoms 𝓤) (W : Given
         by ! (exits r u′ (zs .1 .1 .1 .0) (e-r ∙ ap (λ (y : List ℕ). readIntoAnswer editions e a y (now x)) (e-d .0), e-zs ∙ ap (λ (y : List ℕ). readIntoWords editions e a y (now x)) (e-d .0)) l)))))))))))))))))))))))
 
 module _ {M : Type 1} (𝓤 : URA M) (H : Heap 𝓤) (A : Atoms 𝓤) (W : Given 𝓤 H A) (mem : Memory → SProp 𝓤) (run : Routine → Fun 𝓤) (𝓣 : Tables 𝓤 H)
-    (known-show : Triple 𝓤 (𝓣 .C #shown·show) (Show 𝓤 H A mem run)) (known-read : Triple 𝓤 (𝓣 .C #record·read-into) (Read 𝓤 H A mem run)) where
+    (known-show : Triple 𝓤 (𝓣 .C #shown·show) (Show 𝓤 H A mem run)) (known-read : Triple 𝓤 (𝓣 .C #fast-read·read-into) (Read 𝓤 H A mem run)) where
   f-walks : Walks 𝓤 H A f.ended stayed (WpFn 𝓤 H (𝓣 .C) (𝓣 .Λ) code.function) (f.clauses 𝓤 H A mem run)
   f-walks = walked 𝓤 H A f.ended stayed (f.clauses 𝓤 H A mem run) (WpFn 𝓤 H (𝓣 .C) (𝓣 .Λ) code.function)
       (λ κs. (slice-vals, (slice-vals, (LL.vals F.the-type F′.the-laws, (uint-vals w64, (LL.vals P.the-type P′.the-laws, (slice-vals, tt)))))))
@@ -234,4 +234,4 @@ read-shown-spec 𝓤 H 𝓜 𝓖 𝓡 =
     (tables 𝓤 H 𝓜 𝓡 code.env .C) (tables 𝓤 H 𝓜 𝓡 code.env .Λ) #shown·read-shown code.function (code.unfolded 𝓤 H 𝓜 𝓡)
     (f-meets 𝓤 H (𝓖 .A) (givenOf 𝓤 H 𝓜 𝓖) (𝓜 .mem) (𝓡 .run) (tablesOf 𝓤 H 𝓜 (tables 𝓤 H 𝓜 𝓡 code.env))
     (cited 𝓤 H (Show 𝓤 H (𝓖 .A) (𝓜 .mem) (𝓡 .run)) 𝓜 𝓡 code.env #shown·show show-def.routine code.calls-shown·show (show-thm.met 𝓤 H 𝓜 𝓖 𝓡))
-    (cited 𝓤 H (Read 𝓤 H (𝓖 .A) (𝓜 .mem) (𝓡 .run)) 𝓜 𝓡 code.env #record·read-into read-def.routine code.calls-record·read-into (read-thm.met 𝓤 H 𝓜 𝓖 𝓡)))
+    (cited 𝓤 H (Read 𝓤 H (𝓖 .A) (𝓜 .mem) (𝓡 .run)) 𝓜 𝓡 code.env #fast-read·read-into read-def.routine code.calls-fast-read·read-into (read-thm.met 𝓤 H 𝓜 𝓖 𝓡)))

@@ -1,7 +1,7 @@
 -- `writer::flag_set` meets its contract: a type without a name has no flag; of the others its word is looked at. Assumes nothing.
 use mathlib.Core.Path.{sym, _∙_}
 use denote.Ref.{now}
-use Rattle.writer.proofs.Answers.{set-none, set-some}
+use Rattle.writer.specs.Answers.{set-none, set-some}
 use borrow.Author.Needs.{needs}
 use Rattle.writer.proofs.flag_set.Statement.{statement}
 use Rattle.writer.proofs.flag_set.Tie as tie

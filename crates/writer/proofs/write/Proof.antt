@@ -6,7 +6,7 @@ use lib.Seq.{length-take-le}
 use borrow.Author.Tests.{not-true, not-false}
 use Rattle.meaning.specs.Editions.{allowed}
 use Rattle.meaning.specs.Values.{valueWords}
-use Rattle.writer.proofs.Answers.{lent-2, too-few, enough}
+use Rattle.writer.specs.Answers.{lent-2, too-few, enough}
 use borrow.Author.Needs.{needs}
 use Rattle.writer.proofs.write.Statement.{statement}
 use Rattle.writer.proofs.write.Tie as tie

@@ -5,7 +5,7 @@ use native.Mathlib.Omega.{arith}
 use Rattle.meaning.specs.Schema.{schema}
 use Rattle.writer_words.specs.declared.Reached.{Reached}
 use Rattle.writer.specs.Known.{passes}
-use Rattle.writer.proofs.Answers.{beyond-lays, known-41, known-42, known-40, known-0}
+use Rattle.writer.specs.Answers.{beyond-lays, known-41, known-42, known-40, known-0}
 use borrow.Author.Needs.{needs}
 use Rattle.writer.proofs.write_known.Statement.{statement}
 use Rattle.writer.proofs.write_known.Tie as tie

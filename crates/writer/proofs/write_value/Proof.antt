@@ -3,7 +3,7 @@ use denote.Ref.{now}
 use mathlib.Core.Path.{_≡_, ap, _∙_}
 use Rattle.meaning.specs.declared.Known.{Known}
 use Rattle.meaning.specs.Editions.{editions, known, unreadable}
-use Rattle.writer.proofs.Answers.{answers-unknown, answers-43, answers-known}
+use Rattle.writer.specs.Answers.{answers-unknown, answers-43, answers-known}
 use borrow.Author.Needs.{needs}
 use Rattle.writer.proofs.write_value.Statement.{statement}
 use Rattle.writer.proofs.write_value.Tie as tie

@@ -1,7 +1,7 @@
 -- `writer_record::body_end` meets its contract: without a name the fields' words end it; with one, the flag's word is the last. Assumes nothing.
 use mathlib.Core.Path.{sym, _∙_}
 use native.Mathlib.Omega.{arith}
-use Rattle.writer_record.proofs.Spare.{end-none, end-some, end-few}
+use Rattle.writer_record.specs.Spare.{end-none, end-some, end-few}
 use borrow.Author.Needs.{needs}
 use Rattle.writer_record.proofs.body_end.Statement.{statement}
 use Rattle.writer_record.proofs.body_end.Tie as tie

@@ -11,8 +11,8 @@ use Rattle.meaning.specs.Values.{bodyWords, trailWords}
 use Rattle.writer_words.specs.declared.Reached.{Reached}
 use Rattle.writer_words.specs.Tellings.{startAt}
 use Rattle.writer_parts.specs.Parts.{tryItems, slotsFrom}
-use Rattle.writer_record.proofs.Spare.{fields-of}
-use Rattle.writer_record.proofs.Measuring.{tried-lays, tried-most, spare-lays, bad-body, bad-tail, measured-yes, measured-no}
+use Rattle.writer_record.specs.Spare.{fields-of}
+use Rattle.writer_record.specs.Measuring.{tried-lays, tried-most, spare-lays, bad-body, bad-tail, measured-yes, measured-no}
 use borrow.Author.Needs.{needs}
 use Rattle.writer_record.proofs.measure.Statement.{statement}
 use Rattle.writer_record.proofs.measure.Tie as tie

@@ -15,7 +15,7 @@ use Rattle.writer_words.specs.Tellings.{startAt}
 use Rattle.writer_parts.specs.Parts.{slotsFrom}
 use Rattle.writer_record.specs.Measures.{valueMeant}
 use Rattle.laws.specs.Every.{trailer-fixed}
-use Rattle.writer_record.proofs.Records.{Sized, sized, all-put, written-lays, asks-lays}
+use Rattle.writer_record.specs.Records.{Sized, sized, all-put, written-lays, asks-lays}
 use borrow.Author.Needs.{needs}
 use Rattle.writer_record.proofs.put_record.Statement.{statement}
 use Rattle.writer_record.proofs.put_record.Tie as tie

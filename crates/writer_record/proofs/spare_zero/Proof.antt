@@ -1,7 +1,7 @@
 -- `writer_record::spare_zero` meets its contract: the words after the body's and the one after the trailer's are those that the type does not have. Assumes nothing.
 use denote.Ref.{now}
 use Rattle.writer_parts.specs.Parts.{itemsFrom}
-use Rattle.writer_record.proofs.Spare.{spare-is}
+use Rattle.writer_record.specs.Spare.{spare-is}
 use borrow.Author.Needs.{needs}
 use Rattle.writer_record.proofs.spare_zero.Statement.{statement}
 use Rattle.writer_record.proofs.spare_zero.Tie as tie

@@ -3,7 +3,7 @@ use mathlib.Core.Path.{refl}
 use Prim.Native.Nat.{_-_}
 use native.Mathlib.Omega.{arith}
 use borrow.Author.Needs.{needs}
-use Rattle.writer_record.proofs.Spare.{Summing, sum-on, sum-end}
+use Rattle.writer_record.specs.Spare.{Summing, sum-on, sum-end}
 use Rattle.writer_record.proofs.words_end.Statement.{statement}
 use Rattle.writer_record.proofs.words_end.Tie as tie
 

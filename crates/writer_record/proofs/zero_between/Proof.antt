@@ -4,7 +4,7 @@ use mathlib.Core.Path.{_≡_, refl}
 use Prim.Native.Nat.{_-_}
 use native.Mathlib.Omega.{arith}
 use borrow.Author.Needs.{needs}
-use Rattle.writer_record.proofs.Spare.{zerosFrom, zero-stop, zero-on, zero-end}
+use Rattle.writer_record.specs.Spare.{zerosFrom, zero-stop, zero-on, zero-end}
 use Rattle.writer_record.proofs.zero_between.Statement.{statement}
 use Rattle.writer_record.proofs.zero_between.Tie as tie
 

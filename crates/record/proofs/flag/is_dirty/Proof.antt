@@ -5,7 +5,7 @@ use Prim.Native.Nat.{ℕ, _-_}
 use lib.ListN.{length}
 use lib.Seq.{length-take-le}
 use denote.Ref.{now}
-use Rattle.record.proofs.Dirty.{trailer-there, dirty-none, dirty-some}
+use Rattle.record.specs.Flag.{trailer-there, dirty-none, dirty-some}
 use borrow.Author.Needs.{needs}
 use Rattle.record.proofs.flag.is_dirty.Statement.{statement}
 use Rattle.record.proofs.flag.is_dirty.Tie as tie

@@ -2,7 +2,7 @@
 use mathlib.Core.Path.{sym, ap, _∙_}
 use mathlib.Core.Bool.{Bool, cond}
 use denote.Ref.{now}
-use Rattle.record.proofs.Dirty.{number-is}
+use Rattle.record.specs.Flag.{number-is}
 use borrow.Author.Needs.{needs}
 use Rattle.record.proofs.flag.number.Statement.{statement}
 use Rattle.record.proofs.flag.number.Tie as tie

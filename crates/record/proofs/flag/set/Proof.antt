@@ -4,7 +4,7 @@ use native.Mathlib.Omega.{arith}
 use Prim.Native.Nat.{ℕ, _<_}
 use lib.ListN.{set}
 use denote.Ref.{now}
-use Rattle.record.proofs.Dirty.{word-none, word-there, word-some}
+use Rattle.record.specs.Flag.{word-none, word-there, word-some}
 use borrow.Author.Needs.{needs}
 use Rattle.record.proofs.flag.set.Statement.{statement}
 use Rattle.record.proofs.flag.set.Tie as tie

@@ -8,8 +8,9 @@ use denote.Ref.{now}
 use Rattle.reader.specs.Laws.{headed}
 use Rattle.laws.specs.Put.{length-put}
 use Rattle.record.specs.Into.{Accepted}
-use Rattle.record.proofs.Dirty.{trailer-there}
-use Rattle.record.proofs.Readers.{Header, trailer-fits, fields-fill, trailer-fill, words-are}
+use Rattle.record.specs.Flag.{trailer-there}
+use Rattle.record.specs.Lent.{Header, trailer-fits}
+use Rattle.record.proofs.Readers.{fields-fill, trailer-fill, words-are}
 use borrow.Author.Needs.{needs}
 use Rattle.record.proofs.words.of_record.Statement.{statement}
 use Rattle.record.proofs.words.of_record.Tie as tie

@@ -7,7 +7,7 @@ use lib.ListN.{take, length-set}
 use denote.Ref.{now}
 use Rattle.meaning.specs.Bytes.{put}
 use Rattle.laws.specs.Put.{put-nil}
-use Rattle.record.proofs.Filling.{put-one, put-two}
+use Rattle.record.specs.Lent.{put-one, put-two}
 use borrow.Author.Needs.{needs}
 use Rattle.record.proofs.words.place.Statement.{statement}
 use Rattle.record.proofs.words.place.Tie as tie

@@ -1,0 +1,30 @@
+-- `chains::read` meets its contract. Assumes nothing.
+-- Written by tools/chains.py from the rows of crate table.
+use mathlib.Core.Path.{refl, ap, ap₂}
+use mathlib.Core.Bool.{not, _&&_, _||_}
+use mathlib.Core.List.{_++_}
+use Rattle.meaning.specs.Values.{tell, width}
+use Rattle.chains.specs.Lists as lists
+use Rattle.fills.specs.Chains.{start, done, last, long, head, next, head₁, next₁}
+use borrow.Author.Needs.{needs}
+use Rattle.chains.proofs.read.Statement.{statement}
+use Rattle.chains.proofs.read.Tie as tie
+
+read-1-requires : tie.Need-read-1-requires
+unfolding tell width
+read-1-requires c κs = head (lists.read-1 (c .before .before .before .args .f)) (lists.read-2 (c .before .before .before .args .f)) (start (c .before .before .before .pre))
+
+read-2-requires : tie.Need-read-2-requires
+unfolding tell width
+read-2-requires c κs = (next (lists.read-1 (c .before .before .before .before .before .before .before .args .f)) (lists.read-2 (c .before .before .before .before .before .before .before .args .f)) (start (c .before .before .before .before .before .before .before .pre)) (c .before .before .before .read-1 .ensures)) .ready
+
+same-length : tie.Need-same-length
+unfolding tell width
+same-length c = long ((last (next (lists.read-1 (c .before .before .before .before .before .before .before .before .before .before .args .f)) (lists.read-2 (c .before .before .before .before .before .before .before .before .before .before .args .f)) (start (c .before .before .before .before .before .before .before .before .before .before .pre)) (c .before .before .before .before .before .before .read-1 .ensures)) (c .before .before .read-2 .ensures)))
+
+returns : tie.Need-returns
+unfolding tell width
+returns c = (last (next (lists.read-1 (c .before .before .before .before .before .before .before .before .before .before .args .f)) (lists.read-2 (c .before .before .before .before .before .before .before .before .before .before .args .f)) (start (c .before .before .before .before .before .before .before .before .before .before .pre)) (c .before .before .before .before .before .before .read-1 .ensures)) (c .before .before .read-2 .ensures))
+
+pub read-spec : {M : Type 1} → statement M
+read-spec = tie.close (tie.spec read-1-requires read-2-requires same-length returns)

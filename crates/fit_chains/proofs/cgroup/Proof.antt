@@ -1,0 +1,25 @@
+-- `fit_chains::cgroup` meets its contract. Assumes nothing.
+-- Written by tools/write_chains.py from the rows of crate table.
+use mathlib.Core.Path.{refl, ap, ap₂}
+use mathlib.Core.Bool.{not, _&&_, _||_}
+use mathlib.Core.List.{_++_}
+use native.Mathlib.Omega.{arith}
+use Rattle.meaning.specs.Values.{tell, width}
+use Rattle.write_fits.specs.Steps.{tried-none, tried-next}
+use Rattle.fit_chains.specs.Types.{tried-then}
+use borrow.Author.Needs.{needs}
+use Rattle.fit_chains.proofs.cgroup.Statement.{statement}
+use Rattle.fit_chains.proofs.cgroup.Tie as tie
+
+number-requires : tie.Need-number-requires
+number-requires c κs = (c .before .before .pre .0, omega (arith, c .before .before .pre .1))
+
+name-requires : tie.Need-name-requires
+name-requires c κs = (c .number .ensures .place, omega (arith, c .before .before .before .pre .1))
+
+returns : tie.Need-returns
+unfolding tell width
+returns c = (tried-next refl (tried-next refl (tried-none (c .before .before .before .before .pre .0)) (c .before .number .ensures)) (c .name .ensures))
+
+pub cgroup-spec : {M : Type 1} → statement M
+cgroup-spec = tie.close (tie.spec number-requires name-requires returns)

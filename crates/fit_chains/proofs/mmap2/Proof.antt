@@ -1,0 +1,28 @@
+-- `fit_chains::mmap2` meets its contract. Assumes nothing.
+-- Written by tools/write_chains.py from the rows of crate table.
+use mathlib.Core.Path.{refl, ap, ap₂}
+use mathlib.Core.Bool.{not, _&&_, _||_}
+use mathlib.Core.List.{_++_}
+use native.Mathlib.Omega.{arith}
+use Rattle.meaning.specs.Values.{tell, width}
+use Rattle.write_fits.specs.Steps.{tried-none, tried-next}
+use Rattle.fit_chains.specs.Types.{tried-then}
+use borrow.Author.Needs.{needs}
+use Rattle.fit_chains.proofs.mmap2.Statement.{statement}
+use Rattle.fit_chains.proofs.mmap2.Tie as tie
+
+mmap2-1-requires : tie.Need-mmap2-1-requires
+mmap2-1-requires c κs = (c .before .before .pre .0, c .before .before .pre .1)
+
+mmap2-2-requires : tie.Need-mmap2-2-requires
+mmap2-2-requires c κs = (c .mmap2-1 .ensures .place, c .before .before .before .pre .1)
+
+mmap2-3-requires : tie.Need-mmap2-3-requires
+mmap2-3-requires c κs = (c .mmap2-2 .ensures .place, c .before .before .before .before .pre .1)
+
+returns : tie.Need-returns
+unfolding tell width
+returns c = (tried-then (tried-then (tried-then (tried-none (c .before .before .before .before .before .pre .0)) (c .before .before .mmap2-1 .ensures)) (c .before .mmap2-2 .ensures)) (c .mmap2-3 .ensures))
+
+pub mmap2-spec : {M : Type 1} → statement M
+mmap2-spec = tie.close (tie.spec mmap2-1-requires mmap2-2-requires mmap2-3-requires returns)

@@ -1,4 +1,0 @@
-pub mod Sums
-pub mod Judged
-pub mod Marks
-pub mod Bases

@@ -1,0 +1,43 @@
+-- `put_chains::mmap2_3` meets its contract. Assumes nothing.
+-- Written by tools/write_chains.py from the rows of crate table.
+use mathlib.Core.Path.{refl, ap, ap₂, _∙_}
+use mathlib.Core.Bool.{not, _&&_, _||_}
+use mathlib.Core.List.{_++_}
+use native.Mathlib.Omega.{arith}
+use Rattle.meaning.specs.Values.{tell, width}
+use Rattle.write_puts.specs.Puts.{placed-none, placed₁, ready-first, ready-after, head₁, next₁}
+use Rattle.chains.specs.Lists as lists
+use Rattle.put_chains.specs.Joins.{placed-then}
+use borrow.Author.Needs.{needs}
+use Rattle.put_chains.proofs.mmap2_3.Statement.{statement}
+use Rattle.put_chains.proofs.mmap2_3.Tie as tie
+
+ignored-requires : tie.Need-ignored-requires
+unfolding tell
+ignored-requires c κs = (head₁ (c .before .has-bit .ensures) (c .before .before .before .before .before .pre .0), omega (arith, c .before .before .before .before .before .pre .1))
+
+listed-requires : tie.Need-listed-requires
+unfolding tell
+listed-requires c κs = (head₁ (c .before .has-bit2 .ensures) (next₁ (c .before .before .before .before .before .before .has-bit .ensures) (c .before .before .before .before .before .before .before .before .before .before .pre .0) (c .before .before .before .before .ignored .ensures)), omega (arith, c .before .before .before .before .before .before .before .before .before .before .pre .1))
+
+number-requires : tie.Need-number-requires
+unfolding tell
+number-requires c κs = (head₁ refl (next₁ (c .before .before .before .before .before .has-bit2 .ensures) (next₁ (c .before .before .before .before .before .before .before .before .before .before .has-bit .ensures) (c .before .before .before .before .before .before .before .before .before .before .before .before .before .before .pre .0) (c .before .before .before .before .before .before .before .before .ignored .ensures)) (c .before .before .before .listed .ensures)), omega (arith, c .before .before .before .before .before .before .before .before .before .before .before .before .before .before .pre .1))
+
+number-requires-2 : tie.Need-number-requires-2
+unfolding tell
+number-requires-2 c κs = (head₁ refl (next₁ refl (next₁ (c .before .before .before .before .before .before .before .before .before .has-bit2 .ensures) (next₁ (c .before .before .before .before .before .before .before .before .before .before .before .before .before .before .has-bit .ensures) (c .before .before .before .before .before .before .before .before .before .before .before .before .before .before .before .before .before .before .pre .0) (c .before .before .before .before .before .before .before .before .before .before .before .before .ignored .ensures)) (c .before .before .before .before .before .before .before .listed .ensures)) (c .before .before .before .number .ensures)), omega (arith, c .before .before .before .before .before .before .before .before .before .before .before .before .before .before .before .before .before .before .pre .1))
+
+name-requires : tie.Need-name-requires
+unfolding tell
+name-requires c κs = (head₁ refl (next₁ refl (next₁ refl (next₁ (c .before .before .before .before .before .before .before .before .before .before .before .before .before .has-bit2 .ensures) (next₁ (c .before .before .before .before .before .before .before .before .before .before .before .before .before .before .before .before .before .before .has-bit .ensures) (c .before .before .before .before .before .before .before .before .before .before .before .before .before .before .before .before .before .before .before .before .before .before .pre .0) (c .before .before .before .before .before .before .before .before .before .before .before .before .before .before .before .before .ignored .ensures)) (c .before .before .before .before .before .before .before .before .before .before .before .listed .ensures)) (c .before .before .before .before .before .before .before .number .ensures)) (c .before .before .before .number2 .ensures)), omega (arith, c .before .before .before .before .before .before .before .before .before .before .before .before .before .before .before .before .before .before .before .before .before .before .pre .1))
+
+same-length : tie.Need-same-length
+same-length c = c .before .before .name .ensures .long ∙ c .before .before .before .before .before .before .number2 .ensures .long ∙ c .before .before .before .before .before .before .before .before .before .before .number .ensures .long ∙ c .before .before .before .before .before .before .before .before .before .before .before .before .before .before .listed .ensures .long ∙ c .before .before .before .before .before .before .before .before .before .before .before .before .before .before .before .before .before .before .before .ignored .ensures .long
+
+returns : tie.Need-returns
+unfolding tell width
+returns c = (placed₁ refl (placed₁ refl (placed₁ refl (placed₁ (c .before .before .before .before .before .before .before .before .before .before .before .before .before .before .before .before .has-bit2 .ensures) (placed₁ (c .before .before .before .before .before .before .before .before .before .before .before .before .before .before .before .before .before .before .before .before .before .has-bit .ensures) placed-none (c .before .before .before .before .before .before .before .before .before .before .before .before .before .before .before .before .before .before .before .ignored .ensures)) (c .before .before .before .before .before .before .before .before .before .before .before .before .before .before .listed .ensures)) (c .before .before .before .before .before .before .before .before .before .before .number .ensures)) (c .before .before .before .before .before .before .number2 .ensures)) (c .before .before .name .ensures))
+
+pub mmap2-3-spec : {M : Type 1} → statement M
+mmap2-3-spec = tie.close (tie.spec (λ c κs. search needs) ignored-requires (λ c κs. search needs) listed-requires number-requires number-requires-2 name-requires same-length returns)

@@ -1,0 +1,5 @@
+pub mod Twins
+pub mod Same
+pub mod Pieces
+pub mod Kinds
+pub mod Whole

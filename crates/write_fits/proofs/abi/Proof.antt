@@ -1,0 +1,29 @@
+-- `write_fits::abi` meets its contract: the registers that follow are counted by the mask. Assumes nothing.
+use denote.Ref.{now}
+use mathlib.Core.Path.{refl, sym, ap, _∙_}
+use mathlib.Core.Bool.{false, cond}
+use Prim.Native.Nat.{ℕ}
+use lib.Dec.{eqb}
+use borrow.Author.Tests.{not-true, not-false}
+use Rattle.meaning.specs.Bytes.{ones}
+use Rattle.meaning.specs.Values.{slot, slotTold, lastTold, beforeTold}
+use Rattle.writer_forms.specs.Forms.{top, shapeForm, numberForm}
+use Rattle.writer_items.specs.Fitting.{small-of}
+use Rattle.write_fits.specs.Items.{by-plain, off-number, word-at}
+use borrow.Author.Needs.{needs}
+use Rattle.write_fits.proofs.abi.Statement.{statement}
+use Rattle.write_fits.proofs.abi.Tie as tie
+
+returns : tie.Need-returns
+unfolding slotTold
+returns c = off-number (small-of _ (c .before .before .before .shared-slice-known2 .given)) (λ k. c .before .before .before .before .shared-slice-known .given k .fits) (c .before .before .before .before .before .pre .0) (not-true _ (c .before .if1 .taken)) (ap (λ (v : ℕ). slot v 0 0) (word-at (now (c .before .before .before .before .before .args .ws)) (c .before .before .before .before .before .args .w))) (c .none .ensures)
+
+returns-2 : tie.Need-returns-2
+unfolding shapeForm slotTold lastTold beforeTold
+returns-2 c =
+    let a = c .before .before .before .before .before .before .before .args in
+    by-plain (small-of _ (c .before .before .before .before .before .shared-slice-known2 .given)) (λ k. c .before .before .before .before .before .before .shared-slice-known .given k .fits) (c .before .before .before .before .before .before .before .pre .0) (not-false _ (c .before .before .before .if1 .left))
+    (ap (λ (n : ℕ). numberForm 8 (top 8) false n (a .c .old)) (ap (λ (v : ℕ). cond (eqb v 0) 0 (ones 64 (a .mask))) (word-at (now (c .before .before .before .before .before .before .before .args .ws)) (c .before .before .before .before .before .before .before .args .w)) ∙ sym (c .before .registers-by .ensures))) (ap (λ (v : ℕ). slot v 0 0) (word-at (now (c .before .before .before .before .before .before .before .args .ws)) (c .before .before .before .before .before .before .before .args .w))) refl refl (c .before .before .largest .ensures) refl (c .past .ensures)
+
+pub abi-spec : {M : Type 1} → statement M
+abi-spec = tie.close (tie.spec (λ c. search needs) (λ c. search needs) (λ c κs. search needs) returns (λ c κs. search needs) (λ c κs. search needs) (λ c κs. search needs) returns-2)

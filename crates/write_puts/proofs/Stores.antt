@@ -1,0 +1,56 @@
+-- Numbers put byte by byte. Assumes nothing.
+use mathlib.Core.Path.{_≡_, refl, sym, ap, ap₂, _∙_}
+use mathlib.Core.List.{List, [], _∷_, _++_, append-assoc}
+use Prim.Native.Nat.{ℕ, _+_, _-_, _/_, _%_, _≤_, _<_}
+use native.Mathlib.Nat.{add-zero}
+use native.Mathlib.Omega.{arith}
+use lib.ListN.{length, take, drop, set, length-append, length-drop}
+use lib.Seq.{length-take-le}
+use Rattle.meaning.specs.Bytes.{spell, put}
+use Rattle.laws.specs.Bytes.{length-spell}
+use Rattle.laws.specs.Put.{put-nil, put-snoc, put-put}
+
+put-one : (d : List ℕ) (at v : ℕ) → at < length d → set d at v ≡ put d at (v ∷ [])
+put-one d at v h =
+    ap (λ (l : List ℕ). set l at v) (sym (put-nil d at (omega arith)))
+    ∙ ap (λ (n : ℕ). set (put d at []) n v) (sym (add-zero at))
+    ∙ put-snoc d at [] v (omega arith)
+
+pub put-byte : (d : List ℕ) (at x : ℕ) → at + 1 ≤ length d → set d at (x % 256) ≡ put d at (spell 1 x)
+unfolding spell
+put-byte d at x h = put-one d at (x % 256) (omega (arith, h))
+
+pub put-two : (d : List ℕ) (at x : ℕ) → at + 2 ≤ length d → set (set d at (x % 256)) (at + 1) (x / 256 % 256) ≡ put d at (spell 2 x)
+unfolding spell
+put-two d at x h = ap (λ (l : List ℕ). set l (at + 1) (x / 256 % 256)) (put-one d at (x % 256) (omega (arith, h))) ∙ put-snoc d at (x % 256 ∷ []) (x / 256 % 256) (omega (arith, h))
+
+-- two runs, one after the other
+pub two-puts : (d d₁ d₂ : List ℕ) (at k : ℕ) (s t r : List ℕ) → length s ≡ k → d₁ ≡ put d at s → d₂ ≡ put d₁ (at + k) t → at + (k + length t) ≤ length d → s ++ t ≡ r → d₂ ≡ put d at r
+two-puts d d₁ d₂ at k s t r l e₁ e₂ h e =
+    e₂ ∙ ap₂ (λ (x : List ℕ) (n : ℕ). put x (at + n) t) e₁ (sym l) ∙ put-put d at s t (omega (arith, h, l)) ∙ ap (put d at) e
+
+pub halves4 : (x : ℕ) → spell 2 x ++ spell 2 (x / 65536) ≡ spell 4 x
+unfolding spell
+halves4 x =
+    let a : x / 65536 ≡ x / 256 / 256 = omega arith in
+    ap (λ (y : ℕ). x % 256 ∷ x / 256 % 256 ∷ y % 256 ∷ y / 256 % 256 ∷ []) a
+
+pub halves8 : (x : ℕ) → spell 4 x ++ spell 4 (x / 4294967296) ≡ spell 8 x
+unfolding spell
+halves8 x =
+    let a : x / 4294967296 ≡ x / 256 / 256 / 256 / 256 = omega arith in
+    ap (λ (y : ℕ). x % 256 ∷ x / 256 % 256 ∷ x / 256 / 256 % 256 ∷ x / 256 / 256 / 256 % 256 ∷ y % 256 ∷ y / 256 % 256 ∷ y / 256 / 256 % 256 ∷ y / 256 / 256 / 256 % 256 ∷ []) a
+
+pub put-header : (kind misc size : ℕ) (b b₁ b₂ b₃ : List ℕ) → 8 ≤ length b → b₁ ≡ put b 0 (spell 4 kind) → b₂ ≡ put b₁ 4 (spell 2 misc) → b₃ ≡ put b₂ 6 (spell 2 size)
+    → b₃ ≡ put b 0 (spell 4 kind ++ (spell 2 misc ++ spell 2 size))
+put-header kind misc size b b₁ b₂ b₃ h e₁ e₂ e₃ =
+    let lK = length-spell 4 kind in
+    let lM = length-spell 2 misc in
+    let lS = length-spell 2 size in
+    let lA = length-append (spell 4 kind) (spell 2 misc) in
+    two-puts b b₂ b₃ 0 6 (spell 4 kind ++ spell 2 misc) (spell 2 size) _ (omega (arith, lK, lM, lA))
+    (two-puts b b₁ b₂ 0 4 (spell 4 kind) (spell 2 misc) _ lK e₁ e₂ (omega (arith, lM, h)) refl) e₃ (omega (arith, lS, h)) (append-assoc (spell 4 kind) (spell 2 misc) (spell 2 size))
+
+-- a part that lies inside
+pub part-long : (src : List ℕ) (place n : ℕ) → place + n ≤ length src → length (take n (drop place src)) ≡ n
+part-long src place n h = let d = length-drop place src in length-take-le n (drop place src) (omega (arith, d, h))

@@ -1,3 +1,0 @@
-pub mod Measuring
-pub mod Spare
-pub mod Records
