@@ -12,6 +12,10 @@
 # which does not work there: the pages that cannot be touched do. With NATIVE=1 it takes the library that tools/native.sh
 # built for this machine, with both sanitizers: the same code for another processor, many more executions in a second.
 #
+# With LIGHT=1 it is built in target/fuzz-light without the address sanitizer and without a call at each comparison, and
+# libFuzzer picks inputs by the plain way: several times as many executions in a second. What is lent still ends at a page
+# that cannot be touched, and that is what finds a byte outside a slice: the address sanitizer never sees the archive's code.
+#
 # MAX_LEN is the longest input (default 1200 bytes: many executions in a second); SECONDS_AT_MOST ends a run
 # early. The corpus grows from run to run in target/fuzz/corpus; delete it to start from the seeds again.
 # Needs target/staticlib/libollskuvan.a, target/obj/ringdump.o, rustc (RUSTC, or rustc), and Debian's packages clang
@@ -52,6 +56,10 @@ if [ -n "${OLLSKUVAN_EMULATED:-}" ]; then
     export QEMU_CPU=qemu64,+popcnt
     # see align_handlers in target.c: a signal that only ends the run needs no handler
     signals='-handle_term=0 -handle_int=0'
+fi
+if [ -n "${LIGHT:-}" ]; then
+    out=$out-light sanitizers=fuzzer,undefined touched='libFuzzer: deadly signal' compares=
+    machine="$machine -fno-sanitize-coverage=trace-cmp" signals="$signals -entropic=0"
 fi
 command -v $objcopy >/dev/null || skip "$objcopy is missing (Debian: apt-get install binutils)"
 mkdir -p "$out"

@@ -32,7 +32,7 @@ fn describe(p: &Pair) -> String {
     format!("  edition {}\n{left}{right}{}", p.edition, describe_table(Some(&p.table)))
 }
 
-fn ring_of(s: &Side, edition: u32) -> Ring {
+fn ring_of(s: &Side, edition: u32) -> Ring<'_> {
     Ring { bytes: &s.ring, head: s.head, edition, attributes: Attributes::EMPTY }
 }
 
