@@ -67,13 +67,13 @@ build_other() {
     --extern "linux_perf_event_reader=$out/other/liblinux_perf_event_reader.rlib" --extern "byteorder=$out/other/libbyteorder.rlib" \
     -o "$out/other/libother.so" bench/other.rs 2>"$out/other/log" || { echo "bench/other.rs does not build"; return 1; }
 }
-other=
+other='' other_there=''
 case "$part" in
   short | sanitize) ;; # the comparison does not need it
   *)
     mkdir -p "$out/other"
     if [ -f "$out/other/libother.so" ] && [ "$out/other/libother.so" -nt bench/other.rs ] || why=$(build_other); then
-      other="-DWITH_OTHER"
+      other="-DWITH_OTHER" other_there=1
       link="$link -L$out/other -lother -Wl,-rpath,\$ORIGIN/other"
     else
       echo "bench: without linux-perf-event-reader: $why"
@@ -272,6 +272,17 @@ one_by_one() { # MODE TITLE
   done < <("$program" ones-list)
 }
 
+# the same reads beside a reader from the shelf, whose figure holds its loop over the ring and a journal entry too
+reads_elsewhere() {
+  local workload name other ours
+  [ -n "$other_there" ] && command -v valgrind >/dev/null || { echo "bench: linux-perf-event-reader is not there, or valgrind: no reads beside it"; return 0; }
+  printf '\ninstructions of a read beside the parse of linux-perf-event-reader\n%-20s%10s%10s%8s\n' '' parse ours ratio
+  for workload in 'side-band' 'small samples' 'fat samples'; do
+    other=$(one_of other_drain once other "$workload") && ours=$(one_of ollskuvan_read read ours "$workload") || die "a read was not counted: $workload"
+    awk -v what="$workload" -v c="$other" -v o="$ours" 'BEGIN { printf "%-20s%10.1f%10.1f%8.2f\n", what, c, o, o / c }'
+  done
+}
+
 # instructions of one record check
 checks() {
   local whose name which log=$out/callgrind.log
@@ -331,7 +342,7 @@ case "$part" in
     case "$part" in all | compare) "$program" rings $rounds || exit 1; alike || exit 1 ;; esac
     case "$part" in all | sizes) "$program" sizes $rounds || exit 1 ;; esac
     case "$part" in all | values) "$program" values $rounds || exit 1 ;; esac
-    case "$part" in all | reads) one_by_one read 'a read of one record into words' || exit 1 ;; esac
+    case "$part" in all | reads) one_by_one read 'a read of one record into words' && reads_elsewhere || exit 1 ;; esac
     case "$part" in all | instructions) instructions && instructions 1 && checks || exit 1 ;; esac
     case "$part" in all | writes) one_by_one write 'a write of one value' || exit 1 ;; esac
     case "$part" in all | stores) stores || exit 1 ;; esac

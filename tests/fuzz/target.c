@@ -981,11 +981,12 @@ static void try_compare(void)
     compare(&right, in.tail + shift, &left, in.tail, scratch_len);
     right.head = left.head + shift;
     {
-        /* where the input says; in the first header; in a body; at the last record's end: identifier, and what is before */
+        /* where the input says; in the first header; in a body; at the last record's end: identifier, and what is before;
+           an input takes every third of them */
         const uint64_t places[] = { in.control[5] | (uint64_t)in.control[7] << 8, 4, 6, 17, distance / 2, distance - 1,
             distance - 8, distance - 9, distance - 12, distance - 17, distance - 25 };
 
-        for (i = 0; i < sizeof places / sizeof places[0]; i++) {
+        for (i = in.control[5] % 3; i < sizeof places / sizeof places[0]; i += 3) {
             uint8_t *byte = &other[(in.tail + shift + places[i] % distance) % left.length];
 
             *byte ^= in.control[6] | 1;
