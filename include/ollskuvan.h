@@ -58,7 +58,7 @@
 extern "C" {
 #endif
 
-/* The version of this header and its library: 4.2.0 is 40200. */
+/* The version of this header and its library: 4.1.0 is 40100. */
 #define OLLSKUVAN_VERSION "4.1.0"
 #define OLLSKUVAN_VERSION_NUMBER 40100
 
@@ -114,7 +114,7 @@ extern "C" {
 #define OLLSKUVAN_JOURNAL_KIND 4u   /* 2 bytes: the type, or 65535 if larger */
 #define OLLSKUVAN_JOURNAL_ANSWER 6u /* 2 bytes: 0 or the refusal */
 #define OLLSKUVAN_JOURNAL_TAIL 8u   /* 8 bytes: the record's own tail count */
-/* The kind of a record whose type does not fit in 2 bytes. */
+/* The kind of type 65535, and of every larger one. */
 #define OLLSKUVAN_KIND_OTHER 65535u
 
 /* The kinds of a trace's entries, which ollskuvan_replay plays. An entry is its
@@ -156,12 +156,13 @@ extern "C" {
 #define OLLSKUVAN_STOP_TABLE 11u         /* the table of events is not allowed */
 #define OLLSKUVAN_STOP_OVERWRITTEN 13u   /* walk: the record's size runs past the ring's length: its end was overwritten */
 
-/* The same numbers as answers of check, read and write, and of the store's two calls, where nothing stops. */
+/* The same numbers as answers of check, read and write, with a table too, of the
+ * store's two calls and of salvage, where nothing stops. */
 #define OLLSKUVAN_REFUSED_RING_LENGTH 1u /* write_store: the ring's length is not allowed */
-#define OLLSKUVAN_REFUSED_EDITION 2u /* check, read, write, write_store: the edition is not 1, 2, 3 or 4 */
-#define OLLSKUVAN_REFUSED_SIZE 6u    /* check, read: as OLLSKUVAN_STOP_SIZE */
-#define OLLSKUVAN_REFUSED_LENGTH 7u  /* check, read: the slice is shorter than 8 bytes, or the size is not its length */
-#define OLLSKUVAN_REFUSED_TABLE 11u  /* check_events, read_events, read_store, write_store: the table of events is not allowed */
+#define OLLSKUVAN_REFUSED_EDITION 2u /* check, read (and with a table), write, write_store, salvage: the edition is not 1, 2, 3 or 4 */
+#define OLLSKUVAN_REFUSED_SIZE 6u    /* check, read (and with a table): as OLLSKUVAN_STOP_SIZE */
+#define OLLSKUVAN_REFUSED_LENGTH 7u  /* check, read (and with a table): the slice is shorter than 8 bytes, or the size is not its length */
+#define OLLSKUVAN_REFUSED_TABLE 11u  /* check_events, read_events, read_store, write_store, salvage: the table of events is not allowed */
 
 /* Name copy alone: the name and one zero do not fit the buffer. */
 #define OLLSKUVAN_REFUSED_NAME_ROOM 12u
@@ -169,7 +170,8 @@ extern "C" {
 /* Refusals of a record: it is taken, the tail moves by its size, and it has no
  * value. 20, 21, 22, 23, 25 and 24 are tested in this order, before the bytes of
  * the body are looked at; of 30 to 33 the first in field order is given. With
- * a table of events 27 and 26 come between 20 and 21. */
+ * a table of events the order is 20, edition 1's 21, 27, 26, then the event's own
+ * from 21 on. */
 #define OLLSKUVAN_REFUSED_TYPE 20u        /* type 0, or above the edition's */
 #define OLLSKUVAN_REFUSED_SAMPLE_TYPE 21u /* a sample bit the edition doesn't know; a SAMPLE, or sample_id_all is set */
 #define OLLSKUVAN_REFUSED_READ_FORMAT 22u /* read-format bit 4 (edition 4: bit 5) or higher; READ, or a SAMPLE with sample bit 4 */
@@ -184,7 +186,7 @@ extern "C" {
 #define OLLSKUVAN_REFUSED_NAME 33u        /* no zero byte in the name's room, or the first is not among its last 8 bytes */
 
 /* Refusals by what is lent: room, places and values. */
-#define OLLSKUVAN_REFUSED_ROOM 40u  /* write, write_store: it doesn't fit the buffer; read, read_one: fewer than OLLSKUVAN_FIELDS words; read_store: too few rows */
+#define OLLSKUVAN_REFUSED_ROOM 40u  /* write, write_store: it doesn't fit the buffer; read, read_one (and with a table): fewer than OLLSKUVAN_FIELDS words; read_store: too few rows */
 #define OLLSKUVAN_REFUSED_PLACE 41u /* copy_name, write: place plus bytes, as plain numbers, passes the end */
 #define OLLSKUVAN_REFUSED_VALUE 42u /* write: no record decodes to this value; or fewer than OLLSKUVAN_FIELDS words */
 #define OLLSKUVAN_REFUSED_DIRTY_VALUE 43u /* write: the value has a name's flag set: its word is not 0 */
@@ -589,7 +591,8 @@ struct ollskuvan_drained {
  * From an entry to its record: ollskuvan_read_one with the entry's own tail
  * count and the same head (for a live ring: before the new tail is stored in
  * data_tail, since the bytes are the kernel's from then on). It takes the same
- * record and answers as the entry does.
+ * record and answers as the entry does, given a scratch as long as the record,
+ * if it crosses the end, and 56 words.
  */
 struct ollskuvan_drained ollskuvan_drain(const uint8_t *ring, size_t ring_len, uint64_t head, uint64_t tail,
     uint64_t sample_type, uint64_t read_format, uint32_t sample_id_all, uint64_t user_mask, uint64_t interrupt_mask,
@@ -633,9 +636,10 @@ struct ollskuvan_event {
  * last eight bytes in any other record, whatever else stands there. A record is
  * answered in this order: 20; edition 1, which does not know identifiers,
  * answers 21 to everything else; 27 if its size is below 16; 26 if its
- * identifier is not in the table; then as ollskuvan_check does from 21 on, with
- * the attributes of its event. 26 and 27 are refusals of a record: it is taken
- * and passed over. All else is as ollskuvan_drain does it.
+ * identifier is not in the table; then as ollskuvan_check does from 21 on, but
+ * for 44, where it says 0, with the attributes of its event. 26 and 27 are
+ * refusals of a record: it is taken and passed over. All else is as
+ * ollskuvan_drain does it.
  */
 struct ollskuvan_drained ollskuvan_drain_events(const uint8_t *ring, size_t ring_len, uint64_t head, uint64_t tail,
     const struct ollskuvan_event *events, size_t event_count, uint32_t edition, uint64_t budget,
@@ -1010,8 +1014,9 @@ struct ollskuvan_walked {
  * never 9.
  *
  * From an entry to its record: ollskuvan_read_one with head plus walked.bytes as the
- * head, and the entry's own tail count as the tail. The journal has the newest
- * record first: read its entries from the last one to have the oldest first.
+ * head, and the entry's own tail count as the tail, given a scratch as long as the
+ * record, if it crosses the end, and 56 words. The journal has the newest record
+ * first: read its entries from the last one to have the oldest first.
  */
 struct ollskuvan_walked ollskuvan_walk_back(const uint8_t *ring, size_t ring_len, uint64_t head,
     uint64_t sample_type, uint64_t read_format, uint32_t sample_id_all, uint64_t user_mask, uint64_t interrupt_mask,
@@ -1086,9 +1091,9 @@ struct ollskuvan_compared {
  * ollskuvan_compare tells whether two rings say the same: each with its head, tail
  * and scratch, both under one table of events and one edition. Record after record
  * of the left ring is set beside that of the right one. Where the records lie, and
- * the bytes that are ignored (behind a CPU, the rest of a build id's 20 bytes,
- * padding), do not count. A name's flag does, and what the name's stale bytes are
- * does not.
+ * the bytes that are ignored (behind a CPU, behind a build id's size, the rest of
+ * its 20 bytes, padding), do not count. A name's flag does, and what the name's
+ * stale bytes are does not.
  *
  * It ends at the first record number at which one of these holds, in this order:
  * the left side stops with 1, 2, 4, 5, 11, 6, 7 or 3 (as ollskuvan_drain_events

@@ -1,6 +1,7 @@
 #!/bin/sh
 # docs/FORMAT.md and include/ollskuvan.h tell the same numbers: the word of each field, the number of each type and of
-# each answer and meaning, the places in a journal entry, bounds. Every word, type, answer and meaning is on the page.
+# each answer and meaning, the kinds of entries and the places in them, bounds. Every word, type, answer, meaning and kind,
+# and every place in an entry, is on the page. No tag begins two rows.
 set -eu
 cd "$(dirname "$0")/.."
 
@@ -23,7 +24,7 @@ awk -F'|' '
             split(substr($0, RSTART, RLENGTH), part, " ")
             due[part[2]] = part[3] + 0
             if (area == "word" && part[2] != "OLLSKUVAN_FIELDS" ||
-                    part[2] ~ /^OLLSKUVAN_(TYPE_|STOP_|REFUSED_|DIRTY_|MEANS_|JOURNAL_[KLAT]|EVENTS_|KIND_[VER]|STORE_)/)
+                    part[2] ~ /^OLLSKUVAN_(TYPE_|STOP_|REFUSED_|DIRTY_|MEANS_|JOURNAL_|EVENTS_|KIND_|STORE_|COMPARED_|CHANGE_)/)
                 must[part[2]] = 1
         }
         next
@@ -33,6 +34,25 @@ awk -F'|' '
         split($0, part, " ")
         compare("OLLSKUVAN_TYPE_" part[3], part[2])
         prefix = "OLLSKUVAN_" part[3] "_"
+    }
+    # a row begins with its tag, in a table or in a list
+    match($0, /^(\| |- )[A-Z]+[0-9]+( \||:)/) {
+        tag = $0
+        gsub(/^(\| |- )|( \||:).*/, "", tag)
+        if (tag in told)
+            wrong("line " FNR ": the tag " tag " stands at line " told[tag] " already")
+        told[tag] = FNR
+        tags++
+    }
+    # bounds, in a row or in a sentence: a number, the constant in brackets
+    {
+        rest = $0
+        while (match(rest, /[0-9]+ \(`[A-Z_]+`\)/)) {
+            split(substr(rest, RSTART, RLENGTH), part, / \(/)
+            sub(/\)$/, "", part[2])
+            compare("OLLSKUVAN_" strip(part[2]), part[1])
+            rest = substr(rest, RSTART + RLENGTH)
+        }
     }
     !/^\|/ { table = 0; next }
     !table {
@@ -56,18 +76,12 @@ awk -F'|' '
         split(substr($0, RSTART, RLENGTH), part, /, /)
         compare("OLLSKUVAN_" strip(part[2]), part[1])
     }
-    # a bound: a number, the constant in brackets
-    match($0, /[0-9]+ \(`[A-Z_]+`\)/) {
-        split(substr($0, RSTART, RLENGTH), part, / \(/)
-        sub(/\)$/, "", part[2])
-        compare("OLLSKUVAN_" strip(part[2]), part[1])
-    }
     END {
         for (name in must)
             if (!(name in seen))
                 wrong("the page does not tell " name)
-        if (bad || !compared)
+        if (bad || !compared || !tags)
             exit 1
-        print "format: " compared " numbers of docs/FORMAT.md are those of the header"
+        print "format: " compared " numbers of docs/FORMAT.md are those of the header; " tags " tags, each once"
     }
 ' include/ollskuvan.h docs/FORMAT.md

@@ -1,13 +1,13 @@
 #!/usr/bin/env python3
-"""chains.py [--check]: writes crate chains from the rows of crates/table/src/rows.rt: src/lib.rt, specs/Lists.antt and
-the proofs. A row becomes one call of the function of its shape, with its guard and the number of its first word; a few calls make a
-function. --check writes nothing and fails where a file is not what would be written. Run from the repository's root."""
+"""chains.py [--check]: writes the lists of crate layouts (specs/Lists.antt) and crates sample_fills and chains (src/lib.rt and the proofs) from
+the rows of crates/table/src/rows.rt. A row becomes one call of the function of its shape, with its guard and the number of its first word; a few
+calls make a function. --check writes nothing and fails where a file is not what would be written. Run from the repository's root."""
 import os
 import re
 import sys
 
 FEW = 6  # calls in a function, at most
-HOME = 'crates/chains/'
+ALONE = 'sample'  # the type whose chains have a crate of their own: they take as long to prove as all the others
 BODY, TRAIL = 3, 48  # the first word of the fields, and of the trailer
 
 # ---- the rows
@@ -131,8 +131,17 @@ def proof_of(g, places, ev):
 
 
 MADE = '-- Written by tools/chains.py from the rows of crate table'
-files = {}
-code_out, lists_out = [], []
+files = {}  # by path below crates/
+lists_out = []
+code_out = {'sample_fills': [], 'chains': []}
+
+
+def alone(fn):
+    return fn.split('_')[0] == ALONE
+
+
+def crate_of(fn):
+    return 'sample_fills' if alone(fn) else 'chains'
 
 
 def args(ps):
@@ -140,18 +149,18 @@ def args(ps):
 
 
 def proof_file(fn, text, spec_args):
-    name = fn.replace('_', '-')
-    files[f'proofs/{fn}/Proof.antt'] = f'''-- `chains::{fn}` meets its contract. Assumes nothing.
+    name, crate = fn.replace('_', '-'), crate_of(fn)
+    files[f'{crate}/proofs/{fn}/Proof.antt'] = f'''-- `{crate}::{fn}` meets its contract. Assumes nothing.
 {MADE}.
 use mathlib.Core.Path.{{refl, ap, ap₂}}
 use mathlib.Core.Bool.{{not, _&&_, _||_}}
 use mathlib.Core.List.{{_++_}}
 use Rattle.meaning.specs.Values.{{tell, width}}
-use Rattle.chains.specs.Lists as lists
+use Rattle.layouts.specs.Lists as lists
 use Rattle.fills.specs.Chains.{{start, done, last, long, head, next, head₁, next₁}}
 use borrow.Author.Needs.{{needs}}
-use Rattle.chains.proofs.{fn}.Statement.{{statement}}
-use Rattle.chains.proofs.{fn}.Tie as tie
+use Rattle.{crate}.proofs.{fn}.Statement.{{statement}}
+use Rattle.{crate}.proofs.{fn}.Tie as tie
 {text}
 pub {name}-spec : {{M : Type 1}} → statement M
 {name}-spec = tie.close (tie.spec {" ".join(spec_args)})
@@ -164,9 +173,10 @@ def listed(name, ps):
 
 def signature(fn, title, ps, at, list_text):
     given = ''.join(f'{p}: u64, ' for p in ps)
-    head = f'fn {fn}(s: &[u8], {given}c: Cursor, out: &mut [u64]) -> Cursor'
+    public = 'pub ' if fn == ALONE else ''
+    head = f'{public}fn {fn}(s: &[u8], {given}c: Cursor, out: &mut [u64]) -> Cursor'
     if len(head) > 100:  # as `rt fmt` breaks it
-        head = f'fn {fn}(\n    s: &[u8],\n' + ''.join(f'    {p}: u64,\n' for p in ps) + '    c: Cursor,\n    out: &mut [u64],\n) -> Cursor'
+        head = f'{public}fn {fn}(\n    s: &[u8],\n' + ''.join(f'    {p}: u64,\n' for p in ps) + '    c: Cursor,\n    out: &mut [u64],\n) -> Cursor'
     return [f'// {title}', head,
             f'    requires {{ ⌜ Ready {list_text} (now s) c (now out) {at} ⌝ }}',
             f'    ensures {{ λ r. ⌜ Filling {list_text} (now (s .entry)) c (now (out .entry)) {at} (now (out .exit)) r ⌝ }}', '{']
@@ -217,7 +227,7 @@ def chain(fn, title, rs):
         ev.add('out'), ev.add('slice-known')
     text += ended('unfolding tell', f'done {going(steps, ev, ev.start())}')
     proof_file(fn, text, spec_args + ['same-length', 'returns'])
-    code_out.extend(out + ['}', ''])
+    code_out[crate_of(fn)] += out + ['}', '']
     return ps
 
 
@@ -256,7 +266,7 @@ def joined(fn, title, pieces):
         ev.add('out'), ev.add('slice-known')
     text += ended('unfolding tell width', going(steps, ev, ev.start()))
     proof_file(fn, text, spec_args + ['same-length', 'returns'])
-    code_out.extend(out + ['}', ''])
+    code_out[crate_of(fn)] += out + ['}', '']
     return params
 
 
@@ -297,7 +307,7 @@ def arm(t):
     if t not in kinds:
         return 'c'
     fn, ps = kinds[t]
-    return f'{fn}(s{args(ps)}, c, out)'
+    return f'{crate_of(fn) + "::" if alone(fn) else ""}{fn}(s{args(ps)}, c, out)'
 
 
 def flag_word(t):
@@ -306,11 +316,11 @@ def flag_word(t):
 
 
 used = [p for p in PARAMS if p in FIELD and any(p in ps for _, ps in kinds.values())]
-code_out += ['// The fields of a type; a type that has none, or that the table does not have, changes nothing.',
+code_out['chains'] += ['// The fields of a type; a type that has none, or that the table does not have, changes nothing.',
              'pub fn fields(s: &[u8], kind: u64, misc: u64, a: Attributes, c: Cursor, out: &mut [u64]) -> Cursor',
              f'    requires {{ ⌜ Ready (schema kind misc a) (now s) c (now out) {BODY} ⌝ }}',
              f'    ensures {{ λ r. ⌜ Filling (schema kind misc a) (now (s .entry)) c (now (out .entry)) {BODY} (now (out .exit)) r ⌝ }}', '{']
-code_out += [f'    let {p} = a.{FIELD[p]};' for p in used] + ['    match kind {'] + [f'        {t} => {arm(t)},' for t in range(TYPES)] + ['        _ => c,', '    }', '}', '']
+code_out['chains'] += [f'    let {p} = a.{FIELD[p]};' for p in used] + ['    match kind {'] + [f'        {t} => {arm(t)},' for t in range(TYPES)] + ['        _ => c,', '    }', '}', '']
 calls, needs, returns, text = {}, [], [], ''
 for t in range(TYPES + 1):
     n = f'-{t + 1}' if t else ''
@@ -333,13 +343,14 @@ for t in range(TYPES + 1):
     else:
         text += f'\nreturns{n} : tie.Need-returns{n}\nreturns{n} c = nothing (no-type ({back(3)} .args .misc) ({back(3)} .args .a) ({back(3)} .args .kind) (c .match .rest)) ({back(3)} .pre)\n'
         returns.append(f'returns{n}')
-files['proofs/fields/Proof.antt'] = f'''-- `chains::fields` meets its contract: by the arms of the `match`, each the layout of its type. Assumes nothing.
+files['chains/proofs/fields/Proof.antt'] = f'''-- `chains::fields` meets its contract: by the arms of the `match`, each the layout of its type. Assumes nothing.
 {MADE}.
 use mathlib.Core.Path.{{sym, ap}}
 use Prim.Native.Nat.{{ℕ}}
 use Rattle.meaning.specs.Schema.{{schema}}
 use Rattle.fills.specs.Chains.{{ready-as, filling-as}}
-use Rattle.chains.proofs.Types.{{no-type, nothing}}
+use Rattle.layouts.specs.Types.{{no-type}}
+use Rattle.chains.proofs.Nothing.{{nothing}}
 use borrow.Author.Needs.{{needs}}
 use Rattle.chains.proofs.fields.Statement.{{statement}}
 use Rattle.chains.proofs.fields.Tie as tie
@@ -347,39 +358,35 @@ use Rattle.chains.proofs.fields.Tie as tie
 pub fields-spec : {{M : Type 1}} → statement M
 fields-spec = tie.close (tie.spec {" ".join(needs + returns)})
 '''
-code_out += ["// The word of the flag, of a type that has a name: the next after the words of its fields (M-107). 0 of the other types.",
+code_out['chains'] += ["// The word of the flag, of a type that has a name: the next after the words of its fields (M-107). 0 of the other types.",
              'pub fn flag_at(kind: u64) -> usize', '    ensures { λ r. ⌜ r ≡ flagAt kind ⌝ }', '{', '    match kind {']
-code_out += [f'        {t} => {flag_word(t)},' for t in range(TYPES)] + ['        _ => 0,', '    }', '}', '']
+code_out['chains'] += [f'        {t} => {flag_word(t)},' for t in range(TYPES)] + ['        _ => 0,', '    }', '}', '']
 text = ''
 for t in range(TYPES):
     n = f'-{t + 1}' if t else ''
     text += f'\nreturns{n} : tie.Need-returns{n}\nreturns{n} c = ap flagAt (sym (c .match .keys{t + 1}))\n'
 text += f'\nreturns-{TYPES + 1} : tie.Need-returns-{TYPES + 1}\nreturns-{TYPES + 1} c = sym (List·getD-eq-default flags 0 (above {TYPES} ({back(1)} .args .kind) (c .match .rest)))\n'
-files['proofs/flag_at/Proof.antt'] = f'''-- `chains::flag_at` meets its contract: by the arms of the `match`, each the row of its type. Assumes nothing.
+files['chains/proofs/flag_at/Proof.antt'] = f'''-- `chains::flag_at` meets its contract: by the arms of the `match`, each the row of its type. Assumes nothing.
 {MADE}.
 use mathlib.Core.Path.{{sym, ap}}
 use lib.ListN.{{List·getD-eq-default}}
 use Rattle.table.specs.Flags.{{flags, flagAt}}
-use Rattle.chains.proofs.Types.{{above}}
+use Rattle.layouts.specs.Types.{{above}}
 use Rattle.chains.proofs.flag_at.Statement.{{statement}}
 use Rattle.chains.proofs.flag_at.Tie as tie
 {text}
 pub flag-at-spec : {{M : Type 1}} → statement M
 flag-at-spec = tie.close (tie.spec {" ".join("returns" + (f"-{t + 1}" if t else "") for t in range(TYPES + 1))})
 '''
-code_out += ['// The bits by which the trailer is selected: none where there is no trailer.',
-             'fn trailer_bits(kind: u64, a: Attributes) -> u64',
-             '    ensures { λ r. ⌜ r ≡ cond (a .all && not (eqb kind 9)) (a .sample) 0 ⌝ }', '{',
-             '    let on = a.all & !(kind == 9);', '    if on { a.sample } else { 0 }', '}', '',
-             '// The trailer of a record of this type, the cursor at its start.',
-             'pub fn trail(s: &[u8], kind: u64, a: Attributes, c: Cursor, out: &mut [u64]) -> Cursor',
-             f'    requires {{ ⌜ Ready (trailerOf kind a) (now s) c (now out) {TRAIL} ⌝ }}',
-             f'    ensures {{ λ r. ⌜ Filling (trailerOf kind a) (now (s .entry)) c (now (out .entry)) {TRAIL} (now (out .exit)) r ⌝ }}', '{',
-             '    trailer(s, trailer_bits(kind, a), c, out)', '}']
+code_out['chains'] += ['// The trailer of a record of this type, the cursor at its start.',
+                       'pub fn trail(s: &[u8], kind: u64, a: Attributes, c: Cursor, out: &mut [u64]) -> Cursor',
+                       f'    requires {{ ⌜ Ready (trailerOf kind a) (now s) c (now out) {TRAIL} ⌝ }}',
+                       f'    ensures {{ λ r. ⌜ Filling (trailerOf kind a) (now (s .entry)) c (now (out .entry)) {TRAIL} (now (out .exit)) r ⌝ }}', '{',
+                       '    trailer(s, layouts::trailer_bits(kind, a), c, out)', '}']
 
 shapes = ['Number', 'Ignored', 'Count', 'Size', 'Times', 'Earlier', 'Registers', 'Filled', 'Abi', 'Limit', 'Listed', 'Bytes', 'Pad', 'Name']
 lists_text = "\n".join(lists_out)
-files['specs/Lists.antt'] = f'''-- The items of each type's fields, and of the trailer, in pieces of a few; what is equal for two types stands once. Assumes nothing: these are definitions.
+files['layouts/specs/Lists.antt'] = f'''-- The items of each type's fields, and of the trailer, in pieces of a few; what is equal for two types stands once. Assumes nothing: these are definitions.
 {MADE}; that they are the layouts is found by computation where they are used.
 use mathlib.Core.Bool.{{true, not, _&&_, _||_}}
 use mathlib.Core.List.{{List, [], _∷_, _++_}}
@@ -392,25 +399,35 @@ use Rattle.meaning.specs.Schema.{{item, groupBytes}}
 
 {lists_text}'''
 all_lists = re.findall(r'abbrev pub (\S+) :', lists_text)
-code_text = "\n".join(code_out)
-files['src/lib.rt'] = f'''// The words of each type's fields and of the trailer: a call for each item, in the order of the schema.
+
+
+def lists_of(crate):
+    """the lists that the contracts of its functions name"""
+    return ', '.join(l for l in all_lists if crate_of(l.replace('-', '_')) == crate)
+
+
+files['sample_fills/src/lib.rt'] = f'''// The words of SAMPLE's fields: a call for each item, in the order of the schema.
+// Written by tools/chains.py from the rows of crate table.
+ghost use Rattle.layouts.specs.Lists.{{{lists_of("sample_fills")}}};
+ghost use Rattle.fills.specs.Chains.{{Ready, Filling}};
+use meaning::Cursor;
+
+''' + '\n'.join(code_out['sample_fills'])
+files['chains/src/lib.rt'] = f'''// The words of each type's fields and of the trailer: a call for each item, in the order of the schema.
 // Written by tools/chains.py from the rows of crate table.
 ghost use mathlib.Core.Path.{{_≡_}};
-ghost use mathlib.Core.Bool.{{cond, not, _&&_}};
-ghost use lib.Dec.{{eqb}};
 ghost use Rattle.meaning.specs.Schema.{{schema, trailer as trailerOf}};
+ghost use Rattle.layouts.specs.Lists.{{{lists_of("chains")}}};
 ghost use Rattle.table.specs.Flags.{{flagAt}};
 ghost use Rattle.fills.specs.Chains.{{Ready, Filling}};
-ghost use Rattle.chains.specs.Lists.{{{", ".join(all_lists)}}};
 use meaning::Attributes;
 use meaning::Cursor;
 
-{code_text}
-'''
+''' + '\n'.join(code_out['chains']) + '\n'
 
 bad = 0
 for name, text in sorted(files.items()):
-    path = HOME + name
+    path = 'crates/' + name
     old = open(path).read() if os.path.exists(path) else ''
     if old == text:
         continue

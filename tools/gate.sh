@@ -45,7 +45,7 @@ if ! sh tools/x86.sh native; then
     echo "$last"
     exit 0
   fi
-  echo "this machine is $(uname -m): what is compiled runs under an emulator; valgrind, fuzzing and live rings are left out"
+  echo "this machine is $(uname -m): what is compiled runs under an emulator; valgrind, the address sanitizer and live rings are left out"
   export OLLSKUVAN_EMULATED=1 PATH="$PWD/tools/x86:$PATH" RUSTC=rustc CC=cc DRAINS=${DRAINS:-20000} VALUES=${VALUES:-20000}
 fi
 part 'tests from outside' bash tests/run.sh

@@ -1,5 +1,5 @@
 #!/usr/bin/env bash
-# Small checks of the tree itself: the formatter's layout, no hole in a proof, every crate folder listed, no `requires` on an entry point,
+# Small checks of the tree itself: the formatter's layout, no open place in a proof, every crate folder listed, no `requires` on an entry point,
 # pages that tell what is there.
 set -u
 cd "$(dirname "$0")/.." || exit 2
@@ -7,8 +7,8 @@ bad=0
 say() { printf 'selfcheck: %s\n' "$*"; bad=1; }
 
 out=$(rt fmt --check 2>&1) || say "rt fmt --check: $out"
-holes=$(grep -rnE '(^|[ (=])\?($|[ )])' --include='*.antt' crates | head -n 3)
-[ -n "$holes" ] && say "a hole is left: $holes"
+open=$(grep -rnE '(^|[ (=])\?($|[ )])' --include='*.antt' crates | head -n 3)
+[ -n "$open" ] && say "a place in a proof is left open: $open"
 bash tools/pages.sh || say 'a page is not as it should be'
 for d in crates/*/; do
   name=$(basename "$d")
@@ -40,10 +40,10 @@ done
 borrowed=$(grep -rhoE '^use Rattle·[a-z_]+\.proofs\.[A-Za-z0-9]+' --include='*.antt' crates | sort -u | sed 's/^use Rattle·//' |
   while IFS=. read -r crate _ file; do [ -f "crates/$crate/proofs/$file.antt" ] && echo "$crate/proofs/$file"; done)
 [ -n "$borrowed" ] && say "laws that are taken out of another crate's proofs: $borrowed"
-python3 tools/chains.py --check || say 'crate chains is not what its script writes'
-python3 tools/write_chains.py --check || say 'crates fit_chains and put_chains are not what their script writes'
+python3 tools/chains.py --check || say 'crates layouts, sample_fills and chains are not what their script writes'
+python3 tools/write_chains.py --check || say 'crates sample_fits, fit_chains, sample_puts and put_chains are not what their script writes'
 bash tools/uniqueness.sh || say 'a public function has no theorem of uniqueness'
 bash tools/never_used.sh && bash tools/never_used.sh --teeth || say '10 has a meaning again'
 bash tools/slips.sh || say 'a slip of the definitions is not seen'
-[ "$bad" -eq 0 ] && echo "selfcheck: layout, holes, list of crates, $(wc -w <<<"$named $exports") entry points: all fine"
+[ "$bad" -eq 0 ] && echo "selfcheck: layout, open places, list of crates, $(wc -w <<<"$named $exports") entry points: all fine"
 exit "$bad"

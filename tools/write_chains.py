@@ -1,7 +1,7 @@
 #!/usr/bin/env python3
-"""write_chains.py [--check]: writes crates fit_chains and put_chains from the rows of crates/table/src/rows.rt, as chains.py writes crate
-chains, whose lists of items they share: the same rows, in the same pieces. --check writes nothing and fails where a file is not what would be
-written. Run from the repository's root."""
+"""write_chains.py [--check]: writes crates sample_fits, fit_chains, sample_puts and put_chains from the rows of crates/table/src/rows.rt, as
+chains.py writes crates sample_fills and chains, with which they share the lists of crate layouts: the same rows, in the same pieces. --check
+writes nothing and fails where a file is not what would be written. Run from the repository's root."""
 import os
 import sys
 
@@ -9,6 +9,7 @@ c = {}
 exec(open('tools/chains.py').read().split('\nbad = 0')[0], c)  # all of it but the writing
 PARAMS, FIELD, FEW, BODY, TRAIL = c['PARAMS'], c['FIELD'], c['FEW'], c['BODY'], c['TRAIL']
 bits, code, proof_of, listed, rows_from, back = c['bits'], c['code'], c['proof_of'], c['listed'], c['rows_from'], c['back']
+alone, ALONE, all_lists = c['alone'], c['ALONE'], c['all_lists']
 starts, rows, names, TYPES, FIELD_ROWS = c['starts'], c['rows'], c['names'], c['TYPES'], c['FIELD_ROWS']
 MADE = '-- Written by tools/write_chains.py from the rows of crate table'
 WIDTH = {'8': 'Width::W8', '4': 'Width::W4', '2': 'Width::W2'}
@@ -35,8 +36,12 @@ def params(rs):
 
 
 class Chains:
-    def __init__(self, crate, calls, puts):
-        self.crate, self.calls, self.puts, self.files, self.code = crate, calls, puts, {}, []
+    """a crate of the chains of all types but SAMPLE, and one of SAMPLE's. files: by path below crates/"""
+    def __init__(self, crate, sample, calls, puts):
+        self.crate, self.sample, self.calls, self.puts, self.files, self.code = crate, sample, calls, puts, {}, {crate: [], sample: []}
+
+    def crate_of(self, fn):
+        return self.sample if alone(fn) else self.crate
 
     def known(self, ev):
         for k in ('shared-slice-known', 'shared-slice-known') + (('slice-known',) if self.puts else ()):
@@ -44,11 +49,11 @@ class Chains:
 
     def head(self, fn, title, ps, items, at):
         given = [f'{p}: u64' for p in ps]
-        out = 'buffer' if self.puts else ''
+        public = 'pub ' if fn == ALONE else ''
         args = ['ws: &[u64]', 'source: &[u8]'] + given + ['c: Walked'] + (['buffer: &mut [u8]'] if self.puts else [])
-        text = f'fn {fn}({", ".join(args)}) -> Walked'
+        text = f'{public}fn {fn}({", ".join(args)}) -> Walked'
         if len(text) > 100:  # as `rt fmt` breaks it
-            text = f'fn {fn}(\n' + ''.join(f'    {a},\n' for a in args) + ') -> Walked'
+            text = f'{public}fn {fn}(\n' + ''.join(f'    {a},\n' for a in args) + ') -> Walked'
         return [f'// {title}', text] + self.contract(items, at) + ['{']
 
     def contract(self, items, at):
@@ -59,10 +64,10 @@ class Chains:
                 f'    ensures {{ λ r. ⌜ Tried {items} (now (source .entry)) (now (ws .entry)) {at} c r ⌝ }}']
 
     def proof_file(self, fn, text, spec_args):
-        name = fn.replace('_', '-')
-        laws = ('Rattle.write_puts.specs.Puts.{placed-none, placed₁, ready-first, ready-after, head₁, next₁}\nuse Rattle.chains.specs.Lists as lists\nuse Rattle.put_chains.specs.Joins.{placed-then}' if self.puts
-                else 'Rattle.write_fits.specs.Steps.{tried-none, tried-next}\nuse Rattle.fit_chains.specs.Types.{tried-then}')
-        self.files[f'proofs/{fn}/Proof.antt'] = f'''-- `{self.crate}::{fn}` meets its contract. Assumes nothing.
+        name, crate = fn.replace('_', '-'), self.crate_of(fn)
+        laws = ('Rattle.write_puts.specs.Puts.{placed-none, placed₁, placed-then, ready-first, ready-after, head₁, next₁}\nuse Rattle.layouts.specs.Lists as lists'
+                if self.puts else 'Rattle.write_fits.specs.Steps.{tried-none, tried-next, tried-then}')
+        self.files[f'{crate}/proofs/{fn}/Proof.antt'] = f'''-- `{crate}::{fn}` meets its contract. Assumes nothing.
 {MADE}.
 use mathlib.Core.Path.{{refl, ap, ap₂{', _∙_' if self.puts else ''}}}
 use mathlib.Core.Bool.{{not, _&&_, _||_}}
@@ -71,8 +76,8 @@ use native.Mathlib.Omega.{{arith}}
 use Rattle.meaning.specs.Values.{{tell, width}}
 use {laws}
 use borrow.Author.Needs.{{needs}}
-use Rattle.{self.crate}.proofs.{fn}.Statement.{{statement}}
-use Rattle.{self.crate}.proofs.{fn}.Tie as tie
+use Rattle.{crate}.proofs.{fn}.Statement.{{statement}}
+use Rattle.{crate}.proofs.{fn}.Tie as tie
 {text}
 pub {name}-spec : {{M : Type 1}} → statement M
 {name}-spec = tie.close (tie.spec {" ".join(spec_args)})
@@ -152,7 +157,7 @@ pub {name}-spec : {{M : Type 1}} → statement M
                 ev.add('buffer'), ev.add('slice-known')
         text += self.ended(steps, ev, True)
         self.proof_file(fn, text, spec_args + (['same-length'] if self.puts else []) + ['returns'])
-        self.code.extend(out + ['}', ''])
+        self.code[self.crate_of(fn)] += out + ['}', '']
 
     def joined(self, fn, title, ones):
         ps, lname = params(sum((rs for _, rs in ones), [])), fn.replace('_', '-')
@@ -182,7 +187,7 @@ pub {name}-spec : {{M : Type 1}} → statement M
                 ev.add('buffer'), ev.add('slice-known')
         text += self.ended(steps, ev, False)
         self.proof_file(fn, text, spec_args + (['same-length'] if self.puts else []) + ['returns'])
-        self.code.extend(out + ['}', ''])
+        self.code[self.crate_of(fn)] += out + ['}', '']
 
     def all_of(self, base, title, rs):
         ones = pieces(base, rs)
@@ -213,12 +218,16 @@ pub {name}-spec : {{M : Type 1}} → statement M
         head = f'pub fn fields({args}) -> Walked'
         if len(head) > 100:
             head = 'pub fn fields(\n' + ''.join(f'    {a},\n' for a in args.split(', ')) + ') -> Walked'
-        self.code += ['// The fields of a type; a type that has none, or that the table does not have, has nothing to say.', head]
-        self.code += self.contract('(schema kind misc a)', BODY) + ['{'] + [f'    let {p} = a.{FIELD[p]};' for p in used] + ['    match kind {']
+        code = self.code[self.crate]
+        code += ['// The fields of a type; a type that has none, or that the table does not have, has nothing to say.', head]
+        code += self.contract('(schema kind misc a)', BODY) + ['{'] + [f'    let {p} = a.{FIELD[p]};' for p in used] + ['    match kind {']
         for t in range(TYPES):
-            arm = f'{kinds[t][0]}({", ".join(["ws", "source"] + kinds[t][1] + ["c"] + more)})' if t in kinds else 'c'
-            self.code.append(f'        {t} => {arm},')
-        self.code += ['        _ => c,', '    }', '}', '']
+            arm = 'c'
+            if t in kinds:
+                fn, ps = kinds[t]
+                arm = f'{self.sample + "::" if alone(fn) else ""}{fn}({", ".join(["ws", "source"] + ps + ["c"] + more)})'
+            code.append(f'        {t} => {arm},')
+        code += ['        _ => c,', '    }', '}', '']
         (ns, nm), (rs, rm, rc), (os_, om) = depths
         calls, needs, returns, text = {}, [], [], ''
         for t in range(TYPES + 1):
@@ -248,14 +257,13 @@ pub {name}-spec : {{M : Type 1}} → statement M
                 text += f'\nreturns{n} : tie.Need-returns{n}\nreturns{n} c = {none}\n'
                 returns.append(f'returns{n}')
         laws = 'Rattle.write_puts.specs.Puts.{ready-as, placed-as, placed-none}' if self.puts else 'Rattle.write_fits.specs.Steps.{tried-as, tried-none}'
-        own = '·specs.specs' if not self.puts else '.specs'
-        self.files['proofs/fields/Proof.antt'] = f'''-- `{self.crate}::fields` meets its contract: by the arms of the `match`, each the layout of its type. Assumes nothing.
+        self.files[f'{self.crate}/proofs/fields/Proof.antt'] = f'''-- `{self.crate}::fields` meets its contract: by the arms of the `match`, each the layout of its type. Assumes nothing.
 {MADE}.
 use mathlib.Core.Path.{{sym, ap}}
 use Prim.Native.Nat.{{ℕ}}
 use Rattle.meaning.specs.Schema.{{schema}}
 use {laws}
-use Rattle.fit_chains{own}.Types.{{no-type}}
+use Rattle.layouts.specs.Types.{{no-type}}
 use borrow.Author.Needs.{{needs}}
 use Rattle.{self.crate}.proofs.fields.Statement.{{statement}}
 use Rattle.{self.crate}.proofs.fields.Tie as tie
@@ -264,37 +272,45 @@ pub fields-spec : {{M : Type 1}} → statement M
 fields-spec = tie.close (tie.spec {" ".join(needs + returns)})
 '''
 
-    def finish(self, said):
+    def finish(self, said, said_sample):
         ghost = 'ghost use Rattle.write_puts.specs.Puts.{Ready, Placed};' if self.puts else 'ghost use Rattle.write_fits.specs.Steps.{Tried};'
-        text = '\n'.join(self.code)
-        bits_uses = '' if self.puts else 'ghost use mathlib.Core.Path.{_≡_};\nghost use mathlib.Core.Bool.{cond, not, _&&_};\nghost use lib.Dec.{eqb};\n'
+        path = '' if self.puts else 'ghost use mathlib.Core.Path.{_≡_};\n'
         plus = '_≤_' if self.puts else '_+_, _≤_'
         counted = '' if self.puts else 'ghost use Rattle.meaning.specs.Values.{bodyWidth, bodyWords};\n'
-        lists = c['all_lists']
-        self.files['src/lib.rt'] = f'''// {said}
-// Written by tools/write_chains.py from the rows of crate table.
-{bits_uses}ghost use Prim.Native.Nat.{{{plus}}};
+
+        def lists(crate):
+            return ', '.join(l for l in all_lists if self.crate_of(l.replace('-', '_')) == crate)
+        made = '// Written by tools/write_chains.py from the rows of crate table.'
+        self.files[f'{self.sample}/src/lib.rt'] = f'''// {said_sample}
+{made}
+ghost use Prim.Native.Nat.{{_≤_}};
+ghost use lib.ListN.{{length}};
+ghost use Rattle.layouts.specs.Lists.{{{lists(self.sample)}}};
+{ghost}
+use meaning::Width;
+use write_fits::Walked;
+
+''' + '\n'.join(self.code[self.sample])
+        self.files[f'{self.crate}/src/lib.rt'] = f'''// {said}
+{made}
+{path}ghost use Prim.Native.Nat.{{{plus}}};
 ghost use lib.ListN.{{length}};
 ghost use Rattle.meaning.specs.Schema.{{schema, trailer as trailerOf}};
-{counted}ghost use Rattle.chains.specs.Lists.{{{", ".join(lists)}}};
+{counted}ghost use Rattle.layouts.specs.Lists.{{{lists(self.crate)}}};
 {ghost}
 use meaning::Attributes;
 use meaning::Width;
 use write_fits::Walked;
 
-{text}
-'''
+''' + '\n'.join(self.code[self.crate]) + '\n'
 
 
-fits = Chains('fit_chains', 'write_fits', False)
+fits = Chains('fit_chains', 'sample_fits', 'write_fits', False)
 kinds = fits.types()
 fits.fields(kinds, ((3, 0), (4, 1, 0), (3, 0)))
-fits.code += ['// The bits by which the trailer is selected: none where there is no trailer.',
-              'pub fn trailer_bits(kind: u64, a: Attributes) -> u64',
-              '    ensures { λ r. ⌜ r ≡ cond (a .all && not (eqb kind 9)) (a .sample) 0 ⌝ }', '{',
-              '    let on = a.all & !(kind == 9);', '    if on { a.sample } else { 0 }', '}', '',
-              '// The trailer of a record of this type.', 'pub fn trail(ws: &[u64], source: &[u8], kind: u64, a: Attributes, c: Walked) -> Walked']
-fits.code += fits.contract('(trailerOf kind a)', TRAIL) + ['{', '    trailer(ws, source, trailer_bits(kind, a), c)', '}', '']
+fit_code = fits.code[fits.crate]
+fit_code += ['// The trailer of a record of this type.', 'pub fn trail(ws: &[u64], source: &[u8], kind: u64, a: Attributes, c: Walked) -> Walked']
+fit_code += fits.contract('(trailerOf kind a)', TRAIL) + ['{', '    trailer(ws, source, layouts::trailer_bits(kind, a), c)', '}', '']
 
 
 def own_end(t):
@@ -303,10 +319,10 @@ def own_end(t):
     return BODY + sum(r.words for r in rs) + (1 if rs and rs[-1].fn == 'name' else 0)
 
 
-fits.code += ["// The words before the end of a type's own; what stands after them is zero in every value.",
-              'pub fn own_end(kind: u64, misc: u64, a: Attributes) -> usize',
-              '    ensures { λ r. ⌜ (r ≡ bodyWords + bodyWidth (schema kind misc a)) × (r ≤ 48) ⌝ }', '{', '    match kind {']
-fits.code += [f'        {t} => {own_end(t)},' for t in range(TYPES)] + [f'        _ => {BODY},', '    }', '}']
+fit_code += ["// The words before the end of a type's own; what stands after them is zero in every value.",
+             'pub fn own_end(kind: u64, misc: u64, a: Attributes) -> usize',
+             '    ensures { λ r. ⌜ (r ≡ bodyWords + bodyWidth (schema kind misc a)) × (r ≤ 48) ⌝ }', '{', '    match kind {']
+fit_code += [f'        {t} => {own_end(t)},' for t in range(TYPES)] + [f'        _ => {BODY},', '    }', '}']
 text, returns = '', []
 for t in range(TYPES + 1):
     n = f'-{t + 1}' if t else ''
@@ -315,7 +331,7 @@ for t in range(TYPES + 1):
          'ap (λ (l : List Item). bodyWords + bodyWidth l) (sym (no-type (c .before .args .misc) (c .before .args .a) (c .before .args .kind) (c .match .rest)))')
     text += f'\nreturns{n} : tie.Need-returns{n}\nunfolding tell width flagWords named ends\nreturns{n} c = ({e}, omega arith)\n'
     returns.append(f'returns{n}')
-fits.files['proofs/own_end/Proof.antt'] = f'''-- `fit_chains::own_end` meets its contract: by the arms of the `match`, each counted in the layout of its type. Assumes nothing.
+fits.files['fit_chains/proofs/own_end/Proof.antt'] = f'''-- `fit_chains::own_end` meets its contract: by the arms of the `match`, each counted in the layout of its type. Assumes nothing.
 {MADE}.
 use mathlib.Core.Path.{{sym, ap}}
 use mathlib.Core.List.{{List}}
@@ -325,7 +341,7 @@ use Rattle.meaning.specs.declared.Item.{{Item}}
 use Rattle.meaning.specs.Schema.{{schema}}
 use Rattle.meaning.specs.Writing.{{named, ends}}
 use Rattle.meaning.specs.Values.{{tell, width, flagWords, bodyWidth, bodyWords}}
-use Rattle.fit_chains.specs.Types.{{no-type}}
+use Rattle.layouts.specs.Types.{{no-type}}
 use borrow.Author.Needs.{{needs}}
 use Rattle.fit_chains.proofs.own_end.Statement.{{statement}}
 use Rattle.fit_chains.proofs.own_end.Tie as tie
@@ -333,19 +349,22 @@ use Rattle.fit_chains.proofs.own_end.Tie as tie
 pub own-end-spec : {{M : Type 1}} → statement M
 own-end-spec = tie.close (tie.spec {" ".join(returns)})
 '''
-fits.finish("Whether the words of each type's fields and of the trailer fit: a call for each item, in the order of the schema.")
-puts = Chains('put_chains', 'write_puts', True)
+fits.finish("Whether the words of each type's fields and of the trailer fit: a call for each item, in the order of the schema.",
+            "Whether the words of SAMPLE's fields fit: a call for each item, in the order of the schema.")
+puts = Chains('put_chains', 'sample_puts', 'write_puts', True)
 puts.types()
 puts.fields(kinds, ((5, 1), (8, 4, 2), (4, 0)))
-puts.code += ['// The trailer of a record of this type.', 'pub fn trail(', '    ws: &[u64],', '    source: &[u8],', '    kind: u64,', '    a: Attributes,',
-              '    c: Walked,', '    buffer: &mut [u8],', ') -> Walked']
-puts.code += puts.contract('(trailerOf kind a)', TRAIL) + ['{', '    trailer(ws, source, fit_chains::trailer_bits(kind, a), c, buffer)', '}']
-puts.finish("The bytes of each type's fields and of the trailer: a call for each item, in the order of the schema.")
+put_code = puts.code[puts.crate]
+put_code += ['// The trailer of a record of this type.', 'pub fn trail(', '    ws: &[u64],', '    source: &[u8],', '    kind: u64,', '    a: Attributes,',
+             '    c: Walked,', '    buffer: &mut [u8],', ') -> Walked']
+put_code += puts.contract('(trailerOf kind a)', TRAIL) + ['{', '    trailer(ws, source, layouts::trailer_bits(kind, a), c, buffer)', '}']
+puts.finish("The bytes of each type's fields and of the trailer: a call for each item, in the order of the schema.",
+            "The bytes of SAMPLE's fields: a call for each item, in the order of the schema.")
 
 bad = 0
 for crate in (fits, puts):
     for name, text in sorted(crate.files.items()):
-        path = f'crates/{crate.crate}/{name}'
+        path = f'crates/{name}'
         old = open(path).read() if os.path.exists(path) else ''
         if old == text:
             continue

@@ -42,9 +42,9 @@ fn turn(
     ensures { λ r. ⌜ r ≡ step (now (s .entry)) (itemOf a misc kind (getD rows k 0)) c ⌝ }
 {
     let row = table::row_at(all, k);
-    let on = table::is_on(a, misc, kind, row);
+    let on = items::is_on(a, misc, kind, row);
     if on {
-        let shape = table::shape_of(a, row);
+        let shape = items::shape_of(a, row);
         fields::step(s, Item { on, shape }, c)
     } else {
         c

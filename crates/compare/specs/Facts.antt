@@ -26,7 +26,7 @@ use Rattle.compare.specs.Compared.{sameBytes, same, alike, agree, report
 use Rattle.compare.specs.Promise.{Same, Says, all-alike, field-differs, left-ended, right-ended, left-stopped, right-stopped, TrueReport}
 use Rattle.compare.specs.Pairs.{same-alike}
 
--- ---- "alike exactly when both end with 0 at the same number with all pairs equal"
+-- ---- alike exactly where both end with 0 at the same number with all pairs equal
 
 pub record AllEqual (R : Reads) (l r : Cuts) (n : ℕ) : Type 0 where
   pub left-long : length (l .records) ≡ n
@@ -146,7 +146,7 @@ otherSide n = cond (eqb n 2) 3 (cond (eqb n 3) 2 (cond (eqb n 4) 5 (cond (eqb n 
 abbrev pub turned : Compared → Compared
 turned c = report (otherSide (c .what)) (c .stop) (c .records) (c .field)
 
--- "symmetric up to the side": but where both stop at the same record, which is told of the left side first
+-- symmetric up to the side, but where both stop at the same record, which is told of the left side first
 pub meet-turned : (R : Reads) (a b n : ℕ) (xs ys : List Cut) → (length xs ≡ length ys → (a ≡ 0) ⊎ (b ≡ 0)) → meet R b a n ys xs ≡ turned (meet R a b n xs ys)
 unfolding meet
 meet-turned R a b n [] [] h = ⊎-elim (λ (z : a ≡ 0). left z) (λ (z : b ≡ 0). right z) (h refl)

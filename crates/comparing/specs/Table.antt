@@ -10,26 +10,21 @@ use Rattle.meaning.specs.declared.Frame.{Frame}
 use Rattle.meaning.specs.declared.Known.{Known}
 use Rattle.meaning.specs.Bytes.{small}
 use Rattle.meaning.specs.Editions.{known, allowed}
-use Rattle.meaning.specs.Records.{judge}
 use Rattle.meaning.specs.Ring.{Asked, askingWith, frame, stopAt}
-use Rattle.meaning.specs.Events.{allMarked, sound, askedEvents, judgeEvents, layoutFor, unmatched}
+use Rattle.meaning.specs.Events.{allMarked, sound, askedEvents, judgeEvents}
 use Rattle.laws.specs.Bytes.{apart}
-use Rattle.laws.specs.Answers.{or-zero}
 use Rattle.laws.specs.Rings.{frame-stop, frame-reason}
-use Rattle.laws.specs.Matched.{carried, judge-matched, sound-marked, frame-refused}
+use Rattle.laws.specs.Matched.{carried, sound-marked, frame-refused}
 use Rattle.runs.specs.Cutting.{Cut, Cuts, halt, begin, All}
 use Rattle.runs.specs.Runs.{cut-stop}
-use Rattle.events.specs.Match.{matched-has}
+use Rattle.event_laws.specs.Match.{matched-has}
 use Rattle.compare.specs.declared.Compared.{Compared}
 use Rattle.compare.specs.Fields.{Reads}
 use Rattle.compare.specs.Compared.{Side, eventReads, sideOf, stops, cuttingAll, compared, meet}
 use Rattle.compare.specs.Promise.{Sound, TrueReport}
 use Rattle.compare.specs.Sides.{framed-side, compared-told, compared-only}
 use Rattle.compare.specs.Facts.{meet-editions}
-
--- an accepted record has an event, and is accepted under that event's attributes
-pub accepted-event : (k : Known) (es : List Event) (xs : List ℕ) → judgeEvents k es xs ≡ 0 → (unmatched k es xs ≡ 0) × (judge (layoutFor k es xs) xs ≡ 0)
-accepted-event k es xs h = or-zero (unmatched k es xs) (judge (layoutFor k es xs) xs) (sym (judge-matched k es xs) ∙ h)
+use Rattle.pairs.specs.Start.{accepted-event}
 
 pub event-sound : (k : Known) (es : List Event) → allMarked es ≡ true → Sound (eventReads k es)
 event-sound k es m = record {

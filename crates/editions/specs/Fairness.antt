@@ -1,6 +1,6 @@
 -- Demand 3 for one record, in its own words: "Each record the older edition answers as the newer does, or refuses as unknown to it, and this
--- exactly where the type, or a selected bit or form bit on which that record's reading depends by 01's rules 20 to 23 and M-102's 25, lies outside what that
--- edition knows." Assumes nothing: these are definitions.
+-- exactly where the type, or a selected bit or form bit on which that record's reading depends by 01's rules 20 to 23, lies outside what that edition
+-- knows." M-102's 25 is one of these rules too. Assumes nothing: these are definitions.
 use mathlib.Core.Path.{_≡_}
 use Prim.Native.Nat.{ℕ, _^_, _<_}
 use mathlib.Core.Bool.{Bool, true, false, not, _&&_, _||_}

@@ -1,12 +1,11 @@
-// The exact answer for a record's fields, by kind of layout: a SAMPLE in stretches, a name after fields of one width, lists that the record counts.
-// Each is given what the attributes fix, as sums; none walks a list of items.
+// The exact answer for a record's fields, by kind of layout: a name after fields of one width, lists that the record counts; a SAMPLE is judged by
+// crate exact_sample. Each is given what the attributes fix, as sums; none walks a list of items.
 ghost use mathlib.Core.Path.{_≡_};
 ghost use Rattle.meaning.specs.Schema.{groupBytes};
 ghost use Rattle.blocks.specs.Seen.{closedAt};
 ghost use Rattle.blocks.specs.Steady.{sizes};
 use blocks::Place;
 
-pub mod sample;
 pub mod types;
 
 // The places of the sums in their table: the trailer; a SAMPLE's first fields, with its read values where they are no group; its last fields,
@@ -28,7 +27,7 @@ pub const INTERRUPT: usize = 6;
 pub const GROUP: usize = 7;
 
 // The bytes of a group's entry: a value, its id by bit 2 of the read format, its lost count by bit 4.
-fn unit(format: u64) -> usize
+pub fn unit(format: u64) -> usize
     ensures { λ r. ⌜ r ≡ groupBytes format ⌝ }
 {
     let ids = wire::has_bit(format, 2);

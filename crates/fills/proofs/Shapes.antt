@@ -20,23 +20,11 @@ use Rattle.meaning.specs.Schema.{item}
 use Rattle.meaning.specs.Values.{slot, slotShape, tell, wordsOf, width, words}
 use Rattle.laws.specs.Again.{ItemPassed, fine₁}
 use Rattle.laws.specs.Bytes.{and-true, unbroken}
-use Rattle.laws.specs.Put.{put-nil, put-snoc, put-fits}
+use Rattle.laws.specs.Put.{put-nil, put-one, put-two, put-fits}
 use Rattle.laws.specs.Told.{take-zeros, drop-zeros}
 use Rattle.laws.specs.Walks.{step-off, step-on, step-taken}
 use Rattle.fills.specs.Chains as chains
 use Rattle.fills.specs.Chains.{Ready}
-
--- ---- one word, and two
-
-module _ (d : List ℕ) (at : ℕ) where
-  pub put-one : (v : ℕ) → at < length d → set d at v ≡ put d at (v ∷ [])
-  put-one v h =
-      ap (λ (l : List ℕ). set l at v) (sym (put-nil d at (omega arith)))
-      ∙ ap (λ (n : ℕ). set (put d at []) n v) (sym (add-zero at))
-      ∙ put-snoc d at [] v (omega arith)
-
-  pub put-two : (v w : ℕ) → at + 1 < length d → set (set d at v) (at + 1) w ≡ put d at (v ∷ w ∷ [])
-  put-two v w h = ap (λ (l : List ℕ). set l (at + 1) w) (put-one v (omega arith)) ∙ put-snoc d at (v ∷ []) w h
 
 -- zeros over zeros
 put-zeros : (d : List ℕ) (at k : ℕ) → at + k ≤ length d → drop at d ≡ zeros (length d - at) → put d at (zeros k) ≡ d

@@ -170,7 +170,7 @@ pub fn limit(s: &[u8], c: Cursor, on: bool, out: &mut [u64], at: usize) -> Curso
 }
 
 // "An abi word, then as many registers as the mask has ones; if the abi is 0, none follow."
-fn registers_by(abi: u64, mask: u64) -> u64
+pub fn registers_by(abi: u64, mask: u64) -> u64
     ensures { λ r. ⌜ r ≡ cond (eqb abi 0) 0 (ones 64 mask) ⌝ }
 {
     if abi == 0 {
@@ -229,8 +229,8 @@ pub fn times(s: &[u8], c: Cursor, on: bool, out: &mut [u64], at: usize, k: usize
 }
 
 // The bytes of a group's entry: value, id and lost count, of 8 bytes each.
-fn group_bytes(f: u64) -> usize
-    ensures { λ r. ⌜ r ≡ groupBytes f ⌝ }
+pub fn group_bytes(f: u64) -> usize
+    ensures { λ r. ⌜ (r ≡ groupBytes f) × (1 ≤ r) × (r ≤ 4096) ⌝ }
 {
     let ids = wire::has_bit(f, 2);
     let lost = wire::has_bit(f, 4);

@@ -55,6 +55,16 @@ put-snoc d at s v h =
     ∙ ap (λ (k : ℕ). take at d ++ (s ++ (v ∷ [])) ++ drop k d) f
     ∙ sym (put-fits d at (s ++ (v ∷ [])) (omega (arith, e)))
 
+-- one word, and two
+pub put-one : (d : List ℕ) (at v : ℕ) → at < length d → set d at v ≡ put d at (v ∷ [])
+put-one d at v h =
+    ap (λ (l : List ℕ). set l at v) (sym (put-nil d at (omega arith)))
+    ∙ ap (λ (n : ℕ). set (put d at []) n v) (sym (add-zero at))
+    ∙ put-snoc d at [] v (omega arith)
+
+pub put-two : (d : List ℕ) (at v w : ℕ) → at + 1 < length d → set (set d at v) (at + 1) w ≡ put d at (v ∷ w ∷ [])
+put-two d at v w h = ap (λ (l : List ℕ). set l (at + 1) w) (put-one d at v (omega arith)) ∙ put-snoc d at (v ∷ []) w h
+
 -- two runs, the second right after the first, are one
 pub put-put : (d : List ℕ) (at : ℕ) (s t : List ℕ) → at + length s + length t ≤ length d
     → put (put d at s) (at + length s) t ≡ put d at (s ++ t)

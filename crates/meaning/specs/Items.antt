@@ -130,7 +130,7 @@ part sh c rest = take (span sh c (length rest)) rest
 unfoldable pub settle : ℕ → Cursor → Cursor → Cursor
 settle why c d = cond (eqb why 0) d (refuse why c)
 
--- "30: a field would pass the record's end"; else the item's own rule; else past it
+-- 30: "a field .. would pass the record's end"; else the item's own rule; else past it
 unfoldable pub shapeStep : Shape → Cursor → List ℕ → Cursor
 shapeStep sh c rest =
     cond (leb (span sh c (length rest)) (length rest))

@@ -68,7 +68,7 @@ sampleFirst a =
 
 -- "callchain 5 (n, n u64), raw 10 (u32 size, bytes), branches 11 (n, n entries of 24 bytes), user registers 12, user stack 13 (size, bytes,
 -- filled length; size 0 has neither)". M-102: "one more word between branch count and entries when branch sample bit 17 is selected", which is the
--- hardware index; where there are no branches there is no index
+-- hardware index. It is there also where n is 0, and never without sample bit 11
 abbrev pub sampleLists : Attributes → List Item
 sampleLists a =
     selected a 5 (Count W8)

@@ -254,13 +254,13 @@ spareBy is ts ws = drop (bodyWords + bodyWidth is) (take trailWords ws) ++ drop 
 unfoldable pub spare : Layout → List ℕ → List ℕ
 spare lay ws = spareBy (lay .body (getD ws 0 0) (getD ws 1 0)) (lay .trail (getD ws 0 0)) ws
 
--- ---- the writer: "2; 20 to 24; 43; 41; 42; 40", with M-102's 25 after 23 and before 24
+-- ---- the writer: "2; 20 to 24; 41 ..; 42 ..; 40 ..", with M-102's 25 after 23 and before 24, and M-107's 43 "after 24 and before 41"
 
 -- "The writer refuses a value with the flag set with 43": the flag's word, where the type has a name
 unfoldable pub flagged : Layout → List ℕ → Bool
 flagged lay ws = not (eqb (flagTold (lay .body (getD ws 0 0) (getD ws 1 0)) ws) 0)
 
--- 42 is decided by a test over the items; that it says exactly "no record decodes to the same numbers and listed bytes" is a theorem
+-- 42 is decided by a test over the items; that it says exactly "no record decodes, .., to the same numbers and listed bytes" is a theorem
 unfoldable pub writable : Layout → List ℕ → List ℕ → Bool
 writable lay src ws = allZero (spare lay ws) && fits lay (meant lay src ws)
 

@@ -34,7 +34,7 @@ pub extern "C" fn ollskuvan_check_events(bytes: &[u8], events: &[[u64; 7]], edit
     ensures { λ r. ⌜ r ≡ recordCheckEvents eventLimit editions edition (eventsOf (now (events .entry))) (now (bytes .entry)) ⌝ }
 {
     let e = edition as u64;
-    event_one::check_events(bytes, e, events, EVENTS)
+    event_check::check_events(bytes, e, events, EVENTS)
 }
 
 // The words of a record under its event's attributes: as record check with a table, but for 44, where it is 0; then 40.
@@ -49,5 +49,5 @@ pub extern "C" fn ollskuvan_read_events(
     ensures { λ _. ⌜ now (fields .exit) ≡ readEventsWords eventLimit editions edition (eventsOf (now (events .entry))) (now (bytes .entry)) (now (fields .entry)) ⌝ }
 {
     let e = edition as u64;
-    event_one::read_events(bytes, e, events, EVENTS, fields)
+    event_read::read_events(bytes, e, events, EVENTS, fields)
 }

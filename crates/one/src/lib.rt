@@ -39,7 +39,7 @@ pub fn read_one(ring: &[u8], head: u64, tail: u64, e: u64, a: Attributes, scratc
     let place = frame.place;
     let size = frame.size;
     ring::gather(ring, place, size, scratch);
-    let v = record::read(ring::shown(ring, scratch, frame), e, a);
+    let v = plain_read::read(ring::shown(ring, scratch, frame), e, a);
     let words = v.words;
     One {
         frame,

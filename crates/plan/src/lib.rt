@@ -142,7 +142,7 @@ pub fn judge(r: &[u8], kind: u64, mark: u64, known: Known, a: Attributes, sums: 
     ensures { λ x. ⌜ x ≡ judge (layout known a) (now (r .entry)) ⌝ }
 {
     if mark == marks::STRETCHED {
-        return exact::sample::sample(r, a, sums);
+        return exact_sample::sample(r, a, sums);
     }
     let trail = sums[exact::TRAIL] as usize;
     let fixed = sums[exact::GROUP] as usize;

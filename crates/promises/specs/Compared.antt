@@ -1,7 +1,7 @@
 -- M-108, "Compare two saved rings", in its own words. `compared` is what `ollskuvan_compare` is proved equal to; `Told` says that every pair before the
 -- reported place is equal under demand 2, and that what is reported is so. Assumes nothing.
-use mathlib.Core.Path.{_≡_, sym}
-use mathlib.Core.Bool.{true, false}
+use mathlib.Core.Path.{_≡_, refl, sym, ap, _∙_}
+use mathlib.Core.Bool.{Bool, true, false, not}
 use mathlib.Core.List.{List, map}
 use mathlib.Core.Logic.{_⊎_}
 use Prim.Native.Nat.{ℕ, _^_, _<_, _≤_}
@@ -12,9 +12,13 @@ use Rattle.meaning.specs.declared.Known.{Known}
 use Rattle.meaning.specs.Bytes.{small}
 use Rattle.meaning.specs.Editions.{editions, known, allowed, outside}
 use Rattle.meaning.specs.Records.{layout, checkBy, flagOf, value, cleanedRecord}
-use Rattle.meaning.specs.Ring.{frame, stopAt}
+use Rattle.meaning.specs.declared.Frame.{Frame}
+use Rattle.meaning.specs.Ring.{Asked, frame, stopAt}
 use Rattle.meaning.specs.Events.{sound, askedEvents, judgeEvents, eventDepends}
+use Rattle.laws.specs.Bytes.{apart}
+use Rattle.laws.specs.Rings.{frame-stop, frame-reason}
 use Rattle.runs.specs.Cutting.{Cut, All}
+use Rattle.runs.specs.Forward.{frame-going}
 use Rattle.runs.specs.Entries.{all-map}
 use Rattle.editions.specs.Fairness.{rising}
 use Rattle.editions.specs.EventPromise.{EventWords}
@@ -27,7 +31,7 @@ use Rattle.compare.specs.Pairs.{alike-exactly, named-differs}
 use Rattle.compare.specs.Sides.{framed-side, side-ends, scratch-long, side-first}
 use Rattle.compare.specs.Facts.{AllEqual, equal-told, told-equal, places-alike, ignored-alike, turned, meet-turned}
 use Rattle.compare.specs.Examples as examples
-use Rattle.comparing.specs.Table.{leftSide, rightSide, table-told, table-only, table-refused, editions-alike}
+use Rattle.comparing.specs.Table.{leftSide, rightSide, left-at-once, table-told, table-only, table-refused, editions-alike}
 
 -- ---- two records, under a table whose events select the identifier
 
@@ -84,23 +88,56 @@ module _ (limit e : ℕ) (es : List Event) (ring₁ ring₂ : List ℕ) (head₁
   pub refused-table : sound limit es ≡ false → report ≡ stops 4 (frame (askedEvents limit editions e es) ring₁ head₁ tail₁ 1 16 (length scratch₁) .stop) 0
   refused-table = table-refused limit editions e es ring₁ ring₂ head₁ head₂ tail₁ tail₂ scratch₁ scratch₂
 
+  -- and so is an edition that is refused: 2, or 1 before it
+  pub refused-edition : allowed editions e ≡ false → report ≡ stops 4 (frame (askedEvents limit editions e es) ring₁ head₁ tail₁ 1 16 (length scratch₁) .stop) 0
+  refused-edition h = left-at-once reads left right (stays (next .go) refl) (λ z. ends (allowed editions e) h (passed z))
+    where
+      asked : Asked
+      asked = askedEvents limit editions e es
+
+      next : Frame
+      next = frame asked ring₁ head₁ tail₁ 1 16 (length scratch₁)
+
+      stays : (b : Bool) → next .go ≡ b → b ≡ false
+      stays true g = absurd (apart (sym h ∙ frame-going asked ring₁ head₁ tail₁ 1 16 (length scratch₁) g .edition))
+      stays false g = refl
+
+      -- a side that ended with 0 passed row 2
+      passed : next .stop ≡ 0 → not (allowed editions e) ≡ false
+      passed z = frame-reason asked ring₁ head₁ tail₁ 1 16 (length scratch₁) 0 (frame-stop asked ring₁ head₁ tail₁ 1 16 (length scratch₁) (stays (next .go) refl) ∙ ap stopAt z) .1 .1 .0
+
+      ends : (t : Bool) → t ≡ false → not t ≡ false → ⊥
+      ends true a b = apart (sym a)
+      ends false a b = apart (sym b)
+
   -- symmetric up to the side, but where both stop at the same record: then the first is told
   pub sides-exchanged : (length (cuttingAll left .records) ≡ length (cuttingAll right .records) → (cuttingAll left .stop ≡ 0) ⊎ (cuttingAll right .stop ≡ 0))
       → compared reads right left ≡ turned report
   unfolding compared
   sides-exchanged = meet-turned reads (cuttingAll left .stop) (cuttingAll right .stop) 0 (cuttingAll left .records) (cuttingAll right .records)
 
-  -- a side is cut to its true end, and its scratch keeps its length
+  -- "two ring images, each with pointers and a scratch": each side is cut to its true end, by the rows of its own ring, head, tail and scratch
   pub left-to-its-end : small ring₁ ≡ true → head₁ < 2 ^ 64 → tail₁ < 2 ^ 64
       → frame (askedEvents limit editions e es) ring₁ head₁ (cuttingAll left .last .tail) 1 16 (length (cuttingAll left .last .scratch)) ≡ stopAt (cuttingAll left .stop)
   left-to-its-end s = side-ends left head₁ (framed-side (askedEvents limit editions e es) ring₁ head₁ tail₁ scratch₁ s)
+
+  pub right-to-its-end : small ring₂ ≡ true → head₂ < 2 ^ 64 → tail₂ < 2 ^ 64
+      → frame (askedEvents limit editions e es) ring₂ head₂ (cuttingAll right .last .tail) 1 16 (length (cuttingAll right .last .scratch)) ≡ stopAt (cuttingAll right .stop)
+  right-to-its-end s = side-ends right head₂ (framed-side (askedEvents limit editions e es) ring₂ head₂ tail₂ scratch₂ s)
 
   -- the records that were looked at are the first ones
   pub left-first-records : small ring₁ ≡ true → (j : ℕ) → j ≤ length ring₁ → cutting left j .records ≡ take j (cuttingAll left .records)
   left-first-records s = side-first left head₁ (framed-side (askedEvents limit editions e es) ring₁ head₁ tail₁ scratch₁ s)
 
+  pub right-first-records : small ring₂ ≡ true → (j : ℕ) → j ≤ length ring₂ → cutting right j .records ≡ take j (cuttingAll right .records)
+  right-first-records s = side-first right head₂ (framed-side (askedEvents limit editions e es) ring₂ head₂ tail₂ scratch₂ s)
+
+  -- a scratch keeps its length
   pub left-scratch-long : small ring₁ ≡ true → length (scratchThen report left) ≡ length scratch₁
   left-scratch-long s = scratch-long left head₁ (framed-side (askedEvents limit editions e es) ring₁ head₁ tail₁ scratch₁ s) report
+
+  pub right-scratch-long : small ring₂ ≡ true → length (scratchThen report right) ≡ length scratch₂
+  right-scratch-long s = scratch-long right head₂ (framed-side (askedEvents limit editions e es) ring₂ head₂ tail₂ scratch₂ s) report
 
 -- "ignored bytes don't count": accepted records that are the same but for them, with the same flag, have the same value, so no field of them differs
 pub ignored-bytes : (k : Known) (a : Attributes) (xs ys : List ℕ) → small xs ≡ true → small ys ≡ true → checkBy (layout k a) xs ≡ 0 → checkBy (layout k a) ys ≡ 0

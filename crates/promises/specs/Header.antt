@@ -2,38 +2,49 @@
 -- never reuse the number." Assumes nothing.
 use mathlib.Core.Path.{_≡_, refl, ap, fun-ext}
 use mathlib.Core.List.{List, [], _∷_, _++_}
-use mathlib.Core.Bool.{Bool, true, false, cond, not}
-use Prim.Native.Nat.{ℕ, _+_, _*_, _%_, _<_, _≤_}
+use mathlib.Core.Bool.{false, not}
+use Prim.Native.Nat.{ℕ, _+_, _*_, _%_, _^_, _<_, _≤_}
 use borrow.Author.Tests.{le-ltb, eqb-true, not-false}
-use lib.Dec.{leb, ltb, eqb}
-use lib.ListN.{length, take}
+use lib.Dec.{ltb, eqb}
+use lib.ListN.{length}
 use Rattle.meaning.specs.declared.Attributes.{Attributes}
 use Rattle.meaning.specs.declared.Frame.{Frame}
 use Rattle.meaning.specs.Bytes.{numberAt}
 use Rattle.meaning.specs.Refusals.{Refusal, refusal}
-use Rattle.meaning.specs.Editions.{editions, allowed, known, isIn}
+use Rattle.meaning.specs.Editions.{editions, known}
 use Rattle.meaning.specs.Records.{layout, judge, recordCheck}
-use Rattle.meaning.specs.Values.{valueWords, read, writeAnswer}
-use Rattle.meaning.specs.Ring.{Asked, askedOf, lengthAllowed, distance, stopped, sized, callRows, leftRows, frame, recordAt, oneFrame, readOne}
+use Rattle.meaning.specs.Values.{read, writeAnswer}
+use Rattle.meaning.specs.Ring.{Asked, askedOf, lengthAllowed, distance, stopped, sized, callRows, leftRows, frame, readOne}
 use Rattle.meaning.specs.Drain.{start, run, drain}
 use Rattle.meaning.specs.Names.{nameAnswer}
 use Rattle.meaning.specs.declared.Event.{Event}
-use Rattle.meaning.specs.Events.{judgeEvents, drainEvents, readOneEvents}
+use Rattle.meaning.specs.Events.{askedEvents, judgeEvents, drainEvents, readOneEvents, recordCheckEvents, readEvents}
 use Rattle.meaning.specs.Backward.{walkBack, walkEvents}
 use Rattle.readers.specs.declared.Readers.{Readers}
-use Rattle.readers.specs.Readers.{tailRows, tailAnswer, publishAnswer, published}
+use Rattle.readers.specs.Readers.{published}
 use Rattle.record.specs.Into.{readIntoAnswer}
-use Rattle.one.specs.Told.{toldStop, toldTaken, oneTold}
+use Rattle.one.specs.Told.{oneTold}
+use Rattle.event_one.specs.Told.{oneEventsTold}
 use Rattle.writer.specs.Writer.{writeWordsAnswer}
-use Rattle.laws.specs.Rows.{or-false, in-cond, first-in, gives, Passed, passed-by, stopped-after}
+use Rattle.compare.specs.Compared.{compared, eventReads, sideOf}
+use Rattle.replay.specs.Replay.{told, replayEvents}
+use Rattle.salvage.specs.Salvage.{salvageTold}
+use Rattle.settings.specs.Versions.{versions}
+use Rattle.settings.specs.Reading.{readStore}
+use Rattle.settings.specs.Writing.{writes, writeStore}
+use Rattle.laws.specs.Rows.{or-false, gives, Passed, passed-by, stopped-after}
 use Rattle.laws.specs.Rings.{header-whole}
 use Rattle.editions.specs.Numbers.{recordNumbers, checkNumbers, recordCheckNumbers, stopNumbers, tableStopNumbers, eventNumbers, writeNumbers, nameNumbers}
-use Rattle.editions.specs.InTable.{frame-in, not-in}
+use Rattle.editions.specs.InTable.{not-in}
 use Rattle.promises.specs.Demand1.{check-numbers, read-numbers, write-numbers, one-stop-numbers, one-numbers, drain-stop-numbers, drain-entry-numbers}
-use Rattle.promises.specs.Backward.{walk-others, walk-entry-numbers, walk-events-others}
+use Rattle.promises.specs.Backward.{walk-others, walk-entry-numbers, walk-events-others, walk-events-entry-numbers}
 use Rattle.promises.specs.Lent.{readNumbers, lent-numbers}
 use Rattle.promises.specs.Names.{name-numbers}
 use Rattle.promises.specs.Events.{event-numbers, drain-events-numbers, one-events-stop-numbers}
+use Rattle.promises.specs.Inspected.{eventCheckNumbers, record-check-events-in, read-events-in}
+use Rattle.promises.specs.Settings.{read-answers, write-answers}
+use Rattle.promises.specs.Called.{oneStopNumbers, tableOneStopNumbers, told-stops, told-numbers, event-told-stops, event-told-numbers}
+use Rattle.promises.specs.Answers.{tailNumbers, replayNumbers, salvageNumbers, drain-events-answers, words-answers, publish-answers, compare-stops, replay-answers, replay-journal-answers, salvage-answers}
 
 -- ---- "Once 1 and 5 pass, the eight header bytes can't cross the end": they lie inside a ring of n bytes, whatever the other rows say
 
@@ -101,87 +112,71 @@ pub record Nobodys (k e : ℕ) (a : Attributes) : Type 0 where
   pub words-answer : (src ws : List ℕ) (space : ℕ) → writeWordsAnswer e a src ws space ≡ k → ⊥
   pub name-answer : (xs : List ℕ) (place count : ℕ) (buffer : List ℕ) → nameAnswer xs place count buffer ≡ k → ⊥
 
-module _ (e : ℕ) (a : Attributes) where
-  -- what C is told of one record: as the rows stop, or as the reader that fills lent words answers
-  module _ (ring : List ℕ) (head tail : ℕ) (scratch words : List ℕ) where
-    abbrev next : Frame
-    next = oneFrame editions e ring head tail scratch
+pub ten-is-nobodys : (e : ℕ) (a : Attributes) → Nobodys 10 e a
+ten-is-nobodys e a =
+    record {
+      drain-stop = λ ring head tail budget journal scratch. not-in stopNumbers 10 _ refl (drain-stop-numbers e a ring head tail budget journal scratch);
+      drain-answer = λ ring head tail budget journal scratch i h. not-in recordNumbers 10 _ refl (drain-entry-numbers e a ring head tail budget journal scratch i h);
+      walk-stop = λ ring head budget journal scratch. walk-others e a ring head budget journal scratch 10 refl;
+      walk-answer = λ ring head budget journal scratch i h. not-in recordNumbers 10 _ refl (walk-entry-numbers e a ring head budget journal scratch i h);
+      one-stop = λ ring head tail scratch. not-in stopNumbers 10 _ refl (one-stop-numbers e a ring head tail scratch);
+      one-answer = λ ring head tail scratch. not-in recordNumbers 10 _ refl (one-numbers e a ring head tail scratch);
+      told-stop = λ ring head tail scratch words. not-in oneStopNumbers 10 _ refl (told-stops e a ring head tail scratch words);
+      told-answer = λ ring head tail scratch words. not-in (40 ∷ recordNumbers) 10 _ refl (told-numbers e a ring head tail scratch words);
+      check-answer = λ xs. not-in recordCheckNumbers 10 _ refl (check-numbers e a xs);
+      read-answer = λ xs. not-in checkNumbers 10 _ refl (read-numbers e a xs);
+      lent-answer = λ xs words. not-in readNumbers 10 _ refl (lent-numbers e a xs words);
+      write-answer = λ src ws space. not-in writeNumbers 10 _ refl (write-numbers e a src ws space);
+      words-answer = λ src ws space. not-in writeNumbers 10 _ refl (words-answers e a src ws space);
+      name-answer = λ xs place count buffer. not-in nameNumbers 10 _ refl (name-numbers xs place count buffer);
+    }
 
-    abbrev answer : ℕ
-    answer = readIntoAnswer editions e a (recordAt ring (next .place) (next .size)) words
-
-    told-stops : isIn (oneTold editions e a ring head tail scratch words .stop) stopNumbers ≡ true
-    unfolding oneTold
-    told-stops = by (next .go)
-      where
-        by : (b : Bool) → isIn (cond b (toldTaken ring next tail answer) (toldStop next tail) .stop) stopNumbers ≡ true
-        by true = refl
-        by false = frame-in (allowed editions e) ring head tail 1 16 (length scratch)
-
-    told-answers : isIn (oneTold editions e a ring head tail scratch words .answer) readNumbers ≡ true
-    unfolding oneTold
-    told-answers = by (next .go)
-      where
-        by : (b : Bool) → isIn (cond b (toldTaken ring next tail answer) (toldStop next tail) .answer) readNumbers ≡ true
-        by true = lent-numbers e a (recordAt ring (next .place) (next .size)) words
-        by false = refl
-
-  words-answers : (src ws : List ℕ) (space : ℕ) → isIn (writeWordsAnswer e a src ws space) writeNumbers ≡ true
-  unfolding writeWordsAnswer
-  words-answers src ws space =
-      let n : ℕ = writeAnswer editions e a src (take valueWords ws) space in
-      in-cond writeNumbers (allowed editions e) (cond (leb valueWords (length ws)) n 42) 2
-      (in-cond writeNumbers (leb valueWords (length ws)) n 42 (write-numbers e a src (take valueWords ws) space) refl)
-      refl
-
-  pub ten-is-nobodys : Nobodys 10 e a
-  ten-is-nobodys =
-      record {
-        drain-stop = λ ring head tail budget journal scratch. not-in stopNumbers 10 _ refl (drain-stop-numbers e a ring head tail budget journal scratch);
-        drain-answer = λ ring head tail budget journal scratch i h. not-in recordNumbers 10 _ refl (drain-entry-numbers e a ring head tail budget journal scratch i h);
-        walk-stop = λ ring head budget journal scratch. walk-others e a ring head budget journal scratch 10 refl;
-        walk-answer = λ ring head budget journal scratch i h. not-in recordNumbers 10 _ refl (walk-entry-numbers e a ring head budget journal scratch i h);
-        one-stop = λ ring head tail scratch. not-in stopNumbers 10 _ refl (one-stop-numbers e a ring head tail scratch);
-        one-answer = λ ring head tail scratch. not-in recordNumbers 10 _ refl (one-numbers e a ring head tail scratch);
-        told-stop = λ ring head tail scratch words. not-in stopNumbers 10 _ refl (told-stops ring head tail scratch words);
-        told-answer = λ ring head tail scratch words. not-in readNumbers 10 _ refl (told-answers ring head tail scratch words);
-        check-answer = λ xs. not-in recordCheckNumbers 10 _ refl (check-numbers e a xs);
-        read-answer = λ xs. not-in checkNumbers 10 _ refl (read-numbers e a xs);
-        lent-answer = λ xs words. not-in readNumbers 10 _ refl (lent-numbers e a xs words);
-        write-answer = λ src ws space. not-in writeNumbers 10 _ refl (write-numbers e a src ws space);
-        words-answer = λ src ws space. not-in writeNumbers 10 _ refl (words-answers src ws space);
-        name-answer = λ xs place count buffer. not-in nameNumbers 10 _ refl (name-numbers xs place count buffer);
-      }
-
--- ---- nor is it given with a table of events (M-100, and M-109's walk with one), or beside the tail of two readers (M-105)
+-- ---- nor is it given with a table of events (M-100, M-109, M-112), beside the tail of two readers (M-105), of a store (M-103), of what was saved (M-106, M-108,
+-- M-111). With `Nobodys` these are all calls from C but two, which refuse nothing: one tells what misc means, the other an index in a table
 
 pub record NobodysBeside (k limit e : ℕ) (es : List Event) : Type 0 where
   pub drain-stop : (ring : List ℕ) (head tail budget : ℕ) (journal scratch : List ℕ) → drainEvents limit editions e es ring head tail budget journal scratch .stop ≡ k → ⊥
-  pub drain-answer : (xs : List ℕ) → judgeEvents (known editions e) es xs ≡ k → ⊥
+  pub drain-answer : (ring : List ℕ) (head tail budget : ℕ) (journal scratch : List ℕ) (i : ℕ) → i < drainEvents limit editions e es ring head tail budget journal scratch .state .taken
+      → numberAt 2 (drainEvents limit editions e es ring head tail budget journal scratch .state .journal) (16 * i + 6) ≡ k → ⊥
   pub walk-stop : (ring : List ℕ) (head budget : ℕ) (journal scratch : List ℕ) → walkEvents limit editions e es ring head budget journal scratch .stop ≡ k → ⊥
+  pub walk-answer : (ring : List ℕ) (head budget : ℕ) (journal scratch : List ℕ) (i : ℕ) → i < walkEvents limit editions e es ring head budget journal scratch .state .taken
+      → numberAt 2 (walkEvents limit editions e es ring head budget journal scratch .state .journal) (16 * i + 6) ≡ k → ⊥
+  pub judge-answer : (xs : List ℕ) → judgeEvents (known editions e) es xs ≡ k → ⊥
   pub one-stop : (ring : List ℕ) (head tail : ℕ) (scratch : List ℕ) → readOneEvents limit editions e es ring head tail scratch .frame .stop ≡ k → ⊥
+  pub told-stop : (ring : List ℕ) (head tail : ℕ) (scratch words : List ℕ) → oneEventsTold limit editions e es ring head tail scratch words .stop ≡ k → ⊥
+  pub told-answer : (ring : List ℕ) (head tail : ℕ) (scratch words : List ℕ) → oneEventsTold limit editions e es ring head tail scratch words .answer ≡ k → ⊥
+  pub check-answer : (xs : List ℕ) → recordCheckEvents limit editions e es xs .answer ≡ k → ⊥
+  pub read-answer : (xs words : List ℕ) → readEvents limit editions e es xs words .answer ≡ k → ⊥
+  pub compare-stop : (ring₁ ring₂ : List ℕ) (head₁ head₂ tail₁ tail₂ : ℕ) (scratch₁ scratch₂ : List ℕ)
+      → compared (eventReads (known editions e) es) (sideOf (askedEvents limit editions e es) ring₁ head₁ tail₁ scratch₁) (sideOf (askedEvents limit editions e es) ring₂ head₂ tail₂ scratch₂) .stop ≡ k
+      → ⊥
+  pub replay-answer : (xs : List ℕ) (count : ℕ) (rooms journal : List ℕ) → told (replayEvents limit editions e es xs count rooms journal) .answer ≡ k → ⊥
+  pub replay-entry : (xs : List ℕ) (count : ℕ) (rooms journal : List ℕ) → count < 2 ^ 64 → (i : ℕ) → i < told (replayEvents limit editions e es xs count rooms journal) .taken
+      → numberAt 2 (replayEvents limit editions e es xs count rooms journal .now .journal) (16 * i + 6) ≡ k → ⊥
+  pub salvage-answer : (xs out list : List ℕ) → salvageTold limit editions e es xs out list .answer ≡ k → ⊥
+  pub store-read : (xs : List ℕ) (lent : List (List ℕ)) → readStore versions editions xs (length lent) .answer ≡ k → ⊥
+  pub store-write : (rows : List (List ℕ)) (ring edition budget : ℕ) (buffer : List ℕ) → writeStore writes editions rows ring edition budget (length buffer) .answer ≡ k → ⊥
   pub publish-answer : (n head : ℕ) (r : Readers) → published n head r .answer ≡ k → ⊥
-
-abbrev tailNumbers : List ℕ
-tailNumbers = 0 ∷ 1 ∷ 4 ∷ 5 ∷ []
-
-tail-in : (n head tail : ℕ) → isIn (tailAnswer n head tail) tailNumbers ≡ true
-unfolding tailAnswer
-tail-in n head tail = first-in tailNumbers (tailRows n head tail) 0 refl refl
-
-published-in : (n head : ℕ) (r : Readers) → isIn (published n head r .answer) tailNumbers ≡ true
-unfolding published publishAnswer
-published-in n head r =
-    in-cond tailNumbers (eqb (tailAnswer n head (r .first)) 0) (tailAnswer n head (r .second)) (tailAnswer n head (r .first))
-    (tail-in n head (r .second))
-    (tail-in n head (r .first))
 
 pub ten-is-nobodys-beside : (limit e : ℕ) (es : List Event) → NobodysBeside 10 limit e es
 ten-is-nobodys-beside limit e es =
     record {
       drain-stop = λ ring head tail budget journal scratch. not-in tableStopNumbers 10 _ refl (drain-events-numbers limit e es ring head tail budget journal scratch);
-      drain-answer = λ xs. not-in eventNumbers 10 _ refl (event-numbers e es xs);
+      drain-answer = λ ring head tail budget journal scratch i h. not-in eventNumbers 10 _ refl (drain-events-answers limit e es ring head tail budget journal scratch i h);
       walk-stop = λ ring head budget journal scratch. walk-events-others limit e es ring head budget journal scratch 10 refl;
+      walk-answer = λ ring head budget journal scratch i h. not-in eventNumbers 10 _ refl (walk-events-entry-numbers limit e es ring head budget journal scratch i h);
+      judge-answer = λ xs. not-in eventNumbers 10 _ refl (event-numbers e es xs);
       one-stop = λ ring head tail scratch. not-in tableStopNumbers 10 _ refl (one-events-stop-numbers limit e es ring head tail scratch);
-      publish-answer = λ n head r. not-in tailNumbers 10 _ refl (published-in n head r);
+      told-stop = λ ring head tail scratch words. not-in tableOneStopNumbers 10 _ refl (event-told-stops limit e es ring head tail scratch words);
+      told-answer = λ ring head tail scratch words. not-in (40 ∷ eventNumbers) 10 _ refl (event-told-numbers limit e es ring head tail scratch words);
+      check-answer = λ xs. not-in (44 ∷ eventCheckNumbers) 10 _ refl (record-check-events-in limit editions e es xs);
+      read-answer = λ xs words. not-in (40 ∷ eventCheckNumbers) 10 _ refl (read-events-in limit editions e es xs words);
+      compare-stop = λ ring₁ ring₂ head₁ head₂ tail₁ tail₂ scratch₁ scratch₂.
+          not-in tableOneStopNumbers 10 _ refl (compare-stops limit e es ring₁ ring₂ head₁ head₂ tail₁ tail₂ scratch₁ scratch₂);
+      replay-answer = λ xs count rooms journal. not-in replayNumbers 10 _ refl (replay-answers limit e es xs count rooms journal);
+      replay-entry = λ xs count rooms journal c i h. not-in eventNumbers 10 _ refl (replay-journal-answers limit e es xs count rooms journal c i h);
+      salvage-answer = λ xs out list. not-in salvageNumbers 10 _ refl (salvage-answers limit e es xs out list);
+      store-read = λ xs lent. not-in (0 ∷ 50 ∷ 51 ∷ 52 ∷ 11 ∷ 40 ∷ []) 10 _ refl (read-answers xs lent);
+      store-write = λ rows ring edition budget buffer. not-in (0 ∷ 11 ∷ 1 ∷ 2 ∷ 40 ∷ []) 10 _ refl (write-answers rows ring edition budget buffer);
+      publish-answer = λ n head r. not-in tailNumbers 10 _ refl (publish-answers n head r);
     }

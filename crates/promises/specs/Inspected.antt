@@ -8,15 +8,15 @@ use Prim.Native.Nat.{ℕ, _+_, _-_, _%_, _<_, _≤_}
 use native.Mathlib.Omega.{arith}
 use lib.Dec.{leb, ltb, eqb}
 use lib.ListN.{length, getD}
-use borrow.Author.Tests.{eqb-true, eqb-false, eq-eqb, ne-eqb}
+use borrow.Author.Tests.{eqb-true, eqb-false, eq-eqb, ne-eqb, leb-false, lt-leb}
 use Rattle.meaning.specs.declared.Event.{Event}
-use Rattle.meaning.specs.declared.Judged.{Judged}
 use Rattle.meaning.specs.declared.Known.{Known}
+use Rattle.meaning.specs.Bytes.{put}
 use Rattle.meaning.specs.Refusals.{Refusal, refusal, first, orElse}
 use Rattle.meaning.specs.Editions.{editions, known, allowed, outside, knows, kind, sampleBit, isIn, isUnknown}
 use Rattle.meaning.specs.Records.{layout, kindOf, sizeOf, flagOf, judge, checkBy, check, recordCheck}
-use Rattle.meaning.specs.Values.{valueWords}
-use Rattle.meaning.specs.Events.{attributesOf, identifiers, identifierOf, indexOf, seen, indexFor, eventFor, hasEvent, sound, gate, eventless, layoutFor, unmatched, judgeEvents, inspected, eventDepends, unasked, checkEvents, checkInspected, recordCheckEvents, readEvents, readEventsWords}
+use Rattle.meaning.specs.Values.{valueWords, recordWords}
+use Rattle.meaning.specs.Events.{attributesOf, identifiers, identifierOf, indexOf, seen, indexFor, eventFor, hasEvent, sound, gate, eventless, layoutFor, unmatched, judgeEvents, inspected, eventDepends, unasked, checkEvents, checkInspected, judged, recordCheckEvents, readEvents, readEventsWords}
 use Rattle.laws.specs.Bytes.{apart, and-true}
 use Rattle.laws.specs.Rows.{or-false, in-more, in-cond, first-in}
 use Rattle.laws.specs.Lookup.{index-most, index-in, index-is, identifiers-length}
@@ -31,7 +31,8 @@ use Rattle.editions.specs.Outside.{outside-less, known-within}
 use Rattle.editions.specs.EventDrains.{one-event-alike}
 use Rattle.editions.specs.EventPromise.{EventWords}
 use Rattle.editions.specs.EventRecord.{event-in, event-fair}
-use Rattle.events.specs.Match.{matched-has}
+use Rattle.event_laws.specs.Match.{matched-has}
+use Rattle.promises.specs.Demand3.{last-fair, known-of}
 use Rattle.promises.specs.Checked.{recordRows, foremost, first-exactly, judge-rows}
 
 -- ---- the number inspected, of a record that is looked at
@@ -186,7 +187,7 @@ module _ (limit : ℕ) (rows : List Known) (e : ℕ) (es : List Event) (xs : Lis
       by true = inspected-most (known rows e) es xs
       by false = omega arith
 
--- ---- "each number for its own reason": the rows in the order checked
+-- ---- each number for its own reason: the rows in the order checked
 
 abbrev pub eventCheckRows : ℕ → ℕ → List Event → List ℕ → List Refusal
 eventCheckRows limit e es xs =
@@ -221,6 +222,64 @@ check-events-exactly limit e es xs k p =
     let x = first-exactly k p (eventCheckRows limit e es xs) in
     let q = check-events-rows limit e es xs in
     (λ h. x .0 (sym q ∙ h), λ h. q ∙ x .1 h)
+
+-- a last step that gives its number m in the place of 0 alone: m is given exactly where the step before it gives 0 and this one holds, every other number as before it
+module _ (n m : ℕ) (b : Bool) (own : n ≡ m → ⊥) (some : 0 < m) where
+  last-own : (orElse n (cond b 0 m) ≡ m → (n ≡ 0) × (b ≡ false)) × ((n ≡ 0) × (b ≡ false) → orElse n (cond b 0 m) ≡ m)
+  last-own = (λ h. by (eqb n 0) b refl refl h, λ w. rw (eq-eqb n 0 (w .0), w .1) refl)
+    where
+      by : (t u : Bool) → eqb n 0 ≡ t → b ≡ u → cond t (cond u 0 m) n ≡ m → (n ≡ 0) × (u ≡ false)
+      by true true p q h = absurd (omega (arith, h, some))
+      by true false p q h = (eqb-true n 0 p, refl)
+      by false u p q h = absurd (own h)
+
+  last-other : (k : ℕ) → 0 < k → (m ≡ k → ⊥) → (orElse n (cond b 0 m) ≡ k → n ≡ k) × (n ≡ k → orElse n (cond b 0 m) ≡ k)
+  last-other k p d = (λ h. by (eqb n 0) b h, λ h. rw (ne-eqb n 0 (λ z. omega (arith, p, h, z))) h)
+    where
+      by : (t u : Bool) → cond t (cond u 0 m) n ≡ k → n ≡ k
+      by true true h = absurd (omega (arith, p, h))
+      by true false h = absurd (d h)
+      by false u h = h
+
+module _ (limit e : ℕ) (es : List Event) (xs : List ℕ) where
+  never : (m : ℕ) → isIn m eventCheckNumbers ≡ false → checkEvents limit editions e es xs ≡ m → ⊥
+  never m h = not-in eventCheckNumbers m (checkEvents limit editions e es xs) h (check-events-in limit editions e es xs)
+
+  -- `ollskuvan_check_events`: 44 exactly where the record is sound and its name has stale bytes; every other number exactly by its row
+  pub check-events-44 : (recordCheckEvents limit editions e es xs .answer ≡ 44 → (checkEvents limit editions e es xs ≡ 0) × (flagOf (layoutFor (known editions e) es xs) xs ≡ 0 → ⊥))
+      × ((checkEvents limit editions e es xs ≡ 0) × (flagOf (layoutFor (known editions e) es xs) xs ≡ 0 → ⊥) → recordCheckEvents limit editions e es xs .answer ≡ 44)
+  unfolding recordCheckEvents
+  check-events-44 =
+      let f : ℕ = flagOf (layoutFor (known editions e) es xs) xs in
+      let w = last-own (checkEvents limit editions e es xs) 44 (eqb f 0) (never 44 refl) (omega arith) in
+      (λ h. (w .0 h .0, eqb-false f 0 (w .0 h .1)), λ h. w .1 (h .0, ne-eqb f 0 (h .1)))
+
+  pub record-check-events-exactly : (k : ℕ) → 0 < k → (44 ≡ k → ⊥)
+      → (recordCheckEvents limit editions e es xs .answer ≡ k → foremost k (eventCheckRows limit e es xs) ≡ true)
+      × (foremost k (eventCheckRows limit e es xs) ≡ true → recordCheckEvents limit editions e es xs .answer ≡ k)
+  unfolding recordCheckEvents
+  record-check-events-exactly k p d =
+      let w = last-other (checkEvents limit editions e es xs) 44 (eqb (flagOf (layoutFor (known editions e) es xs) xs) 0) (never 44 refl) (omega arith) k p d in
+      let x = check-events-exactly limit e es xs k p in
+      (λ h. x .0 (w .0 h), λ h. w .1 (x .1 h))
+
+  -- `ollskuvan_read_events`: 40 exactly where the record is sound and fewer than 56 words are lent; every other number exactly by its row
+  module _ (words : List ℕ) where
+    pub read-events-40 : (readEvents limit editions e es xs words .answer ≡ 40 → (checkEvents limit editions e es xs ≡ 0) × (length words < 56))
+        × ((checkEvents limit editions e es xs ≡ 0) × (length words < 56) → readEvents limit editions e es xs words .answer ≡ 40)
+    unfolding readEvents
+    read-events-40 =
+        let w = last-own (checkEvents limit editions e es xs) 40 (leb valueWords (length words)) (never 40 refl) (omega arith) in
+        (λ h. (w .0 h .0, leb-false valueWords (length words) (w .0 h .1)), λ h. w .1 (h .0, lt-leb valueWords (length words) (h .1)))
+
+    pub read-events-exactly : (k : ℕ) → 0 < k → (40 ≡ k → ⊥)
+        → (readEvents limit editions e es xs words .answer ≡ k → foremost k (eventCheckRows limit e es xs) ≡ true)
+        × (foremost k (eventCheckRows limit e es xs) ≡ true → readEvents limit editions e es xs words .answer ≡ k)
+    unfolding readEvents
+    read-events-exactly k p d =
+        let w = last-other (checkEvents limit editions e es xs) 40 (leb valueWords (length words)) (never 40 refl) (omega arith) k p d in
+        let x = check-events-exactly limit e es xs k p in
+        (λ h. x .0 (w .0 h), λ h. w .1 (x .1 h))
 
 -- ---- demand 3, over any table of editions that rises: the answer that record check and the reader of words share
 
@@ -313,3 +372,105 @@ pub words-unchanged : (limit : ℕ) (rows : List Known) (e : ℕ) (es : List Eve
     → readEventsWords limit rows e es xs words ≡ words
 unfolding readEventsWords
 words-unchanged limit rows e es xs words h = simp (ne-eqb (readEvents limit rows e es xs words .answer) 0 h)
+
+-- ---- demand 3 as C calls it: 44 of record check and 40 of the reader of words stand in the place of 0 alone, and say nothing of what an edition knows
+
+-- what is looked at is one record by its header, under a table that is sound
+asked-parts : (t l s d : Bool) → eqb (cond (not t) 11 (cond l (cond s (cond d 0 7) 6) 7)) 0 ≡ true → (t ≡ true) × ((l && (s && d)) ≡ true)
+asked-parts false l s d h = absurd (apart h)
+asked-parts true false s d h = absurd (apart h)
+asked-parts true true false d h = absurd (apart h)
+asked-parts true true true false h = absurd (apart h)
+asked-parts true true true true h = (refl, refl)
+
+module _ (limit : ℕ) (rows : List Known) (up : rising rows ≡ true) (e₁ e₂ : ℕ) (order : e₁ ≤ e₂) (is₁ : allowed rows e₁ ≡ true) (is₂ : allowed rows e₂ ≡ true)
+    (es : List Event) (ws : EventWords es) (xs : List ℕ) where
+  -- does something on which the record's reading depends lie outside what the older edition knows? What is no record, or under no table, depends on nothing
+  abbrev pub recordOutside : Bool
+  recordOutside = sound limit es && (framed xs && outside (known rows e₁) (eventDepends es xs))
+
+  shared-fair : Fair (checkEvents limit rows e₁ es xs) (checkEvents limit rows e₂ es xs) recordOutside
+  shared-fair = check-events-fair limit rows up e₁ e₂ order is₁ is₂ es ws xs
+
+  same-unasked : unasked limit rows e₁ es xs ≡ unasked limit rows e₂ es xs
+  unfolding unasked
+  same-unasked = rw (is₁, is₂) refl
+
+  -- where nothing does, the number inspected is the same
+  same-inspected : recordOutside ≡ false → checkInspected limit rows e₁ es xs ≡ checkInspected limit rows e₂ es xs
+  unfolding checkInspected unasked first
+  same-inspected o =
+      by (eqb (unasked limit rows e₁ es xs) 0) refl
+      ∙ ap (λ (n : ℕ). cond (eqb n 0) (inspected (known rows e₂) es xs) 0) same-unasked
+    where
+      near : eqb (unasked limit rows e₁ es xs) 0 ≡ true → outside (known rows e₁) (eventDepends es xs) ≡ false
+      near q =
+          let w = asked-parts (sound limit es) (leb 8 (length xs)) (leb 8 (sizeOf xs) && eqb (sizeOf xs % 8) 0) (eqb (sizeOf xs) (length xs)) (rw is₁ at q) in
+          rw (w .0, w .1) at o
+
+      by : (b : Bool) → eqb (unasked limit rows e₁ es xs) 0 ≡ b → cond b (inspected (known rows e₁) es xs) 0 ≡ cond b (inspected (known rows e₂) es xs) 0
+      by true q = inspected-alike rows up e₁ e₂ order is₂ es xs (near q)
+      by false q = refl
+
+  -- the flag is the same in both (M-107)
+  same-event-flag : flagOf (layoutFor (known rows e₁) es xs) xs ≡ flagOf (layoutFor (known rows e₂) es xs) xs
+  unfolding flagOf layout
+  same-event-flag = refl
+
+  -- `ollskuvan_check_events`: the answers, 44 among them, are fair
+  pub record-check-events-fair : Fair (recordCheckEvents limit rows e₁ es xs .answer) (recordCheckEvents limit rows e₂ es xs .answer) recordOutside
+  unfolding recordCheckEvents isUnknown
+  record-check-events-fair =
+      let stale : ℕ = cond (eqb (flagOf (layoutFor (known rows e₁) es xs) xs) 0) 0 44 in
+      subst (λ (n : ℕ). Fair (orElse (checkEvents limit rows e₁ es xs) stale) (orElse (checkEvents limit rows e₂ es xs) (cond (eqb n 0) 0 44)) recordOutside) same-event-flag
+      (last-fair (checkEvents limit rows e₁ es xs) (checkEvents limit rows e₂ es xs) stale recordOutside (known-of (eqb (flagOf (layoutFor (known rows e₁) es xs) xs) 0) 44 refl) shared-fair)
+
+  -- and where nothing lies outside all that is told is the same, the number inspected too
+  pub record-check-events-alike : recordOutside ≡ false → recordCheckEvents limit rows e₁ es xs ≡ recordCheckEvents limit rows e₂ es xs
+  unfolding recordCheckEvents
+  record-check-events-alike o = ap₂ judged (record-check-events-fair .alike o) (same-inspected o)
+
+  -- `ollskuvan_read_events`: the answers, 40 among them, are fair; where nothing lies outside all that is told is the same, and the words are
+  module _ (words : List ℕ) where
+    pub read-events-fair : Fair (readEvents limit rows e₁ es xs words .answer) (readEvents limit rows e₂ es xs words .answer) recordOutside
+    unfolding readEvents isUnknown
+    read-events-fair =
+        last-fair (checkEvents limit rows e₁ es xs) (checkEvents limit rows e₂ es xs) (cond (leb valueWords (length words)) 0 40) recordOutside
+        (known-of (leb valueWords (length words)) 40 refl) shared-fair
+
+    pub read-events-alike : recordOutside ≡ false
+        → (readEvents limit rows e₁ es xs words ≡ readEvents limit rows e₂ es xs words) × (readEventsWords limit rows e₁ es xs words ≡ readEventsWords limit rows e₂ es xs words)
+    unfolding readEvents readEventsWords recordWords layout
+    read-events-alike o =
+        let n = read-events-fair .alike o in
+        (ap₂ judged n (same-inspected o), ap (λ (m : ℕ). cond (eqb m 0) (put words 0 (recordWords (layoutFor (known rows e₁) es xs) xs)) words) n)
+
+    -- where something does, the older edition leaves the words as they were
+    pub read-events-unknown : recordOutside ≡ true → readEventsWords limit rows e₁ es xs words ≡ words
+    unfolding isUnknown
+    read-events-unknown o =
+        words-unchanged limit rows e₁ es xs words (λ z. apart (ap isUnknown (sym z) ∙ read-events-fair .exact ∙ o))
+
+-- ---- "two of the editions that 01 lists"
+module _ (limit e₁ e₂ : ℕ) (order : e₁ ≤ e₂) (is₁ : allowed editions e₁ ≡ true) (is₂ : allowed editions e₂ ≡ true) (es : List Event) (ws : EventWords es) (xs : List ℕ) where
+  abbrev out : Bool
+  out = sound limit es && (framed xs && outside (known editions e₁) (eventDepends es xs))
+
+  pub older-record-check-events : Fair (recordCheckEvents limit editions e₁ es xs .answer) (recordCheckEvents limit editions e₂ es xs .answer) out
+      × (out ≡ false → recordCheckEvents limit editions e₁ es xs ≡ recordCheckEvents limit editions e₂ es xs)
+  older-record-check-events = (
+    record-check-events-fair limit editions editions-rise e₁ e₂ order is₁ is₂ es ws xs,
+    record-check-events-alike limit editions editions-rise e₁ e₂ order is₁ is₂ es ws xs,
+  )
+
+  pub older-read-events : (words : List ℕ)
+      → Fair (readEvents limit editions e₁ es xs words .answer) (readEvents limit editions e₂ es xs words .answer) out
+      × (out ≡ false
+      → (readEvents limit editions e₁ es xs words ≡ readEvents limit editions e₂ es xs words)
+      × (readEventsWords limit editions e₁ es xs words ≡ readEventsWords limit editions e₂ es xs words))
+      × (out ≡ true → readEventsWords limit editions e₁ es xs words ≡ words)
+  older-read-events words = (
+    read-events-fair limit editions editions-rise e₁ e₂ order is₁ is₂ es ws xs words,
+    read-events-alike limit editions editions-rise e₁ e₂ order is₁ is₂ es ws xs words,
+    read-events-unknown limit editions editions-rise e₁ e₂ order is₁ is₂ es ws xs words,
+  )

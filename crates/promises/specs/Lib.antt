@@ -8,10 +8,18 @@ pub mod Backward
 pub mod Header
 pub mod Demand2
 pub mod Exported
+pub mod EventReads
+pub mod Called
+pub mod CalledFair
+pub mod Exactly
+pub mod EventScratch
+pub mod Reread
+pub mod WalkAgain
+pub mod EachReader
 pub mod Demand3
-pub mod Unique
 pub mod Counts
 pub mod Events
+pub mod Answers
 pub mod EventExamples
 pub mod Inspected
 pub mod Series
@@ -22,3 +30,4 @@ pub mod Replay
 pub mod Salvage
 pub mod SalvageExamples
 pub mod Compared
+pub mod CompareScratch

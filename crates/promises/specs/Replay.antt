@@ -167,7 +167,7 @@ module _ (limit : ℕ) (rows : List Known) (e : ℕ) (es : List Event) where
       pub told-end : told end .«offered_bytes» ≡ told end .«drained_bytes» + told end .«dropped_bytes» + told end .«held_bytes»
       told-end = subst (λ (p : Played). told p .«offered_bytes» ≡ told p .«drained_bytes» + told p .«dropped_bytes» + told p .«held_bytes») (sym after-all) (told-at (length xs) .0)
 
-      -- "What the ring held before does not show": nor what the scratch held
+      -- what the ring held before does not show, nor what the scratch held
       pub unseen : (other : List ℕ) → length other ≡ length rooms → (n : ℕ)
           → Same (after n) (play ofStore asked judge xs n 0 (bench (take (half (length other)) other) count (drop (half (length other)) other) journal))
       unseen other l n =

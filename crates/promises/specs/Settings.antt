@@ -12,7 +12,7 @@ use Rattle.meaning.specs.Editions.{editions, allowed, isIn}
 use Rattle.meaning.specs.Events.{attributesOf, identifiers, eventsOf, allMarked}
 use Rattle.laws.specs.Rows.{gives, before, Passed}
 use Rattle.laws.specs.Lookup.{rows-length as table-length}
-use Rattle.events.specs.Sound.{sound-limit}
+use Rattle.event_laws.specs.Sound.{sound-limit}
 use Rattle.settings.specs.declared.Settings.{Settings}
 use Rattle.settings.specs.declared.Version.{Version}
 use Rattle.settings.specs.Versions.{one, versions, versionOf, isKnown}

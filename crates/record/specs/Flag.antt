@@ -13,13 +13,12 @@ use Rattle.meaning.specs.Schema.{schema, trailer}
 use Rattle.meaning.specs.Records.{room, origin, kindOf, miscOf, fieldsOf, flagBy}
 use Rattle.meaning.specs.Values.{width, flagWords, bodyWords, valueWords}
 use Rattle.laws.specs.Answers.{fields-zero}
-use Rattle.laws.specs.Put.{put-nil}
+use Rattle.laws.specs.Put.{put-nil, put-one}
 use Rattle.laws.specs.Whole.{nameless}
 use Rattle.laws.specs.Told.{fields-few}
 use Rattle.laws.specs.Stale.{fields-dirty}
 use Rattle.table.specs.Flags.{flagAt, flag-none, flag-some}
 use Rattle.record.specs.Into.{Accepted, nameDirty, recordFlag}
-use Rattle.record.specs.Lent.{put-one}
 
 module _ (a : Attributes) (xs : List ℕ) (kind : ℕ) (g : Accepted a xs kind) where
   abbrev trail : ℕ

@@ -4,9 +4,8 @@ use mathlib.Core.Path.{_≡_, refl, sym, ap, ap₂, _∙_, subst}
 use mathlib.Core.Bool.{cond}
 use mathlib.Core.List.{List, [], _∷_, _++_}
 use Prim.Native.Nat.{ℕ, _+_, _-_, _<_, _≤_}
-use native.Mathlib.Nat.{add-zero}
 use native.Mathlib.Omega.{arith}
-use lib.ListN.{length, take, set}
+use lib.ListN.{length, take}
 use lib.Dec.{eqb}
 use borrow.Author.Tests.{le-leb, lt-leb, eq-eqb, ne-eqb}
 use Rattle.meaning.specs.declared.Attributes.{Attributes}
@@ -23,7 +22,7 @@ use Rattle.meaning.specs.Values.{width, flagWords, bodyWords, trailWords, value
 use Rattle.laws.specs.Fixed.{fixed-run}
 use Rattle.laws.specs.Answers.{fields-zero}
 use Rattle.laws.specs.Every.{trailer-fixed}
-use Rattle.laws.specs.Put.{put-nil, put-snoc, put-put}
+use Rattle.laws.specs.Put.{put-put}
 use Rattle.laws.specs.Told.{words-length, flag-length, fields-few}
 use Rattle.record.specs.Into.{readIntoAnswer, readIntoWords, recordFlag}
 
@@ -75,18 +74,6 @@ module _ (ks : List Known) (e : ℕ) (a : Attributes) (xs : List ℕ) where
       into-filled filled out z h ef eo =
           let q : 0 ≡ readIntoAnswer ks e a xs ws = rw (sym ea, eq-eqb answer 0 z, le-leb valueWords (length ws) h) refl in
           (q, eo ∙ ap (put ws 0) (ef ∙ words-of) ∙ words-by 0 q)
-
--- ---- one word, and two
-
-module _ (d : List ℕ) (at : ℕ) where
-  pub put-one : (v : ℕ) → at < length d → set d at v ≡ put d at (v ∷ [])
-  put-one v h =
-      ap (λ (l : List ℕ). set l at v) (sym (put-nil d at (omega arith)))
-      ∙ ap (λ (n : ℕ). set (put d at []) n v) (sym (add-zero at))
-      ∙ put-snoc d at [] v (omega arith)
-
-  pub put-two : (v w : ℕ) → at + 1 < length d → set (set d at v) (at + 1) w ≡ put d at (v ∷ w ∷ [])
-  put-two v w h = ap (λ (l : List ℕ). set l (at + 1) w) (put-one v (omega arith)) ∙ put-snoc d at (v ∷ []) w h
 
 -- ---- an accepted record
 

@@ -140,7 +140,7 @@ module _ (ofStore : Entry → Bool) (judge : List ℕ → ℕ) (xs lent : List �
           let f = eqb-true (faultAt ofStore xs at) 0 e in
           next (alike-effect (entryAt xs at) b c a hb hc) (holds-effect ofStore (asking true) judge xs lent at b f hb) (holds-effect ofStore (asking true) judge xs lent at c f hc)
 
--- "What the ring held before does not show": after n entries head, tail, journal, history, place and answer are the same over any two rings of one length
+-- What the ring held before does not show: after n entries head, tail, journal, history, place and answer are the same over any two rings of one length
 pub ring-unseen : (ofStore : Entry → Bool) (judge : List ℕ → ℕ) (xs ring other : List ℕ) (count : ℕ) (scratch beside lent : List ℕ)
     → length ring ≡ length other → lengthAllowed (length ring) ≡ true → count < 2 ^ 64 → count % 8 ≡ 0
     → length ring ≤ length scratch → length other ≤ length beside → (n : ℕ)

@@ -83,8 +83,8 @@ fn take_within(
     gather_within(rooms, h, place, size);
     let w = &rooms[..];
     let r = ring::shown(&w[..h], &w[h..], f);
-    let answer = events::judge(r, e, rows);
-    drain::enter(r, answer as u64, tail, journal, at);
+    let answer = event_judge::judge(r, e, rows);
+    journals::enter(r, answer as u64, tail, journal, at);
 }
 
 // The plain loop with a table of events, as `event_drain` has it; edition and table passed before any entry.

@@ -1,4 +1,4 @@
-// What an edition knows, and the refusals 20 to 25, one Bool each, in the order of document 01's table.
+// What an edition knows, and the refusals 20 to 25, one Bool each, in document 01's order, with M-102's 25 between 23 and 24.
 ghost use mathlib.Core.Path.{_≡_};
 ghost use mathlib.Core.Bool.{_&&_, _||_, cond, not};
 ghost use Prim.Native.Nat.{_^_};

@@ -1,5 +1,5 @@
-// The salvage of a damaged stream (M-111): what it tells, and in specs/ what it keeps and lists, with theorems for any judge. Its code is
-// crate salvaging.
+// The salvage of a damaged stream (M-111): what it tells, and in specs/ what it keeps and lists, with theorems for any judge. Its code is in
+// salvage_kept, salvage_steps and salvaging.
 
 // Where a salvage stands: the place, the start of the hole that ends there (the place itself where none does), the bytes kept and
 // the holes closed so far.

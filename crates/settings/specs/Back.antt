@@ -22,7 +22,7 @@ use Rattle.entries.specs.Numbers.{ends-by}
 use Rattle.entries.specs.Laws.{entry-length, written}
 use Rattle.meaning.specs.declared.Attributes.{Attributes}
 use Rattle.meaning.specs.Events.{attributesOf, identifiers, eventOf, eventsOf, distinct, marked, allMarked, sound}
-use Rattle.events.specs.Sound.{sound-limit}
+use Rattle.event_laws.specs.Sound.{sound-limit}
 use Rattle.settings.specs.declared.Version.{Version}
 use Rattle.settings.specs.declared.Settings.{Settings}
 use Rattle.settings.specs.Versions.{versionOf, isKnown, placeOf}

@@ -1,5 +1,5 @@
--- Document 01's tables once more, written from 01 in plain numbers: places, bytes, bits, limits, edges. Nothing of `meaning` is used here, so that a
--- slip in one statement is seen by the other (Compared.antt). Assumes nothing: these are definitions.
+-- Document 01's tables once more, with what M-102 and M-110 add to them, written from the two papers in plain numbers: places, bytes, bits, limits,
+-- edges. Nothing of `meaning` is used here, so that a slip in one statement is seen by the other (Compared.antt). Assumes nothing: these are definitions.
 use Prim.Native.Nat.{ℕ, zero, suc, _+_, _*_}
 use mathlib.Core.Bool.{Bool, true, false, cond}
 use mathlib.Core.List.{List, [], _∷_, _++_}
@@ -26,7 +26,8 @@ among x (y ∷ ys) = cond (eqb x y) true (among x ys)
 abbrev pub word : ℕ → List ℕ
 word x = x ∷ 0 ∷ 0 ∷ 0 ∷ 0 ∷ 0 ∷ 0 ∷ 0 ∷ []
 
--- ---- editions: the last sample bit, the last type, the last read-format bit, is the build-id form known, and the branch sample bits that are
+-- ---- editions: the last sample bit, the last type, the last read-format bit, is the build-id form known, and (M-102) the branch sample bits that
+-- are; edition 4 is M-110's
 
 pub record Limits : Type 0 where
   pub edition : ℕ

@@ -275,6 +275,9 @@ orders =
     ∷ (3, flaggedWords 0 0, 23, 40)
     ∷ (3, flaggedWords 0 2, 24, 43)
     ∷ (3, flaggedWords 0 0, 24, 0)
+    -- 41 before 42, and 42 before 40
+    ∷ (3, 19 ∷ 0 ∷ 24 ∷ 5 ∷ 6 ∷ 3 ∷ 0 ∷ 9 ∷ filled 48 [], 24, 41)
+    ∷ (3, 19 ∷ 0 ∷ 24 ∷ 5 ∷ 0 ∷ 3 ∷ 0 ∷ 9 ∷ filled 48 [], 23, 42)
     ∷ []
 
 -- ---- what a row says
@@ -389,7 +392,7 @@ lostCounts =
 abbrev pub buildIds : List Judged
 buildIds = buildId 0 0 ∷ buildId 19 0 ∷ buildId 20 0 ∷ buildId 21 32 ∷ buildId 255 32 ∷ []
 
--- a register for each of 64 bits of the mask: abi 1 and one register, or two under two bits
+-- abi 1 and one register: it is tried under each of the 64 bits of a mask (Compared, registers-same)
 abbrev pub oneRegister : List ℕ
 oneRegister = 9 ∷ 0 ∷ 0 ∷ 0 ∷ 0 ∷ 0 ∷ 24 ∷ 0 ∷ (word 1 ++ word 7)
 
@@ -462,6 +465,12 @@ stops =
     ∷ stop 1 24 24 0 1 16 0 go
     ∷ stop 1 24 16 (2 ^ 64 - 8) 1 16 23 3
     ∷ stop 1 24 16 (2 ^ 64 - 8) 1 16 24 go
+    -- two rows at once: 2 before 4, 4 before 5, 9 before 6, 6 before 7, 7 before 3
+    ∷ stop 0 8 72 0 1 16 0 2
+    ∷ stop 1 8 76 0 1 16 0 4
+    ∷ stop 1 0 8 0 1 15 0 9
+    ∷ stop 1 12 8 0 1 16 0 6
+    ∷ stop 1 32 16 (2 ^ 64 - 8) 1 16 0 7
     ∷ []
 
 -- ---- the copier of names: a record of 8 bytes, place, count, room; the answer, and the buffer of nines at exit

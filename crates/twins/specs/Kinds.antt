@@ -26,7 +26,8 @@ use Rattle.blocks.specs.Seen.{walk-append}
 use Rattle.blocks.specs.Steady.{oneWidth, widthOf, steady, total, steady-in}
 use Rattle.blocks.specs.Blocks.{count-in, times-in, goes}
 use Rattle.twins.specs.Twins.{Twins}
-use Rattle.twins.specs.Same.{sameSpan, sameButFour, aroundRes, nameSame, buildSame, textSame, nameAt, beforeRes, bodySame, trailBits}
+use Rattle.same_parts.specs.Parts.{sameSpan, sameButFour, aroundRes, nameSame, buildSame, textSame, nameAt, beforeRes, bodySame}
+use Rattle.twins.specs.Same.{trailBits}
 use Rattle.twins.specs.Pieces.{read-ignored, read-pad, read-listed, abreast-take, abreast-all, span-abreast, twins-one, twins-append, twins-all, twins-within, front-is, after-fine, front-twins, twins-around, twins-name}
 
 twice : (b : Bool) → cond b 4 0 + cond b 4 0 ≡ cond b 8 0

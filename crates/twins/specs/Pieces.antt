@@ -26,7 +26,7 @@ use Rattle.blocks.specs.Steady.{steady, total, steady-in, steady-out}
 use Rattle.compare.specs.Compared.{sameBytes}
 use Rattle.compare.specs.Pairs.{same-bytes}
 use Rattle.twins.specs.Twins.{Abreast, Read, Twins}
-use Rattle.twins.specs.Same.{sameSpan, sameButFour, nameSame}
+use Rattle.same_parts.specs.Parts.{sameSpan, sameButFour, nameSame}
 
 -- ---- an item of both
 

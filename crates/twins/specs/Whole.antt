@@ -19,7 +19,8 @@ use Rattle.laws.specs.Every.{trailer-fixed}
 use Rattle.laws.specs.Fixed.{fixed-run}
 use Rattle.record.specs.Into.{orDirty, recordFlag, nameDirty}
 use Rattle.twins.specs.Twins.{Twins, Beside, Like}
-use Rattle.twins.specs.Same.{aroundRes, bodySame, trailBits, sameBut}
+use Rattle.same_parts.specs.Parts.{aroundRes, bodySame}
+use Rattle.twins.specs.Same.{trailBits, sameBut}
 use Rattle.twins.specs.Kinds.{body-twins, trail-twins}
 
 -- its flag, by record check's 44

@@ -85,6 +85,11 @@ tried-join is js {src} {ws} {w} {c} {c₁} {c₂} t u = record {
     go e f ks true h = t .misfits e h (js ++ ks)
     go e f ks false h = t .fits h (js ++ ks) ∙ u .misfits h f ks
 
+-- two pieces whose lists their facts have
+pub tried-then : {is js : List Item} {src ws : List ℕ} {w : ℕ} {c c₁ c₂ : Walked} → Tried is src ws w c c₁ → Tried js src ws (w + width is) c₁ c₂
+    → Tried (is ++ js) src ws w c c₂
+tried-then {is} {js} t u = tried-join is js t u
+
 -- of equal lists
 pub tried-as : {is js : List Item} {src ws : List ℕ} {w : ℕ} {c c′ : Walked} → is ≡ js → Tried is src ws w c c′ → Tried js src ws w c c′
 tried-as {is} {js} {src} {ws} {w} {c} {c′} e t = subst (λ (l : List Item). Tried l src ws w c c′) e t

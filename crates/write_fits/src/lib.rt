@@ -76,18 +76,6 @@ fn none(c: Walked, v: u64) -> Walked
 
 // ---- numbers
 
-// The largest number of a width.
-fn largest(width: Width) -> u64
-    ensures { λ r. ⌜ r ≡ top (bytes width) ⌝ }
-{
-    match width {
-        Width::W1 => 255,
-        Width::W2 => 65535,
-        Width::W4 => 4294967295,
-        Width::W8 => 18446744073709551615,
-    }
-}
-
 pub fn number(ws: &[u64], source: &[u8], c: Walked, on: bool, w: usize, width: Width) -> Walked
     requires { ⌜ (c .at ≤ 65535) × (w + 2 ≤ length (now ws)) ⌝ }
     ensures { λ r. ⌜ Tried (item on (Number width) ∷ []) (now (source .entry)) (now (ws .entry)) w c r ⌝ }
@@ -96,7 +84,11 @@ pub fn number(ws: &[u64], source: &[u8], c: Walked, on: bool, w: usize, width: W
     if !on {
         return none(c, v);
     }
-    over(c, v <= largest(width), fields::width_of(width))
+    over(
+        c,
+        v <= writer_forms::largest(width),
+        fields::width_of(width),
+    )
 }
 
 // A count leaves the one before it remembered too: TEXT_POKE has two before its two texts.
@@ -110,7 +102,7 @@ pub fn count(ws: &[u64], source: &[u8], c: Walked, on: bool, w: usize, width: Wi
     }
     past(
         c,
-        v <= largest(width),
+        v <= writer_forms::largest(width),
         fields::width_of(width),
         v,
         c.n,
@@ -132,7 +124,7 @@ pub fn size(ws: &[u64], source: &[u8], c: Walked, on: bool, w: usize, width: Wid
     let over = (v % 8 + k as u64) % 8;
     past(
         c,
-        (v <= largest(width)) & (over == 0),
+        (v <= writer_forms::largest(width)) & (over == 0),
         k,
         v,
         c.old,
@@ -153,16 +145,6 @@ pub fn limit(ws: &[u64], source: &[u8], c: Walked, on: bool, w: usize) -> Walked
     past(c, v <= 20, 1, v, c.old, v, c.before)
 }
 
-// "If the abi is 0, none follow"; else as many registers as the mask has ones.
-pub fn registers_by(abi: u64, mask: u64) -> u64
-    ensures { λ r. ⌜ r ≡ cond (eqb abi 0) 0 (ones 64 mask) ⌝ }
-{
-    if abi == 0 {
-        return 0;
-    }
-    wire::count_ones(mask) as u64
-}
-
 pub fn abi(ws: &[u64], source: &[u8], c: Walked, on: bool, w: usize, mask: u64) -> Walked
     requires { ⌜ (c .at ≤ 65535) × (w + 2 ≤ length (now ws)) ⌝ }
     ensures { λ r. ⌜ Tried (item on (Abi mask) ∷ []) (now (source .entry)) (now (ws .entry)) w c r ⌝ }
@@ -173,9 +155,9 @@ pub fn abi(ws: &[u64], source: &[u8], c: Walked, on: bool, w: usize, mask: u64) 
     }
     past(
         c,
-        v <= largest(Width::W8),
+        v <= writer_forms::largest(Width::W8),
         8,
-        registers_by(v, mask),
+        fills::registers_by(v, mask),
         c.old,
         c.told,
         c.before,
@@ -255,24 +237,12 @@ pub fn times(ws: &[u64], source: &[u8], c: Walked, on: bool, w: usize, k: usize)
     list(c, source.len(), ws[w], c.told, c.n, k, 0)
 }
 
-// The bytes of a group's entry: value, id and lost count, of 8 bytes each.
-pub fn group_bytes(f: u64) -> usize
-    ensures { λ r. ⌜ (r ≡ groupBytes f) × (1 ≤ r) × (r ≤ 4096) ⌝ }
-{
-    let ids = wire::has_bit(f, 2);
-    let lost = wire::has_bit(f, 4);
-    if ids {
-        return if lost { 24 } else { 16 };
-    }
-    if lost { 16 } else { 8 }
-}
-
 // The entries of a group, by the read format.
 pub fn values(ws: &[u64], source: &[u8], c: Walked, on: bool, w: usize, f: u64) -> Walked
     requires { ⌜ (c .at ≤ 65535) × (w + 2 ≤ length (now ws)) ⌝ }
     ensures { λ r. ⌜ Tried (item on (Times (groupBytes f)) ∷ []) (now (source .entry)) (now (ws .entry)) w c r ⌝ }
 {
-    times(ws, source, c, on, w, group_bytes(f))
+    times(ws, source, c, on, w, fills::group_bytes(f))
 }
 
 // As many bytes as the count before the last one says.
@@ -298,12 +268,6 @@ pub fn registers(ws: &[u64], source: &[u8], c: Walked, on: bool, w: usize) -> Wa
     list(c, source.len(), ws[w], count, c.n, 8, 0)
 }
 
-fn smaller(x: u64, y: u64) -> u64
-    ensures { λ r. ⌜ (r ≡ x - (x - y)) × (r ≤ x) ⌝ }
-{
-    if x < y { x } else { y }
-}
-
 // The bytes of a build id, as many as its size word says, and zero bytes up to twenty.
 pub fn listed(ws: &[u64], source: &[u8], c: Walked, on: bool, w: usize) -> Walked
     requires { ⌜ (c .at ≤ 65535) × (w + 2 ≤ length (now ws)) ⌝ }
@@ -312,7 +276,7 @@ pub fn listed(ws: &[u64], source: &[u8], c: Walked, on: bool, w: usize) -> Walke
     if !on {
         return c;
     }
-    let want = smaller(20, c.n);
+    let want = writer_forms::smaller(20, c.n);
     list(c, source.len(), ws[w], c.told, want, 1, 20 - want as usize)
 }
 
@@ -329,12 +293,6 @@ pub fn bytes(ws: &[u64], source: &[u8], c: Walked, on: bool, w: usize) -> Walked
 }
 
 // ---- names
-
-fn no_zero(s: &[u8]) -> bool
-    ensures { λ r. ⌜ r ≡ nonzero (now (s .entry)) ⌝ }
-{
-    fields::zero_from(s, 0) == s.len()
-}
 
 // A name has no zero in it; its zero, and zero bytes up to the next multiple of 8, follow it.
 pub fn name(ws: &[u64], source: &[u8], c: Walked, on: bool, w: usize) -> Walked
@@ -355,6 +313,6 @@ pub fn name(ws: &[u64], source: &[u8], c: Walked, on: bool, w: usize) -> Walked
         return refuse(c);
     }
     let at = c.at;
-    let fits = no_zero(&source[from..from + many]);
+    let fits = writer_items::no_zero(&source[from..from + many]);
     over(c, fits, many + (8 - (at + many) % 8))
 }

@@ -2,19 +2,12 @@
 use mathlib.Core.Path.{_≡_, refl, sym, ap, ap₂, _∙_}
 use mathlib.Core.List.{List, [], _∷_, _++_, append-assoc}
 use Prim.Native.Nat.{ℕ, _+_, _-_, _/_, _%_, _≤_, _<_}
-use native.Mathlib.Nat.{add-zero}
 use native.Mathlib.Omega.{arith}
 use lib.ListN.{length, take, drop, set, length-append, length-drop}
 use lib.Seq.{length-take-le}
 use Rattle.meaning.specs.Bytes.{spell, put}
 use Rattle.laws.specs.Bytes.{length-spell}
-use Rattle.laws.specs.Put.{put-nil, put-snoc, put-put}
-
-put-one : (d : List ℕ) (at v : ℕ) → at < length d → set d at v ≡ put d at (v ∷ [])
-put-one d at v h =
-    ap (λ (l : List ℕ). set l at v) (sym (put-nil d at (omega arith)))
-    ∙ ap (λ (n : ℕ). set (put d at []) n v) (sym (add-zero at))
-    ∙ put-snoc d at [] v (omega arith)
+use Rattle.laws.specs.Put.{put-one, put-snoc, put-put}
 
 pub put-byte : (d : List ℕ) (at x : ℕ) → at + 1 ≤ length d → set d at (x % 256) ≡ put d at (spell 1 x)
 unfolding spell

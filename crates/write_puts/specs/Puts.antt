@@ -103,6 +103,11 @@ pub placed₁ : {on t : Bool} {sh : Shape} {is : List Item} {src ws : List ℕ} 
 placed₁ {on} {t} {sh} {is} {src} {ws} {w} {c} {c₁} {c₂} {b} {b₁} {b₂} e p q =
     placed-join is (item on sh ∷ []) p (subst (λ (x : Bool). Placed (item x sh ∷ []) src ws (w + width is) c₁ b₁ b₂ c₂) e q)
 
+-- two pieces whose lists their facts have
+pub placed-then : {is js : List Item} {src ws : List ℕ} {w : ℕ} {c c₁ c₂ : Walked} {b b₁ b₂ : List ℕ} → Placed is src ws w c b b₁ c₁
+    → Placed js src ws (w + width is) c₁ b₁ b₂ c₂ → Placed (is ++ js) src ws w c b b₂ c₂
+placed-then {is} {js} t u = placed-join is js t u
+
 -- all of them: the bytes, put where the state was
 pub all-placed : {is : List Item} {src ws : List ℕ} {w : ℕ} {c c′ : Walked} {b b′ : List ℕ} → Placed is src ws w c b b′ c′ → tryFrom src ws is w c .why ≡ 0
     → tryFrom src ws is w c .at ≤ length b → b′ ≡ put b (c .at) (writeFrom src ws is w c)

@@ -205,7 +205,7 @@ pub fn abi(
     store8(buffer, at, v);
     Walked {
         at: at + 8,
-        n: write_fits::registers_by(v, mask),
+        n: fills::registers_by(v, mask),
         old: c.old,
         told: c.told,
         before: c.before,
@@ -306,7 +306,7 @@ pub fn values(
     requires { ⌜ Ready (item on (Times (groupBytes f)) ∷ []) (now source) (now ws) w c (now buffer) × (w + 2 ≤ length (now ws)) ⌝ }
     ensures { λ r. ⌜ Placed (item on (Times (groupBytes f)) ∷ []) (now (source .entry)) (now (ws .entry)) w c (now (buffer .entry)) (now (buffer .exit)) r ⌝ }
 {
-    times(ws, source, c, on, w, buffer, write_fits::group_bytes(f))
+    times(ws, source, c, on, w, buffer, fills::group_bytes(f))
 }
 
 pub fn earlier(

@@ -1,6 +1,6 @@
 // An item at a place, as it is written.
 ghost use mathlib.Core.Path.{_≡_};
-ghost use Prim.Native.Nat.{_-_, _+_, _%_};
+ghost use Prim.Native.Nat.{_-_, _+_, _%_, _≤_};
 ghost use mathlib.Core.Bool.{cond};
 ghost use lib.Dec.{eqb};
 ghost use Rattle.meaning.specs.Bytes.{ones};
@@ -102,7 +102,7 @@ fn name(c: Cursor, count: u64) -> Form
 }
 
 // The largest number of a width.
-fn largest(w: Width) -> u64
+pub fn largest(w: Width) -> u64
     ensures { λ r. ⌜ r ≡ top (bytes w) ⌝ }
 {
     match w {
@@ -113,8 +113,8 @@ fn largest(w: Width) -> u64
     }
 }
 
-fn smaller(x: u64, y: u64) -> u64
-    ensures { λ r. ⌜ r ≡ x - (x - y) ⌝ }
+pub fn smaller(x: u64, y: u64) -> u64
+    ensures { λ r. ⌜ (r ≡ x - (x - y)) × (r ≤ x) ⌝ }
 {
     if x < y { x } else { y }
 }

@@ -49,7 +49,7 @@ pub fn beyond(source: &[u8], i: Item, s: Given) -> bool
     passes(source, f.list, f.unit, s.place, s.count)
 }
 
-fn no_zero(s: &[u8]) -> bool
+pub fn no_zero(s: &[u8]) -> bool
     ensures { λ r. ⌜ r ≡ nonzero (now (s .entry)) ⌝ }
 {
     fields::zero_from(s, 0) == s.len()

@@ -29,7 +29,7 @@ pub fn item_here(all: &[u16; table::ROWS], p: TypePart, k: usize) -> Item
     ensures { λ r. ⌜ r ≡ itemHere p k ⌝ }
 {
     let a = p.attributes;
-    table::item_of(a, p.misc, p.kind, table::row_at(all, k))
+    items::item_of(a, p.misc, p.kind, table::row_at(all, k))
 }
 
 pub fn body(attributes: Attributes, kind: u64, misc: u64) -> TypePart

@@ -4,7 +4,8 @@ use mathlib.Core.Path.{sym, ap}
 use Prim.Native.Nat.{ℕ}
 use Rattle.meaning.specs.Schema.{schema}
 use Rattle.fills.specs.Chains.{ready-as, filling-as}
-use Rattle.chains.proofs.Types.{no-type, nothing}
+use Rattle.layouts.specs.Types.{no-type}
+use Rattle.chains.proofs.Nothing.{nothing}
 use borrow.Author.Needs.{needs}
 use Rattle.chains.proofs.fields.Statement.{statement}
 use Rattle.chains.proofs.fields.Tie as tie

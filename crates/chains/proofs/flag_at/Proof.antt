@@ -3,7 +3,7 @@
 use mathlib.Core.Path.{sym, ap}
 use lib.ListN.{List·getD-eq-default}
 use Rattle.table.specs.Flags.{flags, flagAt}
-use Rattle.chains.proofs.Types.{above}
+use Rattle.layouts.specs.Types.{above}
 use Rattle.chains.proofs.flag_at.Statement.{statement}
 use Rattle.chains.proofs.flag_at.Tie as tie
 

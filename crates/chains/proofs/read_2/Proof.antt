@@ -4,7 +4,7 @@ use mathlib.Core.Path.{refl, ap, ap₂}
 use mathlib.Core.Bool.{not, _&&_, _||_}
 use mathlib.Core.List.{_++_}
 use Rattle.meaning.specs.Values.{tell, width}
-use Rattle.chains.specs.Lists as lists
+use Rattle.layouts.specs.Lists as lists
 use Rattle.fills.specs.Chains.{start, done, last, long, head, next, head₁, next₁}
 use borrow.Author.Needs.{needs}
 use Rattle.chains.proofs.read_2.Statement.{statement}

@@ -2,8 +2,8 @@
 use mathlib.Core.Path.{sym, ap, _∙_}
 use Prim.Native.Nat.{ℕ}
 use Rattle.fills.specs.Chains.{ready-as, filling-as}
-use Rattle.chains.specs.Lists as lists
-use Rattle.chains.proofs.Types.{trailer-is}
+use Rattle.layouts.specs.Lists as lists
+use Rattle.layouts.specs.Types.{trailer-is}
 use borrow.Author.Needs.{needs}
 use Rattle.chains.proofs.trail.Statement.{statement}
 use Rattle.chains.proofs.trail.Tie as tie

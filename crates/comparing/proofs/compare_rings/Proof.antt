@@ -23,9 +23,9 @@ use Rattle.runs.specs.Forward.{going-framed}
 use Rattle.compare.specs.Fields.{Reads, fields}
 use Rattle.compare.specs.Compared.{alike, agree, eventReads}
 use Rattle.compare.specs.Here.{Here, PairOf, here-start, here-ends, here-pair, here-same, ensured-same}
-use Rattle.comparing.specs.Inner.{Stands, toGo}
+use Rattle.pair_fields.specs.Inner.{Stands, toGo}
 use Rattle.compare.specs.Slices.{small-of}
-use Rattle.comparing.proofs.Fields.{stands-on, stands-ended, stands-other}
+use Rattle.pair_fields.specs.Fields.{stands-on, stands-ended, stands-other}
 use Rattle.comparing.proofs.compare_rings.Statement.{statement}
 use Rattle.comparing.proofs.compare_rings.Tie as tie
 

@@ -15,9 +15,10 @@ use Rattle.meaning.specs.Ring.{askingWith, frame, recordAt, shown}
 use Rattle.meaning.specs.Events.{eventsOf, inspected, judged, askedEvents, oneEventsFrame}
 use Rattle.laws.specs.Rings.{Going, frame-going, shown-record, going-length}
 use Rattle.laws.specs.Lookup.{rows-length}
-use Rattle.events.specs.Sound.{sound-limit}
+use Rattle.event_laws.specs.Sound.{sound-limit}
 use Rattle.one.specs.Told.{toldTaken}
-use Rattle.event_one.specs.Told.{readEventAnswer, readEventWords, withInspected}
+use Rattle.event_laws.specs.Told.{readEventAnswer, readEventWords}
+use Rattle.event_one.specs.Told.{withInspected}
 use Rattle.event_one.proofs.Laws.{told-frame, scratch-frame, words-frame}
 use Rattle.event_one.proofs.read_one_events.Statement.{statement}
 use Rattle.event_one.proofs.read_one_events.Tie as tie

@@ -13,7 +13,7 @@ use Rattle.laws.specs.Lookup.{rows-length}
 use Rattle.blocks.specs.Steady.{sizes-same}
 use Rattle.sums.specs.Sums.{sumsOf}
 use Rattle.marks.specs.Marks.{Wanted, Marked, size-judged}
-use Rattle.event_plan.specs.Slots.{Filled, attributesFor}
+use Rattle.slots.specs.Slots.{Filled, attributesFor}
 use Rattle.event_plan.proofs.found.Statement.{statement}
 use Rattle.event_plan.proofs.found.Tie as tie
 

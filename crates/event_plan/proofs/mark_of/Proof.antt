@@ -13,7 +13,7 @@ use Rattle.meaning.specs.Events.{attributesOf, eventAt, eventsOf}
 use Rattle.laws.specs.Lookup.{rows-length}
 use Rattle.sums.specs.Sums.{trail-small, sums-given}
 use Rattle.marks.specs.Marks.{Marked, unreadable-most}
-use Rattle.event_plan.specs.Slots.{Planned, attributesFor}
+use Rattle.slots.specs.Slots.{Planned, attributesFor}
 use Rattle.event_plan.proofs.mark_of.Statement.{statement}
 use Rattle.event_plan.proofs.mark_of.Tie as tie
 

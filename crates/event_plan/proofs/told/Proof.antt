@@ -8,7 +8,7 @@ use denote.Ref.{now}
 use borrow.Author.Needs.{needs}
 use Rattle.meaning.specs.Records.{kindOf, layout, judge}
 use Rattle.meaning.specs.Events.{eventsOf, identifierOf}
-use Rattle.event_plan.specs.Slots.{Filled, attributesFor, standing-small, slot-refused, slot-judged}
+use Rattle.slots.specs.Slots.{Filled, attributesFor, standing-small, slot-refused, slot-judged}
 use Rattle.event_plan.proofs.told.Statement.{statement}
 use Rattle.event_plan.proofs.told.Tie as tie
 

@@ -5,7 +5,7 @@ use lib.ListN.{length}
 use denote.Ref.{now}
 use borrow.Author.Needs.{needs}
 use Rattle.meaning.specs.Events.{marked}
-use Rattle.events.proofs.Laws.{LeftMarked, marked-end, marked-not, marked-on}
+use Rattle.event_laws.specs.Search.{LeftMarked, marked-end, marked-not, marked-on}
 use Rattle.events.proofs.all_marked.Statement.{statement}
 use Rattle.events.proofs.all_marked.Tie as tie
 

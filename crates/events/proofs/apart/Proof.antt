@@ -7,8 +7,8 @@ use denote.Ref.{now}
 use borrow.Author.Needs.{needs}
 use Rattle.meaning.specs.Bytes.{zeros}
 use Rattle.meaning.specs.Events.{distinct}
-use Rattle.events.proofs.Laws.{keys, keys-length, key-at}
-use Rattle.events.proofs.Marks.{Behind, behind-start, behind-met, behind-next, row-met}
+use Rattle.event_laws.specs.Search.{keys, keys-length, key-at}
+use Rattle.event_laws.specs.Marks.{Behind, behind-start, behind-met, behind-next, row-met}
 use Rattle.events.proofs.apart.Statement.{statement}
 use Rattle.events.proofs.apart.Tie as tie
 

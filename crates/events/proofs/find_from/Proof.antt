@@ -7,7 +7,7 @@ use native.Mathlib.Omega.{arith}
 use borrow.Author.Needs.{needs}
 use lib.ListN.{length, getD, drop}
 use denote.Ref.{now}
-use Rattle.events.proofs.Laws.{Holds, found, goes-on, none, keys, keys-length, key-at}
+use Rattle.event_laws.specs.Search.{Holds, found, goes-on, none, keys, keys-length, key-at}
 use Rattle.events.proofs.find_from.Statement.{statement}
 use Rattle.events.proofs.find_from.Tie as tie
 

@@ -7,7 +7,7 @@ use denote.Ref.{now}
 use borrow.Author.Needs.{needs}
 use borrow.Author.Tests.{eq-eqb, ne-eqb}
 use Rattle.meaning.specs.Editions.{isIn}
-use Rattle.events.proofs.Laws.{keys, keys-length, met-there}
+use Rattle.event_laws.specs.Search.{keys, keys-length, met-there}
 use Rattle.events.proofs.met_from.Statement.{statement}
 use Rattle.events.proofs.met_from.Tie as tie
 

@@ -6,8 +6,8 @@ use native.Mathlib.Omega.{arith}
 use lib.ListN.{length, drop}
 use denote.Ref.{now}
 use borrow.Author.Needs.{needs}
-use Rattle.events.specs.Rising.{rises}
-use Rattle.events.proofs.Laws.{keys, keys-length, key-at, rises-not, rises-next, rises-end}
+use Rattle.event_laws.specs.Rising.{rises}
+use Rattle.event_laws.specs.Search.{keys, keys-length, key-at, rises-not, rises-next, rises-end}
 use Rattle.events.proofs.rises.Statement.{statement}
 use Rattle.events.proofs.rises.Tie as tie
 

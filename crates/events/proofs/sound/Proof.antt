@@ -7,9 +7,9 @@ use borrow.Author.Needs.{needs}
 use borrow.Author.Tests.{not-true, not-false}
 use Rattle.meaning.specs.Events.{eventsOf}
 use Rattle.laws.specs.Lookup.{rows-length}
-use Rattle.events.specs.Rising.{rises-distinct}
-use Rattle.events.specs.Sound.{sound-short, sound-long, sound-unmarked, sound-by}
-use Rattle.events.proofs.Laws.{keys}
+use Rattle.event_laws.specs.Rising.{rises-distinct}
+use Rattle.event_laws.specs.Sound.{sound-short, sound-long, sound-unmarked, sound-by}
+use Rattle.event_laws.specs.Search.{keys}
 use Rattle.events.proofs.sound.Statement.{statement}
 use Rattle.events.proofs.sound.Tie as tie
 

@@ -10,10 +10,10 @@ use Rattle.fills.proofs.values.Statement.{statement}
 use Rattle.fills.proofs.values.Tie as tie
 
 times-requires : tie.Need-times-requires
-times-requires c κs = ready-as (ap (λ (k : ℕ). item (c .before .before .before .before .args .on) (Times k) ∷ []) (sym (c .group-bytes .ensures))) (c .before .before .before .before .pre)
+times-requires c κs = ready-as (ap (λ (k : ℕ). item (c .before .before .before .before .args .on) (Times k) ∷ []) (sym (c .group-bytes .ensures .0))) (c .before .before .before .before .pre)
 
 returns : tie.Need-returns
-returns c = filling-as (ap (λ (k : ℕ). item (c .before .before .before .before .before .before .before .args .on) (Times k) ∷ []) (c .before .before .before .group-bytes .ensures)) (c .before .before .times .ensures)
+returns c = filling-as (ap (λ (k : ℕ). item (c .before .before .before .before .before .before .before .args .on) (Times k) ∷ []) (c .before .before .before .group-bytes .ensures .0)) (c .before .before .times .ensures)
 
 pub values-spec : {M : Type 1} → statement M
 values-spec = tie.close (tie.spec (λ c κs. search needs) times-requires (λ c. search needs) returns)

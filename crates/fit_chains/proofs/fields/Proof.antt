@@ -4,7 +4,7 @@ use mathlib.Core.Path.{sym, ap}
 use Prim.Native.Nat.{ℕ}
 use Rattle.meaning.specs.Schema.{schema}
 use Rattle.write_fits.specs.Steps.{tried-as, tried-none}
-use Rattle.fit_chains.specs.Types.{no-type}
+use Rattle.layouts.specs.Types.{no-type}
 use borrow.Author.Needs.{needs}
 use Rattle.fit_chains.proofs.fields.Statement.{statement}
 use Rattle.fit_chains.proofs.fields.Tie as tie

@@ -5,8 +5,7 @@ use mathlib.Core.Bool.{not, _&&_, _||_}
 use mathlib.Core.List.{_++_}
 use native.Mathlib.Omega.{arith}
 use Rattle.meaning.specs.Values.{tell, width}
-use Rattle.write_fits.specs.Steps.{tried-none, tried-next}
-use Rattle.fit_chains.specs.Types.{tried-then}
+use Rattle.write_fits.specs.Steps.{tried-none, tried-next, tried-then}
 use borrow.Author.Needs.{needs}
 use Rattle.fit_chains.proofs.mmap2.Statement.{statement}
 use Rattle.fit_chains.proofs.mmap2.Tie as tie

@@ -8,7 +8,7 @@ use Rattle.meaning.specs.declared.Item.{Item}
 use Rattle.meaning.specs.Schema.{schema}
 use Rattle.meaning.specs.Writing.{named, ends}
 use Rattle.meaning.specs.Values.{tell, width, flagWords, bodyWidth, bodyWords}
-use Rattle.fit_chains.specs.Types.{no-type}
+use Rattle.layouts.specs.Types.{no-type}
 use borrow.Author.Needs.{needs}
 use Rattle.fit_chains.proofs.own_end.Statement.{statement}
 use Rattle.fit_chains.proofs.own_end.Tie as tie

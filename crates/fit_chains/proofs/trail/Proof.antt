@@ -1,8 +1,8 @@
 -- `fit_chains::trail` meets its contract: the trailer's items are those that the bits select. Assumes nothing.
 use mathlib.Core.Path.{ap, _∙_}
-use Rattle.chains.specs.Lists as lists
+use Rattle.layouts.specs.Lists as lists
 use Rattle.write_fits.specs.Steps.{tried-as}
-use Rattle.fit_chains.specs.Types.{trailer-is}
+use Rattle.layouts.specs.Types.{trailer-is}
 use borrow.Author.Needs.{needs}
 use Rattle.fit_chains.proofs.trail.Statement.{statement}
 use Rattle.fit_chains.proofs.trail.Tie as tie

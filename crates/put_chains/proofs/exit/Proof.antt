@@ -5,9 +5,8 @@ use mathlib.Core.Bool.{not, _&&_, _||_}
 use mathlib.Core.List.{_++_}
 use native.Mathlib.Omega.{arith}
 use Rattle.meaning.specs.Values.{tell, width}
-use Rattle.write_puts.specs.Puts.{placed-none, placed₁, ready-first, ready-after, head₁, next₁}
-use Rattle.chains.specs.Lists as lists
-use Rattle.put_chains.specs.Joins.{placed-then}
+use Rattle.write_puts.specs.Puts.{placed-none, placed₁, placed-then, ready-first, ready-after, head₁, next₁}
+use Rattle.layouts.specs.Lists as lists
 use borrow.Author.Needs.{needs}
 use Rattle.put_chains.proofs.exit.Statement.{statement}
 use Rattle.put_chains.proofs.exit.Tie as tie

@@ -1,8 +1,8 @@
 -- `put_chains::trail` meets its contract: the trailer's items are those that the bits select. Assumes nothing.
 use mathlib.Core.Path.{sym, ap, _∙_}
-use Rattle.chains.specs.Lists as lists
+use Rattle.layouts.specs.Lists as lists
 use Rattle.write_puts.specs.Puts.{ready-as, placed-as}
-use Rattle.fit_chains.specs.Types.{trailer-is}
+use Rattle.layouts.specs.Types.{trailer-is}
 use borrow.Author.Needs.{needs}
 use Rattle.put_chains.proofs.trail.Statement.{statement}
 use Rattle.put_chains.proofs.trail.Tie as tie

@@ -7,7 +7,8 @@ use lib.Seq.{length-take-le}
 use lib.Dec.{eqb}
 use denote.Ref.{now}
 use borrow.Author.Tests.{not-true, not-false}
-use Rattle.twins.specs.Same.{aroundRes, bodySame, trailBits, endOf}
+use Rattle.same_parts.specs.Parts.{aroundRes, bodySame}
+use Rattle.twins.specs.Same.{trailBits, endOf}
 use Rattle.twins.specs.Whole.{room-there, body-accepted}
 use Rattle.twins.proofs.Laws.{but-body, but-trail, but-flags}
 use borrow.Author.Needs.{needs}

@@ -9,7 +9,7 @@ use Rattle.writer_forms.proofs.build_id.Tie as tie
 returns : tie.Need-returns
 returns c =
     let a = c .before .before .args in
-    c .list .ensures ∙ ap (λ (x : ℕ). listForm (a .c) 1 x (a .k - x)) (c .before .smaller .ensures)
+    c .list .ensures ∙ ap (λ (x : ℕ). listForm (a .c) 1 x (a .k - x)) (c .before .smaller .ensures .0)
 
 pub build-id-spec : {M : Type 1} → statement M
 build-id-spec = tie.close (tie.spec (λ c κs. search needs) (λ c. search needs) (λ c κs. search needs) returns)

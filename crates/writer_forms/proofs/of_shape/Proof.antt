@@ -68,7 +68,7 @@ returns-10 : tie.Need-returns-10
 unfolding shapeForm
 returns-10 c =
     let a = c .before .before .before .before .before .args in
-    of-arm (λ (sh : Shape). shapeForm sh (a .c) (slotOf (a .s))) (a .shape) _ _ (c .number6 .ensures ∙ ap (λ (x : ℕ). numberForm 1 x false (a .s .number) (a .c .old)) (c .before .smaller .ensures)) (c .before .before .before .shape8 .given .1)
+    of-arm (λ (sh : Shape). shapeForm sh (a .c) (slotOf (a .s))) (a .shape) _ _ (c .number6 .ensures ∙ ap (λ (x : ℕ). numberForm 1 x false (a .s .number) (a .c .old)) (c .before .smaller .ensures .0)) (c .before .before .before .shape8 .given .1)
 
 returns-11 : tie.Need-returns-11
 unfolding shapeForm

@@ -1,3 +1,0 @@
-pub mod Match
-pub mod Sound
-pub mod Rising
