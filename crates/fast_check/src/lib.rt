@@ -1,5 +1,6 @@
 // The judge of one record and record check once more, for speed: by the mark of the record's type and the exact judge, which the drain has too. What a
-// caller sees is the same as by the plain walk. Of the sums only those are made that the type needs.
+// caller sees is the same as by the plain walk. Of the sums only those are made that the type needs. The header is taken by the reader that holds the
+// record and its place.
 ghost use mathlib.Core.Path.{_≡_};
 ghost use Prim.Native.Nat.{_%_, _<_, _≤_};
 ghost use lib.ListN.{length};
@@ -41,7 +42,8 @@ fn planned(r: &[u8], e: u64, a: Attributes) -> u16
     ensures { λ x. ⌜ x ≡ judge (layout (known editions e) a) (now (r .entry)) ⌝ }
 {
     let row = record::edition(e);
-    let kind = wire::u32_at(r, 0);
+    let h = reader::read_header(r);
+    let kind = h.kind;
     if kind == 9 {
         return sampled(r, kind, row, a);
     }
@@ -72,7 +74,8 @@ pub fn check(r: &[u8], e: u64, a: Attributes) -> u16
     if r.len() < 8 {
         return 7;
     }
-    let size = wire::u16_at(r, 6);
+    let h = reader::read_header(r);
+    let size = h.size;
     let even = (8 <= size) & (size % 8 == 0);
     if !even {
         return 6;
@@ -81,5 +84,5 @@ pub fn check(r: &[u8], e: u64, a: Attributes) -> u16
     if !whole {
         return 7;
     }
-    planned(r, e, a)
+    judge(r, e, a)
 }

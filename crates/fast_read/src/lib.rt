@@ -51,11 +51,12 @@ fn fill(r: &[u8], a: Attributes, out: &mut [u64])
     ensures { λ _. ⌜ now (out .exit) ≡ wordsBy (schema (kindOf (now (r .entry))) (miscOf (now (r .entry))) a) (trailer (kindOf (now (r .entry))) a) (now (r .entry)) ⌝ }
 {
     clear(out);
-    let kind = wire::u32_at(r, 0);
-    let misc = wire::u16_at(r, 4);
+    let h = reader::read_header(r);
+    let kind = h.kind;
+    let misc = h.misc;
     out[0] = kind;
     out[1] = misc;
-    out[2] = wire::u16_at(r, 6);
+    out[2] = h.size;
     let end = r.len() - record::trailer_room(kind, a);
     chains::fields(&r[..end], kind, misc, a, answers::origin(8), out);
     set_flag(r, end, kind, misc, a, out);

@@ -1,16 +1,13 @@
 -- Test by test, in the order of the definition; then the judge of a record whose size is its length.
-use mathlib.Core.Path.{_≡_, sym, ap, _∙_}
+use mathlib.Core.Path.{_≡_, sym, _∙_}
 use mathlib.Core.Bool.{true}
-use Prim.Native.Nat.{ℕ, _%_}
-use native.Mathlib.Omega.{arith}
-use lib.Dec.{leb, eqb}
 use lib.ListN.{length}
 use denote.Ref.{now}
 use borrow.Author.Needs.{needs}
-use borrow.Author.Tests.{not-true, not-false, eqb-true}
+use borrow.Author.Tests.{not-true, not-false}
 use Rattle.meaning.specs.Editions.{editions, allowed}
 use Rattle.meaning.specs.Records.{sizeOf}
-use Rattle.laws.specs.Bytes.{and-true}
+use Rattle.reader.specs.Laws.{headed}
 use Rattle.answers.specs.Checks.{check-edition, check-short, check-odd, check-other, check-whole}
 use Rattle.fast_check.proofs.check.Statement.{statement}
 use Rattle.fast_check.proofs.check.Tie as tie
@@ -26,9 +23,8 @@ returns-2 : tie.Need-returns-2
 returns-2 c = let a = c .before .before .before .before .args in check-short editions (a .e) (a .a) (now (a .r)) (known-edition (c .before)) (c .if2 .taken)
 
 -- the size that the header tells
-told : (c : tie.After-u16-at) → c .u16-at .result ≡ sizeOf (now (c .before .before .before .before .before .args .r))
-unfolding sizeOf
-told c = c .u16-at .ensures .0
+told : (c : tie.After-read-header) → c .read-header .result .size ≡ sizeOf (now (c .before .before .before .before .before .args .r))
+told c = headed _ _ (c .read-header .ensures) (c .before .if2 .left) .size-is
 
 returns-3 : tie.Need-returns-3
 returns-3 c =
@@ -40,21 +36,10 @@ returns-4 c =
     let a = c .before .before .before .before .before .before .before .args in
     check-other editions (a .e) (a .a) (now (a .r)) (known-edition (c .before .before .before .before)) (c .before .before .before .if2 .left) _ (told (c .before .before)) (not-false _ (c .before .if3 .left)) (not-true _ (c .if4 .taken))
 
-planned-requires : tie.Need-planned-requires
-planned-requires c κs =
-    let a = c .before .before .before .before .before .before .before .args in
-    let n = length (now (a .r)) in
-    let size = c .before .before .u16-at .result in
-    let v = and-true (leb 8 size) (eqb (size % 8) 0) (not-false _ (c .before .if3 .left)) in
-    let d = eqb-true (size % 8) 0 (v .1) in
-    let w : size ≡ n = eqb-true size n (not-false _ (c .if4 .left)) in
-    let l = c .before .before .u16-at .ensures .1 in
-    (c .before .before .before .if2 .left, (omega (arith, w, l), sym (ap (λ (i : ℕ). i % 8) w) ∙ d))
-
 returns-5 : tie.Need-returns-5
 returns-5 c =
     let a = c .before .before .before .before .before .before .before .before .args in
-    c .planned .ensures
+    c .judge .ensures
     ∙ check-whole editions (a .e) (a .a) (now (a .r)) (known-edition (c .before .before .before .before .before)) (c .before .before .before .before .if2 .left) _ (told (c .before .before .before)) (not-false _ (c .before .before .if3 .left)) (not-false _ (c .before .if4 .left))
 
 pub check-spec : {M : Type 1} → statement M
@@ -67,5 +52,5 @@ check-spec =
     (λ c κs. search needs)
     returns-3
     returns-4
-    planned-requires
+    (λ c κs. search needs)
     returns-5)

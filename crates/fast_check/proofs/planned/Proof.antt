@@ -5,15 +5,19 @@ use native.Mathlib.Omega.{arith}
 use denote.Ref.{now}
 use borrow.Author.Needs.{needs}
 use Rattle.meaning.specs.declared.Known.{Known}
-use Rattle.meaning.specs.Records.{layout, kindOf, judge}
+use Rattle.meaning.specs.Records.{layout, judge}
+use Rattle.reader.specs.Laws.{Headed, headed}
 use Rattle.marks.specs.Marks.{lastType, kinds-most}
 use Rattle.fast_check.proofs.planned.Statement.{statement}
 use Rattle.fast_check.proofs.planned.Tie as tie
 
+-- the header of a record that has one
+whole : (c : tie.After-read-header) → Headed (now (c .before .before .before .args .r)) (c .read-header .result)
+whole c = headed _ _ (c .read-header .ensures) (c .before .before .before .pre .0)
+
 sampled-requires : tie.Need-sampled-requires
-unfolding kindOf
 sampled-requires c κs =
-    let p = c .before .before .before .before .pre in (p .0, (p .1 .0, (p .1 .1, (c .before .u32-at .ensures .0, c .if1 .taken))))
+    let p = c .before .before .before .before .pre in (p .0, (p .1 .0, (p .1 .1, (whole (c .before) .kind-is, c .if1 .taken))))
 
 returns : tie.Need-returns
 returns c =
@@ -27,14 +31,13 @@ other-mark-requires c κs =
     (subst (λ (k : Known). k .kinds ≤ lastType) (sym (c .before .before .before .edition .ensures)) (kinds-most (c .before .before .before .before .before .args .e)), (t .0, (omega (arith, l), c .before .if1 .left)))
 
 other-requires : tie.Need-other-requires
-unfolding kindOf
 other-requires c κs =
     let p = c .before .before .before .before .before .before .before .pre in
     let t = c .before .before .trailer-room .ensures in
     let l = t .1 in
     let m = c .before .other-mark .ensures in
     let z = c .before .before .before .if1 .left in
-    (p .0, (p .1 .0, (p .1 .1, (c .before .before .before .before .u32-at .ensures .0, (m, (t .0, (omega (arith, l), (c .group-words .ensures, λ e. z (m .stretched e .0)))))))))
+    (p .0, (p .1 .0, (p .1 .1, (whole (c .before .before .before .before) .kind-is, (m, (t .0, (omega (arith, l), (c .group-words .ensures, λ e. z (m .stretched e .0)))))))))
 
 returns-2 : tie.Need-returns-2
 returns-2 c =
