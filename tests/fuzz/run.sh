@@ -16,6 +16,10 @@
 # libFuzzer picks inputs by the plain way: several times as many executions in a second. What is lent still ends at a page
 # that cannot be touched, and that is what finds a byte outside a slice: the address sanitizer never sees the archive's code.
 #
+# With CARRY=1 (and NATIVE=1, best with LIGHT=1) each library call of the target of this machine is made once more, by
+# played.c on the archive for x86-64, on the same bytes, and compared (carried.h): the archive itself gets every execution.
+#   CARRY=1 NATIVE=1 LIGHT=1 tests/fuzz/run.sh carry-teeth     the player tried: planted differences, each must be found
+#
 # MAX_LEN is the longest input (default 1200 bytes: many executions in a second); SECONDS_AT_MOST ends a run
 # early. The corpus grows from run to run in target/fuzz/corpus; delete it to start from the seeds again.
 # Needs target/staticlib/libollskuvan.a, target/obj/ringdump.o, rustc (RUSTC, or rustc), and Debian's packages clang
@@ -39,6 +43,7 @@ skip() { echo "== fuzzing skipped: $*"; exit 0; }
 runs=${1:-200000}
 case $runs in
     faults) ;;
+    carry-teeth) [ -n "${CARRY:-}" ] || stop "carry-teeth needs CARRY=1" ;;
     again) [ $# -eq 2 ] || stop "use: tests/fuzz/run.sh again FILE" ;;
     *[!0-9]*) stop "RUNS is a number (see the head of this file)" ;;
 esac
@@ -60,6 +65,12 @@ fi
 if [ -n "${LIGHT:-}" ]; then
     out=$out-light sanitizers=fuzzer,undefined touched='libFuzzer: deadly signal' compares=
     machine="$machine -fno-sanitize-coverage=trace-cmp" signals="$signals -entropic=0"
+fi
+wrapped= carry=
+if [ -n "${CARRY:-}" ]; then
+    [ -n "${NATIVE:-}" ] || stop "CARRY=1 needs NATIVE=1: the other side is the archive for x86-64"
+    out=$out-carry
+    . tests/fuzz/carry.sh
 fi
 command -v $objcopy >/dev/null || skip "$objcopy is missing (Debian: apt-get install binutils)"
 mkdir -p "$out"
@@ -87,6 +98,7 @@ newer() { # newer MADE SOURCE...: it is there and no source is younger
     [ -f "$made" ] && [ -z "$(find "$@" -newer "$made" -print)" ]
 }
 
+[ -z "${CARRY:-}" ] || build_carry
 # The independent reader with libFuzzer's coverage: the archive itself has none, so this leads the search.
 # shellcheck disable=SC2086
 newer "$out/libindependent.a" tests/reader tests/fuzz/run.sh ||
@@ -100,7 +112,8 @@ newer "$out/target" tests/fuzz tests/reader include "$archive" "$program" || {
     $objcopy --redefine-sym main=ringdump_main --redefine-sym read=ringdump_read \
         --redefine-sym write=ringdump_write "$program" "$out/ringdump.o"
     # shellcheck disable=SC2086
-    build -o "$out/target" $without tests/fuzz/target.c "$out/ringdump.o" "$out/libindependent.a" "$archive" $libraries
+    build -o "$out/target" $without tests/fuzz/target.c $carry $wrapped "$out/ringdump.o" "$out/libindependent.a" \
+        "$archive" $libraries
 }
 newer "$out/seeds/made-0" tests/reader rings || {
     # the test program makes the seeds; if tests/run.sh has not built it, it is built here without the library
@@ -115,9 +128,18 @@ newer "$out/seeds/made-0" tests/reader rings || {
 }
 mkdir -p "$out/corpus" "$out/found"
 
+case ${CARRY:+$runs} in
+    '' | 0 | faults) ;;
+    carry-teeth) carry_teeth; exit 0 ;;
+    *) start_player ;;
+esac
 if [ "$runs" = again ]; then
     # shellcheck disable=SC2086
-    exec "$out/target" $signals "$2"
+    [ -n "${CARRY:-}" ] || exec "$out/target" $signals "$2"
+    # shellcheck disable=SC2086
+    "$out/target" $signals "$2" || { player_agrees; exit 1; }
+    player_agrees
+    exit
 fi
 if [ "$runs" = faults ]; then
     build -c -o "$out/target.o" tests/fuzz/target.c
@@ -154,8 +176,10 @@ begun=$(date +%s)
     -dict=tests/fuzz/ollskuvan.dict -detect_leaks=0 -print_final_stats=1 -artifact_prefix="$out/found/" \
     "$out/corpus" "$out/seeds" 2>"$out/log" || {
     grep -v '^#' "$out/log" | head -c 60000 >&2
+    [ -z "${CARRY:-}" ] || player_agrees || :
     stop "failed with seed $seed: the input is kept in $out/found; run it again: tests/fuzz/run.sh again FILE"
 }
 grep '^fuzz:' "$out/log"
+[ -z "${CARRY:-}" ] || player_agrees || stop "the archive differs: the input is kept in $out/found/carried"
 done=$(sed -n 's/^stat::number_of_executed_units: *//p' "$out/log")
 echo "fuzz: $done executions with seed $seed in $(($(date +%s) - begun)) s, no difference"
