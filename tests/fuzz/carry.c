@@ -16,9 +16,9 @@ int __real_LLVMFuzzerTestOneInput(const uint8_t *, size_t);
 int __wrap_LLVMFuzzerTestOneInput(const uint8_t *, size_t);
 
 enum { BLOCK = 1 << 20, ROOM = 8 << 20 }; /* a message fits what is behind a block */
-static uint8_t buffer[BLOCK + ROOM];
+static uint8_t outgoing[BLOCK + ROOM];
 static size_t filled, begun;
-static int stream = -1;
+static int opened = -1;
 static uint64_t executions;
 
 /* What stands in the player at each slot's place, and the length of the slice there. */
@@ -38,11 +38,11 @@ __attribute__((constructor)) static void open_stream(void)
 
     if (!path)
         return;
-    stream = open(path, O_WRONLY | O_CREAT | O_TRUNC, 0666);
-    if (stream < 0)
+    opened = open(path, O_WRONLY | O_CREAT | O_TRUNC, 0666);
+    if (opened < 0)
         stop("CARRY_TO cannot be opened");
     signal(SIGPIPE, SIG_IGN); /* flush tells of a player that ended */
-    fcntl(stream, F_SETPIPE_SZ, BLOCK); /* fails for a file, which needs none */
+    fcntl(opened, F_SETPIPE_SZ, BLOCK); /* fails for a file, which needs none */
     memset(lengths, 0xff, sizeof lengths);
 }
 
@@ -51,7 +51,7 @@ static void flush(void)
     size_t done = 0;
 
     while (done < filled) {
-        ssize_t now = write(stream, buffer + done, filled - done);
+        ssize_t now = write(opened, outgoing + done, filled - done);
 
         if (now < 0 && errno != EINTR)
             stop("the player takes no more");
@@ -62,7 +62,7 @@ static void flush(void)
 
 static void put(const void *bytes, size_t count)
 {
-    memcpy(buffer + filled, bytes, count);
+    memcpy(outgoing + filled, bytes, count);
     filled += count;
 }
 
@@ -79,7 +79,7 @@ static void finish(void)
 {
     uint32_t bytes = (uint32_t)(filled - begun);
 
-    memcpy(buffer + begun, &bytes, 4);
+    memcpy(outgoing + begun, &bytes, 4);
     if (filled >= BLOCK)
         flush();
 }
@@ -180,7 +180,7 @@ static void put_back(enum slot slot, const void *slice, size_t count)
     type __wrap_ollskuvan_##call(PARAMETERS(call)) \
     { \
         type made; \
-        if (stream < 0) \
+        if (opened < 0) \
             return __real_ollskuvan_##call(ARGUMENTS(call)); \
         begin(CALL_##call); \
         LENT_##call(PUT_LENGTH, PUT_LENGTH, PUT_NUMBER, PUT_NUMBER) \
@@ -195,7 +195,7 @@ EXPORTS(WRAPPED)
 
 int __wrap_LLVMFuzzerTestOneInput(const uint8_t *data, size_t size)
 {
-    if (stream >= 0) {
+    if (opened >= 0) {
         begin(EXECUTION);
         put(data, size);
         finish();
@@ -207,10 +207,10 @@ int __wrap_LLVMFuzzerTestOneInput(const uint8_t *data, size_t size)
 /* Reached by exit alone: a target that found a difference leaves the stream without its end. */
 __attribute__((destructor)) static void end_stream(void)
 {
-    if (stream < 0)
+    if (opened < 0)
         return;
     begin(ENDED);
     finish();
     flush();
-    close(stream);
+    close(opened);
 }

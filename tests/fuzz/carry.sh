@@ -11,9 +11,9 @@ build_carry() {
     wrapped="-Wl,--wrap=LLVMFuzzerTestOneInput $(nm "$archive" 2>/dev/null | sed -n 's/.* T \(ollskuvan_.*\)/-Wl,--wrap=\1/p' | tr '\n' ' ')"
     carry=$out/carry.o
     newer "$carry" tests/fuzz/carry.c tests/fuzz/carried.h include ||
-        clang -std=gnu11 -Wall -Wextra -Werror -g -O2 -Iinclude -c -o "$carry" tests/fuzz/carry.c
+        clang -std=gnu11 -Wall -Wextra -Wshadow -Werror -g -O2 -Iinclude -c -o "$carry" tests/fuzz/carry.c
     newer "$out/played" tests/fuzz/played.c tests/fuzz/carried.h include "$played_archive" ||
-        sh $cross -std=gnu11 -Wall -Wextra -Werror -g -O2 -static -Iinclude -o "$out/played" tests/fuzz/played.c "$played_archive"
+        sh $cross -std=gnu11 -Wall -Wextra -Wshadow -Werror -g -O2 -static -Iinclude -o "$out/played" tests/fuzz/played.c "$played_archive"
 }
 
 # Without wide vectors, which the emulator is slow at.

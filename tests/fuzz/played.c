@@ -31,8 +31,8 @@ static struct {
     size_t length;
 } places[SLOTS][SIDES];
 
-static uint8_t buffer[BUFFER];
-static size_t buffer_start, buffer_end;
+static uint8_t incoming[BUFFER];
+static size_t incoming_start, incoming_end;
 static const uint8_t *at; /* what is read next of the message that is played */
 
 /* The call that is played; `writable` counts those slices of it, from 1 on. */
@@ -106,19 +106,19 @@ static void stop(const char *words)
 
 static void have(size_t count)
 {
-    if (buffer_end - buffer_start >= count)
+    if (incoming_end - incoming_start >= count)
         return;
-    memmove(buffer, buffer + buffer_start, buffer_end - buffer_start);
-    buffer_end -= buffer_start;
-    buffer_start = 0;
+    memmove(incoming, incoming + incoming_start, incoming_end - incoming_start);
+    incoming_end -= incoming_start;
+    incoming_start = 0;
     if (count > BUFFER)
         stop("a message is too long");
-    while (buffer_end < count) {
-        ssize_t came = read(0, buffer + buffer_end, BUFFER - buffer_end);
+    while (incoming_end < count) {
+        ssize_t came = read(0, incoming + incoming_end, BUFFER - incoming_end);
 
         if (came <= 0)
             stop("the stream ended early");
-        buffer_end += (size_t)came;
+        incoming_end += (size_t)came;
     }
 }
 
@@ -192,6 +192,24 @@ static void plant_in_slice(uint8_t *slice, size_t count, int side)
         slice[side ? (ptrdiff_t)count : -1] ^= 1;
 }
 
+static uint64_t difference(const uint8_t *a, const uint8_t *b)
+{
+    uint64_t x, y;
+
+    memcpy(&x, a, 8);
+    memcpy(&y, b, 8);
+    return x ^ y;
+}
+
+/* In words of 8 bytes: an emulator is slow at the wide ones of the C library's memcmp. */
+static int same_bytes(const uint8_t *a, const uint8_t *b, size_t count)
+{
+    for (; count >= 32; a += 32, b += 32, count -= 32)
+        if (difference(a, b) | difference(a + 8, b + 8) | difference(a + 16, b + 16) | difference(a + 24, b + 24))
+            return 0;
+    return memcmp(a, b, count) == 0;
+}
+
 /* The slice and its guard bytes are what they are due to be. */
 static void check_slice(enum slot slot, size_t count)
 {
@@ -204,7 +222,7 @@ static void check_slice(enum slot slot, size_t count)
     if (plant != ~0u)
         plant_in_slice(lent, count, side);
     take_changes(due, NULL);
-    if (memcmp(lent - before, due - before, count + GUARD)) {
+    if (!same_bytes(lent - before, due - before, count + GUARD)) {
         print_hex("the archive's, with the guard bytes", lent - before, count + GUARD);
         print_hex("this machine's", due - before, count + GUARD);
         differs(slot_names[slot]);
@@ -272,16 +290,16 @@ static void play_stream(void)
 
     for (;;) {
         have(8);
-        memcpy(head, buffer + buffer_start, 8);
+        memcpy(head, incoming + incoming_start, 8);
         have(head[0]);
-        at = buffer + buffer_start + 8;
-        buffer_start += head[0];
+        at = incoming + incoming_start + 8;
+        incoming_start += head[0];
         if (head[1] == ENDED)
             return;
         if (head[1] == EXECUTION)
             begin_execution(head[0] - 8);
         else if (head[1] < CALLS)
-            play(head[1], buffer + buffer_start);
+            play(head[1], incoming + incoming_start);
         else
             stop("a message has no number");
     }

@@ -911,7 +911,8 @@ static struct ollskuvan_salvaged salvage(const uint8_t *stream, size_t length, s
 static void try_salvage(void)
 {
     static uint8_t out[LONGEST + 256], again[LONGEST + 256];
-    struct ollskuvan_salvaged due = salvage(in.bytes, in.count, in.count, LONGEST_LIST, out);
+    /* rooms that the header says are always enough */
+    struct ollskuvan_salvaged due = salvage(in.bytes, in.count, in.count, OLLSKUVAN_CHANGE_ENTRY * (in.count / 24 + 1), out);
 
     if (due.answer != 0)
         return;
