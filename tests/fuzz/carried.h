@@ -8,7 +8,7 @@
  * A message is its length in bytes and its number (4 bytes each), then:
  *   a call: its numbers and lengths (8 bytes each, in the order of the parameters); the changes of each lent slice
  *     against what last stood at its place; what came back; the changes of each slice that may be written
- *   EXECUTION: the input      ENDED: nothing
+ *   EXECUTION: its number (8 bytes), the input      ENDED: nothing
  * Changes are runs: place, length (4 bytes each), the bytes, or with FILLED one byte for all; a length of 0 ends them.
  * Most calls of an execution are lent the same table and ring: kept in a place of its own by slot, each is sent once.
  */
@@ -23,7 +23,7 @@
 /* Where slices lie in the player; those from WRITABLE on may be written. */
 enum slot { RING, RIGHT, RECORD, TABLE, VALUE, SCRATCH, RIGHT_SCRATCH, JOURNAL, ROOMS, OUT, WORDS, ROWS, SLOTS,
     WRITABLE = SCRATCH };
-enum { SIDES = 2, AREA = 1 << 18, GUARD = 64, NUMBERS = 20, MADE_MAX = 80, LONGEST_INPUT = 1 << 17 };
+enum { SIDES = 2, AREA = 1 << 18, GUARD = 64, NUMBERS = 20, LONGEST_INPUT = 1 << 17, PLAYERS_MAX = 8 };
 #define FILLED UINT32_C(0x80000000)
 
 /* What each export is lent, in the order of its parameters: R(element, slot, name) is a slice that is read, W one that is
@@ -97,9 +97,10 @@ EXPORTS(TOLD)
 #define NO_SLICE(type, slot, name)
 #define NO_NUMBER(name)
 
-/* Slices lie against the page after their area in 16 executions, against that before it in the next 16. Inputs that
- * follow each other are much alike, so that this costs little. */
-static inline int side_of(uint64_t execution) { return execution >> 4 & 1; }
+/* Executions in blocks of 16: one block after the other goes to the players in turn, and slices lie against the page after
+ * their area in one, against that before it in the next. Inputs that follow each other are much alike: little is sent. */
+static inline uint64_t block_of(uint64_t execution) { return execution >> 4; }
+static inline int side_of(uint64_t execution) { return block_of(execution) & 1; }
 static inline uint8_t *place_of(uint8_t *area, int side, size_t count) { return side ? area : area + AREA - count; }
 
 /* Both sides of the stream do this where a length is not the one before: what stands at a place stays the same in both. */

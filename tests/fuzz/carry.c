@@ -16,14 +16,17 @@ int __real_LLVMFuzzerTestOneInput(const uint8_t *, size_t);
 int __wrap_LLVMFuzzerTestOneInput(const uint8_t *, size_t);
 
 enum { BLOCK = 1 << 20, ROOM = 8 << 20 }; /* a message fits what is behind a block */
-static uint8_t outgoing[BLOCK + ROOM];
-static size_t filled, begun;
-static int opened = -1;
-static uint64_t executions;
 
-/* What stands in the player at each slot's place, and the length of the slice there. */
-static uint8_t held[SLOTS][SIDES][AREA];
-static size_t lengths[SLOTS][SIDES];
+/* A player's stream, and what stands in that player at each slot's place: its bytes, and the length of the slice there. */
+struct stream {
+    int file;
+    size_t filled, begun;
+    uint8_t outgoing[BLOCK + ROOM];
+    uint8_t held[SLOTS][SIDES][AREA];
+    size_t lengths[SLOTS][SIDES];
+};
+static struct stream streams[PLAYERS_MAX], *to = streams;
+static uint64_t executions, players; /* no players: nothing is carried */
 
 /* _exit: libFuzzer would keep the input of now, which is not the one that the player is at. */
 static void stop(const char *words)
@@ -32,55 +35,68 @@ static void stop(const char *words)
     _exit(1);
 }
 
-__attribute__((constructor)) static void open_stream(void)
+static void open_stream(struct stream *stream, const char *start, int number)
 {
-    const char *path = getenv("CARRY_TO");
+    char path[4096];
 
-    if (!path)
+    snprintf(path, sizeof path, "%s.%d", start, number);
+    stream->file = open(path, O_WRONLY | O_CREAT | O_TRUNC, 0666);
+    if (stream->file < 0)
+        stop("a stream of CARRY_TO cannot be opened");
+    fcntl(stream->file, F_SETPIPE_SZ, BLOCK); /* fails for a file, which needs none */
+    memset(stream->lengths, 0xff, sizeof stream->lengths);
+}
+
+__attribute__((constructor)) static void open_streams(void)
+{
+    const char *start = getenv("CARRY_TO"), *count = getenv("PLAYERS");
+    int number, wanted = count ? atoi(count) : 1;
+
+    if (!start)
         return;
-    opened = open(path, O_WRONLY | O_CREAT | O_TRUNC, 0666);
-    if (opened < 0)
-        stop("CARRY_TO cannot be opened");
+    if (wanted < 1 || wanted > PLAYERS_MAX)
+        stop("PLAYERS is no number of players");
     signal(SIGPIPE, SIG_IGN); /* flush tells of a player that ended */
-    fcntl(opened, F_SETPIPE_SZ, BLOCK); /* fails for a file, which needs none */
-    memset(lengths, 0xff, sizeof lengths);
+    for (number = 0; number < wanted; number++)
+        open_stream(&streams[number], start, number);
+    players = (uint64_t)wanted;
 }
 
 static void flush(void)
 {
     size_t done = 0;
 
-    while (done < filled) {
-        ssize_t now = write(opened, outgoing + done, filled - done);
+    while (done < to->filled) {
+        ssize_t now = write(to->file, to->outgoing + done, to->filled - done);
 
         if (now < 0 && errno != EINTR)
             stop("the player takes no more");
         done += now < 0 ? 0 : (size_t)now;
     }
-    filled = 0;
+    to->filled = 0;
 }
 
 static void put(const void *bytes, size_t count)
 {
-    memcpy(outgoing + filled, bytes, count);
-    filled += count;
+    memcpy(to->outgoing + to->filled, bytes, count);
+    to->filled += count;
 }
 
 static void put_number(uint64_t number) { put(&number, sizeof number); }
 
 static void begin(uint32_t number)
 {
-    begun = filled;
-    filled += 4;
+    to->begun = to->filled;
+    to->filled += 4;
     put(&number, 4);
 }
 
 static void finish(void)
 {
-    uint32_t bytes = (uint32_t)(filled - begun);
+    uint32_t bytes = (uint32_t)(to->filled - to->begun);
 
-    memcpy(outgoing + begun, &bytes, 4);
-    if (filled >= BLOCK)
+    memcpy(to->outgoing + to->begun, &bytes, 4);
+    if (to->filled >= BLOCK)
         flush();
 }
 
@@ -147,13 +163,13 @@ static void put_changes(const uint8_t *slice, uint8_t *is_held, size_t count)
 static void put_lent(enum slot slot, const void *slice, size_t count)
 {
     int side = side_of(executions);
-    uint8_t *place = place_of(held[slot][side], side, count);
+    uint8_t *place = place_of(to->held[slot][side], side, count);
 
     if (count > AREA - GUARD)
         stop("a slice is longer than the player's places");
-    if (lengths[slot][side] != count)
+    if (to->lengths[slot][side] != count)
         put_guard(place, side, count);
-    lengths[slot][side] = count;
+    to->lengths[slot][side] = count;
     put_changes(slice, place, count);
 }
 
@@ -161,7 +177,7 @@ static void put_back(enum slot slot, const void *slice, size_t count)
 {
     int side = side_of(executions);
 
-    put_changes(slice, place_of(held[slot][side], side, count), count);
+    put_changes(slice, place_of(to->held[slot][side], side, count), count);
 }
 
 #define PARAMETER_R(type, slot, name) , const type *name, size_t name##_len
@@ -180,7 +196,7 @@ static void put_back(enum slot slot, const void *slice, size_t count)
     type __wrap_ollskuvan_##call(PARAMETERS(call)) \
     { \
         type made; \
-        if (opened < 0) \
+        if (!players) \
             return __real_ollskuvan_##call(ARGUMENTS(call)); \
         begin(CALL_##call); \
         LENT_##call(PUT_LENGTH, PUT_LENGTH, PUT_NUMBER, PUT_NUMBER) \
@@ -195,22 +211,24 @@ EXPORTS(WRAPPED)
 
 int __wrap_LLVMFuzzerTestOneInput(const uint8_t *data, size_t size)
 {
-    if (opened >= 0) {
+    if (players) {
+        executions++;
+        to = &streams[block_of(executions) % players];
         begin(EXECUTION);
+        put_number(executions);
         put(data, size);
         finish();
-        executions++;
     }
     return __real_LLVMFuzzerTestOneInput(data, size);
 }
 
-/* Reached by exit alone: a target that found a difference leaves the stream without its end. */
-__attribute__((destructor)) static void end_stream(void)
+/* Reached by exit alone: a target that found a difference leaves the streams without their end. */
+__attribute__((destructor)) static void end_streams(void)
 {
-    if (opened < 0)
-        return;
-    begin(ENDED);
-    finish();
-    flush();
-    close(opened);
+    for (to = streams; to < streams + players; to++) {
+        begin(ENDED);
+        finish();
+        flush();
+        close(to->file);
+    }
 }

@@ -19,38 +19,53 @@ build_carry() {
 # Without wide vectors, which the emulator is slow at.
 play() { env QEMU_CPU=qemu64,+popcnt $emulator "$out/played"; }
 
-start_player() {
-    rm -f "$out/stream"
-    mkfifo "$out/stream"
-    PLAYED_KEEPS=$out/found/carried play <"$out/stream" >"$out/played.log" 2>&1 &
-    player=$!
-    export CARRY_TO="$out/stream"
+# As many as PLAYERS says: the target makes executions several times as fast as one player.
+start_players() {
+    export CARRY_TO="$out/stream" PLAYERS="${PLAYERS:-2}"
+    player=0 processes=
+    rm -f "$out"/played-?.log
+    while [ $player -lt "$PLAYERS" ]; do
+        rm -f "$CARRY_TO.$player"
+        mkfifo "$CARRY_TO.$player"
+        PLAYED_KEEPS=$out/found/carried-$player play <"$CARRY_TO.$player" >"$out/played-$player.log" 2>&1 &
+        processes="$processes $!"
+        player=$((player + 1))
+    done
 }
 
-player_agrees() {
+# Waits for all. Agreed: the sums of what they made; else all that they said.
+players_agree() {
     status=0
-    wait "$player" || status=$?
-    head -c 60000 "$out/played.log"
-    return $status
+    for process in $processes; do
+        wait "$process" || status=1
+    done
+    if [ $status -ne 0 ]; then
+        head -c 60000 "$out"/played-?.log
+        return $status
+    fi
+    cat "$out"/played-?.log | awk '/ executions, / { executions += $2; calls += $4; next }
+        !($2 in made) { order[functions++] = $2 } { made[$2] += $3 }
+        END { for (i = 0; i < functions; i++) printf "carried: %s %d\n", order[i], made[order[i]]
+              printf "carried: %d executions, %d calls, no difference\n", executions, calls }'
 }
 
 # One short stream, played once as it is, and once with each planted difference: the answer of each function, the last
 # byte of each slice that it may write, and the guard byte beside it.
 carry_teeth() {
-    CARRY_TO=$out/teeth "$out/target" $signals -runs=3000 -seed="$seed" -max_len="$max_len" -detect_leaks=0 \
+    CARRY_TO=$out/teeth PLAYERS=1 "$out/target" $signals -runs=3000 -seed="$seed" -max_len="$max_len" -detect_leaks=0 \
         -dict=tests/fuzz/ollskuvan.dict "$out/seeds" 2>"$out/log" || stop "the target failed, see $out/log"
-    play <"$out/teeth" >"$out/played.log" || stop "the stream does not play, see $out/played.log"
+    play <"$out/teeth.0" >"$out/played.log" || stop "the stream does not play, see $out/played.log"
     functions=$(grep -c '^carried: [a-z_]* [0-9]*$' "$out/played.log") found=0 number=0
     while [ $number -lt "$functions" ]; do
         for where in 0 $(writable $number); do
-            ! PLANT=$((100 * where + number)) play <"$out/teeth" >"$out/planted.log" 2>&1 ||
+            ! PLANT=$((100 * where + number)) play <"$out/teeth.0" >"$out/planted.log" 2>&1 ||
                 stop "the difference planted in function $number at $where was not found"
             grep -q '^DIFFERENCE' "$out/planted.log" || stop "function $number at $where ended otherwise, see $out/planted.log"
             found=$((found + 1))
         done
         number=$((number + 1))
     done
-    rm -f "$out/teeth"
+    rm -f "$out/teeth.0"
     echo "carry-teeth: $found differences planted in $functions functions, all found"
 }
 

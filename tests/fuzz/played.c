@@ -42,7 +42,7 @@ static struct {
     uint64_t number[NUMBERS];
     struct { enum slot slot; const uint8_t *place; size_t count; } slice[8];
 } now = { .call = CALLS, .names = "" };
-static uint64_t executions, calls[CALLS];
+static uint64_t execution, executions, calls[CALLS]; /* the number of the one that is played; how many were */
 static unsigned plant = ~0u;
 static uint8_t input[LONGEST_INPUT];
 static size_t input_len;
@@ -77,7 +77,7 @@ static void differs(const char *words)
     unsigned i;
 
     fprintf(stderr, "DIFFERENCE: %s, call %" PRIu64 " of it, execution %" PRIu64 ": %s\n ", call_names[now.call],
-        now.call < CALLS ? calls[now.call] : 0, executions, words);
+        now.call < CALLS ? calls[now.call] : 0, execution, words);
     fprintf(stderr, "%s:", now.names);
     for (i = 0; i < now.numbers; i++)
         fprintf(stderr, " %#" PRIx64, now.number[i]);
@@ -162,7 +162,7 @@ static void take_changes(uint8_t *place, uint8_t *other)
 
 static uint8_t *taken_slice(enum slot slot, size_t count)
 {
-    int side = side_of(executions);
+    int side = side_of(execution);
     uint8_t *lent = place_of(places[slot][side].lent, side, count);
     uint8_t *filled = place_of(places[slot][side].filled, side, count);
     uint8_t *due = slot < WRITABLE ? NULL : place_of(places[slot][side].due, side, count);
@@ -213,7 +213,7 @@ static int same_bytes(const uint8_t *a, const uint8_t *b, size_t count)
 /* The slice and its guard bytes are what they are due to be. */
 static void check_slice(enum slot slot, size_t count)
 {
-    int side = side_of(executions);
+    int side = side_of(execution);
     uint8_t *lent = place_of(places[slot][side].lent, side, count);
     uint8_t *due = place_of(places[slot][side].due, side, count);
     size_t before = side ? 0 : GUARD;
@@ -280,6 +280,8 @@ static void play(uint32_t number, const uint8_t *end)
 static void begin_execution(size_t count)
 {
     executions++;
+    take(&execution, 8);
+    count -= 8;
     input_len = count < LONGEST_INPUT ? count : LONGEST_INPUT;
     memcpy(input, at, input_len);
 }

@@ -18,6 +18,7 @@
 #
 # With CARRY=1 (and NATIVE=1, best with LIGHT=1) each library call of the target of this machine is made once more, by
 # played.c on the archive for x86-64, on the same bytes, and compared (carried.h): the archive itself gets every execution.
+# PLAYERS says how many processes make them (default 2).
 #   CARRY=1 NATIVE=1 LIGHT=1 tests/fuzz/run.sh carry-teeth     the player tried: planted differences, each must be found
 #
 # MAX_LEN is the longest input (default 1200 bytes: many executions in a second); SECONDS_AT_MOST ends a run
@@ -131,14 +132,14 @@ mkdir -p "$out/corpus" "$out/found"
 case ${CARRY:+$runs} in
     '' | 0 | faults) ;;
     carry-teeth) carry_teeth; exit 0 ;;
-    *) start_player ;;
+    *) start_players ;;
 esac
 if [ "$runs" = again ]; then
     # shellcheck disable=SC2086
     [ -n "${CARRY:-}" ] || exec "$out/target" $signals "$2"
     # shellcheck disable=SC2086
-    "$out/target" $signals "$2" || { player_agrees; exit 1; }
-    player_agrees
+    "$out/target" $signals "$2" || { players_agree; exit 1; }
+    players_agree
     exit
 fi
 if [ "$runs" = faults ]; then
@@ -176,10 +177,10 @@ begun=$(date +%s)
     -dict=tests/fuzz/ollskuvan.dict -detect_leaks=0 -print_final_stats=1 -artifact_prefix="$out/found/" \
     "$out/corpus" "$out/seeds" 2>"$out/log" || {
     grep -v '^#' "$out/log" | head -c 60000 >&2
-    [ -z "${CARRY:-}" ] || player_agrees || :
+    [ -z "${CARRY:-}" ] || players_agree || :
     stop "failed with seed $seed: the input is kept in $out/found; run it again: tests/fuzz/run.sh again FILE"
 }
 grep '^fuzz:' "$out/log"
-[ -z "${CARRY:-}" ] || player_agrees || stop "the archive differs: the input is kept in $out/found/carried"
+[ -z "${CARRY:-}" ] || players_agree || stop "the archive differs: the input is kept in $out/found"
 done=$(sed -n 's/^stat::number_of_executed_units: *//p' "$out/log")
 echo "fuzz: $done executions with seed $seed in $(($(date +%s) - begun)) s, no difference"
