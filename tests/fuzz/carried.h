@@ -17,6 +17,7 @@
 
 #include <stdint.h>
 #include <string.h>
+#include <sys/types.h>
 
 #include "ollskuvan.h"
 
@@ -84,7 +85,15 @@ enum { SIDES = 2, AREA = 1 << 18, GUARD = 64, NUMBERS = 20, LONGEST_INPUT = 1 <<
     X(compare, struct ollskuvan_compared, 20)
 
 #define NUMBERED(call, type, told) CALL_##call,
-enum { EXPORTS(NUMBERED) CALLS, EXECUTION = CALLS, ENDED };
+enum { EXPORTS(NUMBERED) PROGRAM, CALLS, EXECUTION = CALLS, ENDED };
+
+/* The program ringdump: each time it reads (from a file, so many bytes at most; how many came, and they) or writes (onto a
+ * file, so many bytes, and they; how many went), and its status in the end, 8 bytes a number. */
+enum { FROM = 1, ONTO, BACK };
+int ringdump_main(void);
+ssize_t ringdump_read(int, void *, size_t);
+ssize_t ringdump_write(int, const void *, size_t);
+
 #define TOLD(call, type, told) _Static_assert(told <= sizeof(type) && told + 8 > sizeof(type), "no member is left out");
 EXPORTS(TOLD)
 

@@ -14,6 +14,12 @@
 
 int __real_LLVMFuzzerTestOneInput(const uint8_t *, size_t);
 int __wrap_LLVMFuzzerTestOneInput(const uint8_t *, size_t);
+int __real_ringdump_main(void);
+int __wrap_ringdump_main(void);
+ssize_t __real_ringdump_read(int, void *, size_t);
+ssize_t __wrap_ringdump_read(int, void *, size_t);
+ssize_t __real_ringdump_write(int, const void *, size_t);
+ssize_t __wrap_ringdump_write(int, const void *, size_t);
 
 enum { BLOCK = 1 << 20, ROOM = 8 << 20 }; /* a message fits what is behind a block */
 
@@ -83,6 +89,13 @@ static void put(const void *bytes, size_t count)
 }
 
 static void put_number(uint64_t number) { put(&number, sizeof number); }
+
+static void put_numbers(uint64_t first, uint64_t second, uint64_t third)
+{
+    put_number(first);
+    put_number(second);
+    put_number(third);
+}
 
 static void begin(uint32_t number)
 {
@@ -208,6 +221,44 @@ static void put_back(enum slot slot, const void *slice, size_t count)
         return made; \
     }
 EXPORTS(WRAPPED)
+
+int __wrap_ringdump_main(void)
+{
+    int status;
+
+    if (!players)
+        return __real_ringdump_main();
+    begin(PROGRAM);
+    status = __real_ringdump_main();
+    put_number(BACK);
+    put_number((uint64_t)status);
+    finish();
+    return status;
+}
+
+ssize_t __wrap_ringdump_read(int file, void *bytes, size_t count)
+{
+    ssize_t came = __real_ringdump_read(file, bytes, count);
+
+    if (players) {
+        put_numbers(FROM, (uint64_t)file, count);
+        put_number((uint64_t)came);
+        put(bytes, (size_t)came);
+    }
+    return came;
+}
+
+ssize_t __wrap_ringdump_write(int file, const void *bytes, size_t count)
+{
+    ssize_t went = __real_ringdump_write(file, bytes, count);
+
+    if (players) {
+        put_numbers(ONTO, (uint64_t)file, count);
+        put(bytes, count);
+        put_number((uint64_t)went);
+    }
+    return went;
+}
 
 int __wrap_LLVMFuzzerTestOneInput(const uint8_t *data, size_t size)
 {

@@ -1,19 +1,25 @@
-# shellcheck shell=sh disable=SC2086,SC2154 # read by run.sh, whose names it uses
+# shellcheck shell=sh disable=SC2086,SC2154,SC2013 # read by run.sh, whose names it uses
 # The way CARRY=1 of tests/fuzz/run.sh: the target writes its calls to a fifo, the player makes them on the archive.
-played_archive=target/staticlib/libollskuvan.a
-cross=cc emulator=
-[ "$(uname -m)" = x86_64 ] || cross=tools/x86/cc emulator=qemu-x86_64
+played_archive=target/staticlib/libollskuvan.a played_program=target/obj/ringdump.o
+cross=cc cross_objcopy=objcopy emulator=
+[ "$(uname -m)" = x86_64 ] || cross='sh tools/x86/cc' cross_objcopy=x86_64-linux-gnu-objcopy emulator=qemu-x86_64
 
 # An export that carried.h does not have is not linked: no call is left out.
 build_carry() {
     command -v ${emulator:-sh} >/dev/null || skip "$emulator is missing (Debian: apt-get install qemu-user)"
     [ -f "$played_archive" ] || stop "$played_archive is missing: run 'make lib' first"
-    wrapped="-Wl,--wrap=LLVMFuzzerTestOneInput $(nm "$archive" 2>/dev/null | sed -n 's/.* T \(ollskuvan_.*\)/-Wl,--wrap=\1/p' | tr '\n' ' ')"
+    [ -f "$played_program" ] || stop "$played_program is missing: run 'rt check ringdump' first"
+    wrapped='-Wl,--wrap=LLVMFuzzerTestOneInput,--wrap=ringdump_main,--wrap=ringdump_read,--wrap=ringdump_write'
+    wrapped="$wrapped $(nm "$archive" 2>/dev/null | sed -n 's/.* T \(ollskuvan_.*\)/-Wl,--wrap=\1/p' | tr '\n' ' ')"
     carry=$out/carry.o
-    newer "$carry" tests/fuzz/carry.c tests/fuzz/carried.h include ||
+    newer "$carry" tests/fuzz include ||
         clang -std=gnu11 -Wall -Wextra -Wshadow -Werror -g -O2 -Iinclude -c -o "$carry" tests/fuzz/carry.c
-    newer "$out/played" tests/fuzz/played.c tests/fuzz/carried.h include "$played_archive" ||
-        sh $cross -std=gnu11 -Wall -Wextra -Wshadow -Werror -g -O2 -static -Iinclude -o "$out/played" tests/fuzz/played.c "$played_archive"
+    newer "$out/played" tests/fuzz include "$played_archive" "$played_program" || {
+        $cross_objcopy --redefine-sym main=ringdump_main --redefine-sym read=ringdump_read \
+            --redefine-sym write=ringdump_write "$played_program" "$out/played-ringdump.o"
+        $cross -std=gnu11 -Wall -Wextra -Wshadow -Werror -g -O2 -static -Iinclude -o "$out/played" tests/fuzz/played.c \
+            "$out/played-ringdump.o" "$played_archive"
+    }
 }
 
 # Without wide vectors, which the emulator is slow at.
@@ -49,31 +55,32 @@ players_agree() {
               printf "carried: %d executions, %d calls, no difference\n", executions, calls }'
 }
 
-# One short stream, played once as it is, and once with each planted difference: the answer of each function, the last
-# byte of each slice that it may write, and the guard byte beside it.
+# One short stream, played once as it is, and once with each planted difference.
 carry_teeth() {
     CARRY_TO=$out/teeth PLAYERS=1 "$out/target" $signals -runs=3000 -seed="$seed" -max_len="$max_len" -detect_leaks=0 \
         -dict=tests/fuzz/ollskuvan.dict "$out/seeds" 2>"$out/log" || stop "the target failed, see $out/log"
     play <"$out/teeth.0" >"$out/played.log" || stop "the stream does not play, see $out/played.log"
-    functions=$(grep -c '^carried: [a-z_]* [0-9]*$' "$out/played.log") found=0 number=0
-    while [ $number -lt "$functions" ]; do
-        for where in 0 $(writable $number); do
+    found=0 number=0
+    for name in $(sed -n 's/^carried: \([a-z_]*\) [0-9]*$/\1/p' "$out/played.log"); do
+        for where in $(planted_in "$name"); do
             ! PLANT=$((100 * where + number)) play <"$out/teeth.0" >"$out/planted.log" 2>&1 ||
-                stop "the difference planted in function $number at $where was not found"
-            grep -q '^DIFFERENCE' "$out/planted.log" || stop "function $number at $where ended otherwise, see $out/planted.log"
+                stop "the difference planted in $name at $where was not found"
+            grep -q "^DIFFERENCE: $name," "$out/planted.log" || stop "$name at $where ended otherwise, see $out/planted.log"
             found=$((found + 1))
         done
         number=$((number + 1))
     done
     rm -f "$out/teeth.0"
-    echo "carry-teeth: $found differences planted in $functions functions, all found"
+    echo "carry-teeth: $found differences planted in $number functions, all found"
 }
 
-# The places of PLANT for each slice that this function may write.
-writable() {
-    name=$(sed -n 's/^ *X(\([a-z_]*\),.*/\1/p' tests/fuzz/carried.h | sed -n "$(($1 + 1))p")
-    case $name in
-        drain | drain_events | walk_back | walk_back_events | replay | salvage | compare | read_one | read_one_events) echo 1 2 11 12 ;;
-        copy_name | read | read_events | write | read_store | write_store) echo 1 11 ;;
+# Where a function gets them (see PLANT in played.c): its answer; a slice lent for reading, and what is behind it; the last
+# byte of each slice that it may write, and the guard byte beside it.
+planted_in() {
+    case $1 in
+        ringdump | misc_meaning | publish) echo 0 ;;
+        find_event | check | check_events) echo 0 20 21 ;;
+        copy_name | read | read_events | write | read_store | write_store) echo 0 20 21 1 11 ;;
+        *) echo 0 20 21 1 11 2 12 ;;
     esac
 }

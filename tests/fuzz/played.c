@@ -7,7 +7,8 @@
  *
  * PLAYED_KEEPS is the file that gets the input of an execution with a difference.
  * PLANT=number plants a fault, to see that it is found: in function number % 100 the answer is changed (number / 100 is 0),
- * the last byte of its n-th slice that may be written (n), or the guard byte beside it (10 + n).
+ * the last byte of its n-th slice that may be written (n), or the guard byte beside it (10 + n); or a slice that is only read
+ * is written (20), or the byte behind a slice is read, on the page that cannot be touched (21).
  */
 #define _GNU_SOURCE
 #include <inttypes.h>
@@ -19,9 +20,9 @@
 
 #include "carried.h"
 
-enum { HEX_MAX = 4096, BUFFER = 16 << 20 };
+enum { HEX_MAX = 4096, BUFFER = 16 << 20, NONE = 9999 };
 #define NAMED(call, type, told) #call,
-static const char *const call_names[] = { EXPORTS(NAMED) "none" };
+static const char *const call_names[] = { EXPORTS(NAMED) "ringdump", "none" };
 static const char *const slot_names[SLOTS] = { "ring", "right ring", "record", "table", "value", "scratch", "right scratch",
     "journal", "rooms", "out", "words", "rows" };
 
@@ -43,7 +44,7 @@ static struct {
     struct { enum slot slot; const uint8_t *place; size_t count; } slice[8];
 } now = { .call = CALLS, .names = "" };
 static uint64_t execution, executions, calls[CALLS]; /* the number of the one that is played; how many were */
-static unsigned plant = ~0u;
+static unsigned plant = NONE;
 static uint8_t input[LONGEST_INPUT];
 static size_t input_len;
 
@@ -160,6 +161,14 @@ static void take_changes(uint8_t *place, uint8_t *other)
 
 /* ---- Slices. ---- */
 
+static void plant_touch(enum slot slot, uint8_t *slice, size_t count, int side)
+{
+    if (plant == 2000 + now.call && slot < WRITABLE && count)
+        slice[0] = 1;
+    if (plant == 2100 + now.call)
+        (void)*(volatile uint8_t *)(side ? slice - 1 : slice + count);
+}
+
 static uint8_t *taken_slice(enum slot slot, size_t count)
 {
     int side = side_of(execution);
@@ -177,6 +186,8 @@ static uint8_t *taken_slice(enum slot slot, size_t count)
     now.slice[now.slices].slot = slot;
     now.slice[now.slices].place = lent;
     now.slice[now.slices++].count = count;
+    if (plant != NONE)
+        plant_touch(slot, lent, count, side);
     return lent;
 }
 
@@ -219,7 +230,7 @@ static void check_slice(enum slot slot, size_t count)
     size_t before = side ? 0 : GUARD;
 
     now.writable++;
-    if (plant != ~0u)
+    if (plant != NONE)
         plant_in_slice(lent, count, side);
     take_changes(due, NULL);
     if (!same_bytes(lent - before, due - before, count + GUARD)) {
@@ -264,12 +275,57 @@ static void check_made(uint8_t *made, size_t count)
     }
 EXPORTS(PLAYED)
 
+/* ---- The program ringdump: it asks for the same bytes, is given the same, and prints the same. ---- */
+
+static void is_next(const char *words, const void *due, size_t count)
+{
+    if (memcmp(at, due, count)) {
+        print_hex("the archive's side", due, count);
+        print_hex("this machine's", at, count);
+        differs(words);
+    }
+    at += count;
+}
+
+ssize_t ringdump_read(int file, void *bytes, size_t count)
+{
+    uint64_t asked[3] = { FROM, (uint64_t)file, count }, came;
+
+    is_next("what ringdump asks for", asked, sizeof asked);
+    take(&came, 8);
+    take(bytes, came);
+    return (ssize_t)came;
+}
+
+ssize_t ringdump_write(int file, const void *bytes, size_t count)
+{
+    uint64_t given[3] = { ONTO, (uint64_t)file, count }, went;
+
+    if (plant == now.call)
+        given[2]++;
+    is_next("how much ringdump prints", given, sizeof given);
+    is_next("what ringdump prints", bytes, count);
+    take(&went, 8);
+    return (ssize_t)went;
+}
+
+static void play_program(void)
+{
+    uint64_t end[2] = { BACK, 0 };
+
+    end[1] = (uint64_t)ringdump_main();
+    is_next("how ringdump ends", end, sizeof end);
+}
+
+/* ---- The stream, played. ---- */
+
 #define ENTRY(call, type, told) play_##call,
-static void (*const plays[CALLS])(void) = { EXPORTS(ENTRY) };
+static void (*const plays[CALLS])(void) = { EXPORTS(ENTRY) play_program };
 
 static void play(uint32_t number, const uint8_t *end)
 {
     now.call = number;
+    now.names = "";
     now.numbers = now.slices = now.writable = 0;
     calls[number]++;
     plays[number]();

@@ -67,7 +67,8 @@ if [ -n "${LIGHT:-}" ]; then
     out=$out-light sanitizers=fuzzer,undefined touched='libFuzzer: deadly signal' compares=
     machine="$machine -fno-sanitize-coverage=trace-cmp" signals="$signals -entropic=0"
 fi
-wrapped= carry=
+wrapped=
+carry=
 if [ -n "${CARRY:-}" ]; then
     [ -n "${NATIVE:-}" ] || stop "CARRY=1 needs NATIVE=1: the other side is the archive for x86-64"
     out=$out-carry
