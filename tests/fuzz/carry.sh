@@ -1,12 +1,20 @@
 # shellcheck shell=sh disable=SC2086,SC2154,SC2013 # read by run.sh, whose names it uses
 # The way CARRY=1 of tests/fuzz/run.sh: the target writes its calls to a fifo, the player makes them on the archive.
 played_archive=target/staticlib/libollskuvan.a played_program=target/obj/ringdump.o
-cross=cc cross_objcopy=objcopy emulator=
-[ "$(uname -m)" = x86_64 ] || cross='sh tools/x86/cc' cross_objcopy=x86_64-linux-gnu-objcopy emulator=qemu-x86_64
+cross=cc
+cross_objcopy=objcopy
+emulator=
+if [ "$(uname -m)" != x86_64 ]; then
+    cross=x86_64-linux-gnu-gcc
+    cross_objcopy=x86_64-linux-gnu-objcopy
+    emulator=$(command -v qemu-x86_64 || command -v qemu-x86_64-static || echo qemu-x86_64)
+fi
 
 # An export that carried.h does not have is not linked: no call is left out.
 build_carry() {
-    command -v ${emulator:-sh} >/dev/null || skip "$emulator is missing (Debian: apt-get install qemu-user)"
+    for tool in $cross $cross_objcopy $emulator; do
+        command -v "$tool" >/dev/null || skip "$tool is missing (tools/x86.sh line tells what installs it)"
+    done
     [ -f "$played_archive" ] || stop "$played_archive is missing: run 'make lib' first"
     [ -f "$played_program" ] || stop "$played_program is missing: run 'rt check ringdump' first"
     wrapped='-Wl,--wrap=LLVMFuzzerTestOneInput,--wrap=ringdump_main,--wrap=ringdump_read,--wrap=ringdump_write'
