@@ -43,5 +43,6 @@ for edit in $(comm -23 <(echo "$edits") <(echo "$told")); do say "docs/WRONG-REA
 for edit in $(comm -13 <(echo "$edits") <(echo "$told")); do say "docs/WRONG-READERS.md names $edit, and there is no such edit"; done
 
 tests/format.sh || say 'docs/FORMAT.md is not what the header says'
-[ "$bad" -eq 0 ] && echo "pages: width, lines of README, named files, $(wc -l <<<"$edits") must-fail edits, format: all fine"
+python3 tests/words.py || say 'a word of a value has another name elsewhere'
+[ "$bad" -eq 0 ] && echo "pages: width, lines of README, named files, $(wc -l <<<"$edits") must-fail edits, format, words: all fine"
 exit "$bad"
