@@ -31,3 +31,4 @@ pub mod Salvage
 pub mod SalvageExamples
 pub mod Compared
 pub mod CompareScratch
+pub mod Written
