@@ -32,3 +32,4 @@ pub mod SalvageExamples
 pub mod Compared
 pub mod CompareScratch
 pub mod Written
+pub mod Recorded
