@@ -33,3 +33,4 @@ pub mod Compared
 pub mod CompareScratch
 pub mod Written
 pub mod Recorded
+pub mod Nobody44
