@@ -31,3 +31,6 @@ pub mod Salvage
 pub mod SalvageExamples
 pub mod Compared
 pub mod CompareScratch
+pub mod Written
+pub mod Recorded
+pub mod Nobody44
