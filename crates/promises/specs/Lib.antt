@@ -25,6 +25,7 @@ pub mod Inspected
 pub mod Series
 pub mod Readers
 pub mod Settings
+pub mod StoreExactly
 pub mod SettingsExamples
 pub mod Replay
 pub mod Salvage
