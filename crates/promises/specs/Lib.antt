@@ -26,6 +26,7 @@ pub mod Series
 pub mod Readers
 pub mod Settings
 pub mod StoreExactly
+pub mod PublishedExactly
 pub mod SettingsExamples
 pub mod Replay
 pub mod Salvage
