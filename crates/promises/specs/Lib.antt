@@ -32,4 +32,5 @@ pub mod Replay
 pub mod Salvage
 pub mod SalvageExamples
 pub mod Compared
+pub mod ComparedAlike
 pub mod CompareScratch

@@ -3,16 +3,15 @@
 -- second reader's; 0 exactly when both readers pass. Assumes nothing.
 use mathlib.Core.Path.{_≡_, refl, sym, ap, _∙_}
 use mathlib.Core.Bool.{Bool, true, false}
-use mathlib.Core.List.{List, [], _∷_, _++_}
+use mathlib.Core.List.{[], _∷_}
 use mathlib.Core.Logic.{_⊎_, inl, inr, ⊎-elim}
 use Prim.Native.Nat.{ℕ, _<_}
 use native.Mathlib.Omega.{arith}
 use borrow.Author.Tests.{eqb-true, eqb-false}
 use lib.Dec.{eqb}
-use Rattle.meaning.specs.Refusals.{Refusal, first}
+use Rattle.meaning.specs.Refusals.{first}
 use Rattle.meaning.specs.Editions.{isIn}
 use Rattle.laws.specs.Rows.{Passed, first-in}
-use Rattle.readers.specs.declared.Readers.{Readers}
 use Rattle.readers.specs.declared.Published.{Published}
 use Rattle.readers.specs.Readers.{readersAt, tailRows, tailAnswer, furtherTail, published}
 use Rattle.readers.specs.Laws.{published-first, published-second, published-tail, published-zero, no-tail}
