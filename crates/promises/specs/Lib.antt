@@ -29,6 +29,7 @@ pub mod StoreExactly
 pub mod PublishedExactly
 pub mod SettingsExamples
 pub mod Replay
+pub mod ReplayHistory
 pub mod Salvage
 pub mod SalvageExamples
 pub mod Compared
