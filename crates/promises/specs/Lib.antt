@@ -3,6 +3,7 @@ pub mod Scratch
 pub mod Checked
 pub mod Demand1
 pub mod Names
+pub mod FlagInWords
 pub mod Lent
 pub mod Backward
 pub mod Header
