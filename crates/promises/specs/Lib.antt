@@ -3,6 +3,7 @@ pub mod Scratch
 pub mod Checked
 pub mod Demand1
 pub mod Names
+pub mod FlagInWords
 pub mod Lent
 pub mod Backward
 pub mod Header
@@ -25,11 +26,15 @@ pub mod Inspected
 pub mod Series
 pub mod Readers
 pub mod Settings
+pub mod StoreExactly
+pub mod PublishedExactly
 pub mod SettingsExamples
 pub mod Replay
+pub mod ReplayHistory
 pub mod Salvage
 pub mod SalvageExamples
 pub mod Compared
+pub mod ComparedAlike
 pub mod CompareScratch
 pub mod Written
 pub mod Recorded
