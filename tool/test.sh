@@ -624,16 +624,17 @@ $tool salvage --edition 1 $out/salvage/kept $out/salvage/first | grep -qx 'hole 
 mkdir -p $out/compare
 $out/fields rings/*.img rings/events/*.img $out/made/*.img >$out/fields.txt || { wrong "fields by number"; head $out/fields.txt; }
 tail -n 1 $out/fields.txt
-compares() { # STATUS LINE A B: what is printed
-  local said status
-  said=$($tool compare "$3" "$4" 2>&1)
+compares() { # STATUS LINE A B [OPTION..]: what is printed
+  local due=$1 line=$2 said status
+  shift 2
+  said=$($tool compare "$@" 2>&1)
   status=$?
-  [ "$status" -eq "$1" ] && [ "$said" = "$2" ] || wrong "compare $3 $4: exit $status, '$said' and not '$2'"
+  [ "$status" -eq "$due" ] && [ "$said" = "$line" ] || wrong "compare $*: exit $status, '$said' and not '$line'"
   tried=$((tried + 1))
 }
-# an image: head and tail in octal bytes, sample type with bit 16, edition 4, sample_id_all, then 64 bytes from stdin
-image_of() { # NAME HEAD TAIL
-  { printf "$2\\0\\0\\0\\0\\0\\0\\0$3\\0\\0\\0\\0\\0\\0\\0\\0\\0\\1\\0\\0\\0\\0\\0"; head -c 24 /dev/zero; printf '\4\1'
+# an image: head and tail in octal bytes, sample type with bit 16, the edition (4), sample_id_all, then 64 bytes from stdin
+image_of() { # NAME HEAD TAIL [EDITION]
+  { printf "$2\\0\\0\\0\\0\\0\\0\\0$3\\0\\0\\0\\0\\0\\0\\0\\0\\0\\1\\0\\0\\0\\0\\0"; head -c 24 /dev/zero; printf "\\${4:-4}\\1"
     { cat; head -c 64 /dev/zero; } | head -c 64; } >$out/compare/"$1".img
 }
 for image in rings/events/children.img rings/events/counters.img rings/tasks.img; do
@@ -671,6 +672,25 @@ compares 1 'record 0 (COMM): field 7, name, "kiln" and "oven"' $of/kiln.img $of/
 compares 1 'record 0 (COMM): field 8, name flag, 0 and 1' $of/kiln.img $of/dirty.img
 compares 2 "ollskuvan compare: $of/cut.img: stop 7 after 1 equal record: the record's size passes the head" $of/six.img $of/cut.img
 compares 2 "ollskuvan compare: $of/cut.img: stop 7 after 1 equal record: the record's size passes the head" $of/cut.img $of/six.img
+# under a newer edition than the images' own, which alone accepts their records: their identifiers stand for an event too
+newer() { printf '\025\0\0\0\0\0\030\0\'"$1"'\0\0\0\0\0\0\0\7\0\0\0\0\0\0\0'; }
+newer 5 | image_of newer '\030' '\0' 3
+newer 6 | image_of newer-too '\030' '\0' 3
+compares 1 'record 0 (AUX_OUTPUT_HW_ID): field 1, the bytes of both, refused with 20, byte 8: 05 and 06' $of/newer.img $of/newer-too.img
+compares 1 'record 0 (AUX_OUTPUT_HW_ID): field 5, hardware id, 5 and 6' $of/newer.img $of/newer-too.img --edition 4
+# records that are refused have their own numbers, as in dump, and take no event's place; too short for an identifier they have 27
+refused() { printf '\2\0\0\0\0\0\030\0\5\0\0\0\0\0\0\0\'"$1"'\0\0\0\0\0\0\0'; }
+refused 6 | image_of refused '\030' '\0'
+refused 7 | image_of refused-too '\030' '\0'
+{ refused 7; printf "$switch"; } | image_of refused-first '\050' '\0'
+printf '\2\0\0\0\0\0\010\0' | image_of no-identifier '\010' '\0'
+printf '\2\0\0\0\1\0\010\0' | image_of no-identifier-too '\010' '\0'
+$tool dump $of/refused.img | grep -q '^    refused: 30, ' || wrong "a LOST that is too short is not refused with 30"
+compares 1 'record 0 (LOST): field 1, the bytes of both, refused with 30, byte 16: 06 and 07' $of/refused.img $of/refused-too.img
+compares 1 'record 0 (LOST): field 1, the bytes of both, refused with 30, byte 16: 06 and 07' $of/refused.img $of/refused-first.img
+compares 1 'record 0 (LOST): field 1, the bytes of both, refused with 27, byte 4: 00 and 01' $of/no-identifier.img $of/no-identifier-too.img
+cp $of/refused-first.img $of/before.img && printf '7 0x10000 0 0 0 0 1\n' >$of/before.table
+compares 0 'alike: 2 records' $of/refused-first.img $of/before.img
 # tables: one that is not allowed, events that are told otherwise
 cp $of/six.img $of/table.img && printf '7 0x10000 0 0 0 0 1\n' >$of/table.table
 compares 0 'alike: 2 records' $of/table.img $of/six.img
@@ -685,8 +705,7 @@ refuses 2 'No such file' compare $of/six.img $of/none.img
 refuses 2 'no ring image' compare $out/49.img $of/six.img
 refuses 2 'a number from 1 to 4 is wanted' compare $of/six.img $of/six.img --edition 5
 refuses 2 'too few words' compare $of/six.img
-[ "$($tool compare --edition 1 $of/six.img $of/seven.img)" = \
-  'record 1 (LOST): field 1, the bytes of both, refused with 21, byte 16: 06 and 07' ] || wrong "compare --edition 1"
+compares 1 'record 1 (LOST): field 1, the bytes of both, refused with 21, byte 16: 06 and 07' --edition 1 $of/six.img $of/seven.img
 $tool compare $of/six.img $of/six.img >/dev/full 2>/dev/null
 [ $? -eq 2 ] || wrong "compare to a full device is no trouble"
 
