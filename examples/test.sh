@@ -257,6 +257,29 @@ unwritten closed "$late" --short "${kiln[@]}"
 unwritten /dev/full "$late" --help
 unwritten /dev/full "$programs/controller" --help
 unwritten /dev/null "$late" --svg /dev/full "${kiln[@]}"
+# a call that fails loses nothing that was there, and leaves nothing beside it
+keeps() { # FILE STATUS COMMAND..
+  local file=$1 status=$2 said
+  shift 2
+  echo old >"$file"
+  "$@" >/dev/null 2>"$out/kept.err" </dev/null
+  said=$?
+  [ $said -eq "$status" ] || wrong "$*: status $said, not $status: $(head -n 1 "$out/kept.err")"
+  [ "$(cat "$file")" = old ] || wrong "$*: $file is lost"
+  [ -z "$(find "$(dirname "$file")" -name '*.new-*')" ] || wrong "$*: leaves a file behind"
+  bad=$((bad + 1))
+}
+no_room() { (trap '' XFSZ; ulimit -f 0; exec "$@" 2>/dev/null); } # no byte can be written to a file
+mkdir -p "$out/keep"
+keeps "$out/keep/kiln.svg" 1 "$late" --svg "$out/keep/kiln.svg" "$out/none.img"
+keeps "$out/keep/kiln.svg" 1 "$late" --svg "$out/keep/kiln.svg" --watch nobody "${kiln[@]}"
+keeps "$out/keep/kiln.svg" 1 no_room "$late" --svg "$out/keep/kiln.svg" "${kiln[@]}"
+keeps "$out/keep/ring-cpu0.img" 1 no_room "$programs/make_rings" --many 1000 5 "$out/keep/ring"
+rm "$out/keep/ring-cpu0.img"
+no_room "$programs/make_rings" --many 1000 5 "$out/keep/ring"
+[ ! -e "$out/keep/ring-cpu0.img" ] || wrong "half an image is left where it could not be written"
+keeps "$out/keep/firing-names.txt" 2 "$programs/controller" --cpu 7777 --save "$out/keep/firing"
+keeps "$out/keep/firing-names.txt" 2 "$programs/controller" --cpu 7777 --flight "$out/keep/firing"
 "$late" --svg "$out/closed.svg" "${kiln[@]}" >&- 2>/dev/null
 head -c 4 "$out/closed.svg" | grep -q '<svg' || wrong "with standard output closed the report goes into the picture"
 

@@ -56,6 +56,15 @@ struct trace {
     struct file file;
 };
 
+static bool read_trace(struct trace *trace)
+{
+    char why[WHY_ROOM];
+    if (file_read(&trace->file, trace->path, SIZE_MAX, why))
+        return true;
+    complain("%s: %s", trace->path, why);
+    return false;
+}
+
 /* Where the entry of this number begins: those before it were played, and so are whole. */
 static size_t place_of(const struct trace *trace, uint64_t entry)
 {
@@ -103,7 +112,7 @@ static int play(const struct trace *trace, const struct settings *s)
     uint8_t *rooms = calloc(rooms_len + 1, 1), *journal = malloc(journal_len);
     int status = STATUS_FAILED;
     if (rooms == NULL || journal == NULL) {
-        no_memory(trace->path);
+        complain("%s: out of memory", trace->path);
     } else {
         struct ollskuvan_replayed r = ollskuvan_replay(trace->file.bytes, trace->file.length, s->start, s->table.events, s->table.count,
             (uint32_t)s->edition, rooms, rooms_len, journal, journal_len);
@@ -150,7 +159,7 @@ int replay_command(int argc, char **argv)
         !take_number("--edition", edition, OLLSKUVAN_EDITION_4, &settings.edition))
         return STATUS_USAGE;
     trace.path = argv[1];
-    status = file_read(&trace.file, trace.path) && settings_of(&settings, trace.path) ? play(&trace, &settings) : STATUS_FAILED;
+    status = read_trace(&trace) && settings_of(&settings, trace.path) ? play(&trace, &settings) : STATUS_FAILED;
     free(trace.file.bytes);
     return finished(status);
 }

@@ -161,14 +161,25 @@ static bool edition_of(uint32_t *edition, const char *text)
     return false;
 }
 
+static bool read_stream(struct salvage *s)
+{
+    char why[WHY_ROOM];
+    if (file_read(&s->stream, s->in, SIZE_MAX, why))
+        return true;
+    complain("%s: %s", s->in, why);
+    return false;
+}
+
 /* Rooms that are always enough: see ollskuvan.h. */
 static bool salvage(struct salvage *s)
 {
     size_t room = OLLSKUVAN_CHANGE_ENTRY * (s->stream.length / 24 + 1);
     s->kept = malloc(s->stream.length + 1);
     s->list = malloc(room);
-    if (s->kept == NULL || s->list == NULL)
-        return no_memory(s->in);
+    if (s->kept == NULL || s->list == NULL) {
+        complain("%s: out of memory", s->in);
+        return false;
+    }
     s->told = ollskuvan_salvage(s->stream.bytes, s->stream.length, s->basis.events, s->basis.count, s->basis.edition,
         s->kept, s->stream.length, s->list, room);
     if (s->told.answer != OLLSKUVAN_OK)
@@ -190,7 +201,7 @@ int salvage_command(int argc, char **argv)
         return STATUS_USAGE;
     s.in = argv[1];
     s.out = argv[2];
-    bool done = file_read(&s.stream, s.in) &&
+    bool done = read_stream(&s) &&
         (s.store != NULL ? basis_of_store(&s.basis, s.store) : basis_beside(&s.basis, s.in)) && salvage(&s) && write_files(&s);
     if (done)
         print_told(&s);

@@ -24,12 +24,12 @@ build() { # NAME FLAGS.. FILES..: C99 with the tool's own files
   ${CC:-cc} -std=c99 -pedantic -Wall -Wextra -Werror -g -Iinclude -Iwords -Iexamples -Itool -o "$out/$name" "$@" \
     $archives || { echo "tool/test.sh: $name does not build"; exit 1; }
 }
-shared='tool/image.c tool/command.c examples/events.c examples/flight.c examples/memory.c examples/messages.c examples/text.c'
+shared='tool/image.c tool/command.c examples/events.c examples/file.c examples/flight.c examples/memory.c examples/messages.c examples/text.c'
 # what a writing of a store is made of, so that it can end or fail at each step
 steps='-Wl,--wrap=write,--wrap=fsync,--wrap=rename,--wrap=fchmod,--wrap=close'
 # shellcheck disable=SC2086
 {
-  build stores -O1 $steps tool/tests/stores.c examples/settings.c
+  build stores -O1 $steps tool/tests/stores.c examples/settings.c examples/file.c
   build values -O1 tool/tests/values.c tool/show.c $shared
   build fields -O1 tool/tests/fields.c tool/show.c $shared
   build stack -O1 -fno-optimize-sibling-calls -Wl,-z,now tool/tests/stack.c $shared
@@ -39,7 +39,7 @@ steps='-Wl,--wrap=write,--wrap=fsync,--wrap=rename,--wrap=fchmod,--wrap=close'
   build damage -O1 $sanitizers tool/tests/damage.c tool/dump.c \
     tool/journal.c tool/show.c words/ollskuvan_words.c $shared
   build stores-checked -O1 $sanitizers $steps tool/tests/stores.c \
-    examples/settings.c
+    examples/settings.c examples/file.c
 }
 
 # ---- the header's constants and the one table of words
@@ -540,7 +540,8 @@ refuses 2 'a value is wanted behind --ring' replay $out/replay/worked --ring
 refuses 2 '--ring: a number up to 1048576 is wanted' replay $out/replay/worked --ring 1048577
 refuses 2 '--start: a number up to 18446744073709551615 is wanted' replay $out/replay/worked --start -8
 refuses 2 'unknown option --budget' replay $out/replay/worked --budget 3
-refuses 2 '--trace goes with neither --save nor --report' record --trace a --save b
+refuses 2 '--trace goes with none of --save, --flight and --report' record --trace a --save b
+refuses 2 '--trace goes with none of --save, --flight and --report' record --trace a --flight b
 
 # ---- salvage: the records of the real rings of several events, end to end, whole and with holes
 straight() { # IMAGE: the bytes from its tail to its head
