@@ -566,10 +566,7 @@ static bool take_option(void *options, int letter)
     case 'v':
         return counters_argument(optarg, &o->want.counters);
     case 'e':
-        if (!whole_argument(optarg, "--edition", 1, 4, &n))
-            return false;
-        o->want.edition = (uint32_t)n;
-        return true;
+        return edition_argument(optarg, &o->want.edition);
     case 'w':
     case 'f':
         if (o->save != NULL) {

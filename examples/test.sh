@@ -224,6 +224,9 @@ for list in '' faults page-faults, page-faults,page-faults 'page-faults cpu-cloc
   refuses 2 '--events: some of cpu-clock, page-faults, context-switches and cpu-migrations are wanted' controller --events "$list"
 done
 refuses 2 '--clock and --events cpu-clock are the same counter' controller --clock --events page-faults,cpu-clock
+refuses 2 'RECORDS: a number from 1' make_rings --many x 5 "$out/none"
+refuses 2 'LOST: a number from 0' make_rings --many 10 -5 "$out/none"
+refuses 2 'RECORDS: a number from 1' load_test 0
 refuses 1 'No such file' controller --save "$out/none/saved"
 # a store that is none is named with its number and place, and left as it is
 printf '\010\000\000\000\001\000\001\000\007' >"$out/broken.store" && cp "$out/broken.store" "$out/broken.kept"

@@ -7,6 +7,7 @@
 #include <stdlib.h>
 #include <string.h>
 
+#include "arguments.h"
 #include "bytes.h"
 #include "command.h"
 #include "flight.h"
@@ -149,16 +150,16 @@ static void add_any(struct event_table *table)
         table->events[table->count++] = any;
 }
 
-static bool one_for_both(const char *edition)
+static bool one_for_both(uint32_t edition)
 {
     static struct event_table table;
-    if (edition == NULL && left.image.edition != right.image.edition) {
+    if (edition == 0 && left.image.edition != right.image.edition) {
         complain("%s has edition %" PRIu32 " and %s edition %" PRIu32 ": --edition N compares both under one",
             left.image.name, left.image.edition, right.image.name, right.image.edition);
         return false;
     }
-    if (edition != NULL) /* what is accepted, and so what brings its event, depends on it */
-        left.image.edition = right.image.edition = (uint32_t)(edition[0] - '0');
+    if (edition != 0) /* what is accepted, and so what brings its event, depends on it */
+        left.image.edition = right.image.edition = edition;
     if (!add_both(&table))
         return false;
     add_any(&table);
@@ -177,13 +178,6 @@ static void take(struct side *side, uint64_t number)
         tail = image_read_one(&side->image, tail, side->fields, &record).tail;
     side->one = image_read_one(&side->image, tail, side->fields, &record);
     memcpy(side->record, record, (size_t)side->one.size);
-}
-
-static struct value value_of(const struct side *side, struct image *of)
-{
-    *of = image_of_event(&side->image, side->fields);
-    const struct value value = { of, side->record, side->fields, false };
-    return value;
 }
 
 /* Small numbers are the same in both forms. */
@@ -220,8 +214,7 @@ static void print_runs(const uint8_t *a, uint64_t a_count, const uint8_t *b, uin
 
 static void print_list(const struct ollskuvan_word *row)
 {
-    struct image of;
-    const struct value value = value_of(&left, &of);
+    const struct value value = { record_attributes(&left.image, left.fields), left.record, left.fields, false };
     const uint8_t *a = left.record + left.fields[row->word], *b = right.record + right.fields[row->word];
     uint64_t a_count = left.fields[row->count], b_count = right.fields[row->count];
     if (row->form == OLLSKUVAN_FORM_NAME) {
@@ -318,7 +311,7 @@ static bool side_read(struct side *side, const char *path)
     return false;
 }
 
-static int compare(const char *edition)
+static int compare(uint32_t edition)
 {
     if (!one_for_both(edition))
         return TROUBLE;
@@ -329,22 +322,15 @@ static int compare(const char *edition)
     return tell(&told);
 }
 
-static bool edition_is_known(const char *text)
-{
-    if (text == NULL || (text[0] >= '1' && text[0] <= '4' && text[1] == '\0'))
-        return true;
-    complain("--edition: a number from 1 to 4 is wanted, not '%s'", text);
-    return false;
-}
-
 int compare_command(int argc, char **argv)
 {
-    const char *edition = NULL;
+    const char *given = NULL;
+    uint32_t edition = 0; /* that of both images */
     int status;
-    if (!take_option(&argc, argv, "--edition", &edition, takes.usage, &status) ||
+    if (!take_option(&argc, argv, "--edition", &given, takes.usage, &status) ||
         take_words(argc, argv, &takes, &status) < 0)
         return status == STATUS_DONE ? ALIKE : TROUBLE;
-    if (!edition_is_known(edition))
+    if (given != NULL && !edition_argument(given, &edition))
         return TROUBLE;
     status = side_read(&left, argv[1]) && side_read(&right, argv[2]) ? compare(edition) : TROUBLE;
     image_free(&left.image);

@@ -123,19 +123,21 @@ uint8_t *image_drain(const struct image *image, struct ollskuvan_drained *done)
     return journal;
 }
 
-struct image image_of_event(const struct image *image, const uint64_t fields[OLLSKUVAN_FIELDS])
+struct ring_attributes image_attributes(const struct image *image)
 {
-    struct image of = *image;
+    const struct ring_attributes own = { image->sample_type, image->read_format, image->user_mask, image->interrupt_mask,
+        image->branch_sample_type, image->sample_id_all, image->edition };
+    return own;
+}
+
+struct ring_attributes record_attributes(const struct image *image, const uint64_t fields[OLLSKUVAN_FIELDS])
+{
     size_t event = image->table.count != 0 ? event_of(&image->table, fields) : 0;
     if (event >= image->table.count)
-        return of;
+        return image_attributes(image);
     const struct ollskuvan_event *v = &image->table.events[event];
-    of.sample_type = v->sample_type;
-    of.read_format = v->read_format;
-    of.user_mask = v->user_mask;
-    of.interrupt_mask = v->interrupt_mask;
-    of.branch_sample_type = v->branch_sample_type;
-    of.sample_id_all = v->sample_id_all != 0;
+    const struct ring_attributes of = { v->sample_type, v->read_format, v->user_mask, v->interrupt_mask,
+        v->branch_sample_type, v->sample_id_all != 0, image->edition };
     return of;
 }
 

@@ -8,6 +8,7 @@
 #include <stdlib.h>
 #include <string.h>
 
+#include "arguments.h"
 #include "bytes.h"
 #include "command.h"
 #include "events.h"
@@ -147,20 +148,6 @@ static void print_told(const struct salvage *s)
 
 /* ---- the command ---- */
 
-/* 0 if none is named. False: it is none, which is said. */
-static bool edition_of(uint32_t *edition, const char *text)
-{
-    *edition = 0;
-    if (text == NULL)
-        return true;
-    if (text[0] >= '1' && text[0] <= '4' && text[1] == '\0') {
-        *edition = (uint32_t)(text[0] - '0');
-        return true;
-    }
-    complain("--edition: a number from 1 to 4 is wanted, not '%s'", text);
-    return false;
-}
-
 static bool read_stream(struct salvage *s)
 {
     char why[WHY_ROOM];
@@ -197,7 +184,7 @@ int salvage_command(int argc, char **argv)
         !take_option(&argc, argv, "--edition", &given, takes.usage, &status) ||
         take_words(argc, argv, &takes, &status) < 0)
         return status;
-    if (!edition_of(&s.basis.edition, given))
+    if (given != NULL && !edition_argument(given, &s.basis.edition))
         return STATUS_USAGE;
     s.in = argv[1];
     s.out = argv[2];

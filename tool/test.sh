@@ -524,7 +524,7 @@ says 1 'store: not played to its end: 52 at entry 1, byte 22: an entry that may 
 trace other '\016\0\0\0\020\0\016\0\0\0\0\0\020\0'
 says 1 'other: not played to its end: 53 at entry 0, byte 0: what is offered is no record' replay $out/replay/other
 refuses 1 "worked: not played: 1, the ring's length is not allowed" replay $out/replay/worked --ring 100
-refuses 1 'worked: not played: 2, the edition is not' replay $out/replay/worked --edition 0
+refuses 2 '--edition: a number from 1 to 4 is wanted' replay $out/replay/worked --edition 0
 refuses 1 'worked: not played: 5, head or tail is no multiple of 8' replay $out/replay/worked --start 4
 printf '7 0x10000 0 0 0 0 0\n' >$out/replay/worked.table
 refuses 1 'worked: not played: 11, the table of events is not allowed' replay $out/replay/worked
@@ -537,8 +537,8 @@ refuses 1 'Is a directory' replay rings
 refuses 2 'too few words' replay
 refuses 2 'too many words' replay a b
 refuses 2 'a value is wanted behind --ring' replay $out/replay/worked --ring
-refuses 2 '--ring: a number up to 1048576 is wanted' replay $out/replay/worked --ring 1048577
-refuses 2 '--start: a number up to 18446744073709551615 is wanted' replay $out/replay/worked --start -8
+refuses 2 '--ring: a number from 0 to 1048576 is wanted' replay $out/replay/worked --ring 1048577
+refuses 2 '--start: a number from 0 to 18446744073709551615 is wanted' replay $out/replay/worked --start -8
 refuses 2 'unknown option --budget' replay $out/replay/worked --budget 3
 refuses 2 '--trace goes with none of --save, --flight and --report' record --trace a --save b
 refuses 2 '--trace goes with none of --save, --flight and --report' record --trace a --flight b
