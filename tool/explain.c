@@ -15,8 +15,8 @@ static bool all;
 static const struct flag flags[] = { { "--all", &all }, { NULL, NULL } };
 static const struct takes takes = {
     "usage: ollskuvan explain NUMBER.. | --all\n"
-    "Says in words why a call stopped, what a record was answered, or why a record, a name, a value, a store\n"
-    "of settings, a trace or a salvage was refused.\n"
+    "Says in words why a call stopped, what a record was answered, or why a record, a name, a value, a table\n"
+    "of events, a store of settings, a trace or a salvage was refused.\n"
     "  --all   every number that is used\n",
     flags, 0, 99,
 };

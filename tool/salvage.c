@@ -21,7 +21,8 @@ static const struct takes takes = {
     "usage: ollskuvan salvage IN OUT [--changes FILE] [--settings STORE] [--edition N]\n"
     "Keeps the sound records of IN, a stream of records end to end, in OUT, and prints each hole: where it\n"
     "begins in IN, and its bytes. The table of events stands beside IN: NAME.table beside NAME.img, else\n"
-    "IN.table; or in a store of settings. Nothing is overwritten: OUT and FILE must not be there yet.\n"
+    "IN.table; or in a store of settings, which it does if IN is '-', standard input. Nothing is\n"
+    "overwritten: OUT and FILE must not be there yet.\n"
     "  --changes FILE   the list of holes too, an entry of 22 bytes each\n"
     "  --settings STORE the table, and the edition unless it is named, of a store of settings\n"
     "  --edition N      what the reader knows: 1, 2, 3 or 4 (4)\n",

@@ -345,7 +345,7 @@ static void show_field(const struct value *value, const struct ollskuvan_word *r
 
 static bool has_line(unsigned form)
 {
-    return form != OLLSKUVAN_FORM_HEADER && form != OLLSKUVAN_FORM_COUNT && form != OLLSKUVAN_FORM_KEPT;
+    return form != OLLSKUVAN_FORM_HEADER && form != OLLSKUVAN_FORM_COUNT;
 }
 
 void show_fields(const struct value *value)

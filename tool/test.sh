@@ -591,6 +591,9 @@ writes $stores/seven --image $stores/many.img
 rm -f $out/salvage/bare* && printf "$switch" >$out/salvage/bare
 [ "$($tool salvage $out/salvage/bare $out/salvage/bare.out --settings $stores/seven)" = 'kept 16 bytes, 1 record; dropped 0 bytes, 0 holes' ] ||
   wrong "salvage with the table of a store"
+[ "$($tool salvage - $out/salvage/bare.too --settings $stores/seven <$out/salvage/bare)" = 'kept 16 bytes, 1 record; dropped 0 bytes, 0 holes' ] &&
+  cmp -s $out/salvage/bare.out $out/salvage/bare.too || wrong "salvage of standard input"
+refuses 1 '-: there is no table of events beside it' salvage - $out/salvage/new
 head -c 20 $stores/seven >$stores/torn
 refuses 1 'torn: ' salvage $out/salvage/bare $out/salvage/new --settings $stores/torn
 refuses 1 'No such file' salvage $out/salvage/bare $out/salvage/new --settings $stores/none

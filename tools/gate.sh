@@ -7,13 +7,13 @@ log=$(mktemp) || exit 2
 trap 'rm -f "$log"' EXIT
 began=$(date +%s)
 
-# rt waits for a whole batch of crates, or of edits, before it starts the next: with more of them at a time than there are processors none stands
-# idle for long. As many as fit into memory, a little more than what the largest crate takes for each, and 12 at most
+# How many crates, or edits, rt proves at a time. It starts the next batch only when the whole of one is done, so more of them than processors keep
+# all of these busy. Each is given 1.7 GB of memory, a little more than the largest crate takes: as many as fit, from 2 to 12
 jobs=$(awk '/^MemAvailable:/ { n = int($2 / 1700000); print (n < 2 ? 2 : n > 12 ? 12 : n) }' /proc/meminfo 2>/dev/null)
 RT_JOBS=${RT_JOBS:-${jobs:-4}} rt ci >"$log" 2>&1
 status=$?
 last=$(tail -n 1 "$log")
-grep -E '^rt: ' "$log" | tail -n 300
+grep -E '^rt: ' "$log"
 if [ "$status" -ne 0 ]; then
   tail -n 60 "$log"
   case "$last" in

@@ -69,8 +69,7 @@ static bool is_list(const struct ollskuvan_word *row)
 
 static bool is_number(const struct ollskuvan_word *row)
 {
-    return row->width != 0 && row->form != OLLSKUVAN_FORM_COUNT && row->form != OLLSKUVAN_FORM_KEPT &&
-        row->form != OLLSKUVAN_FORM_HEADER;
+    return row->width != 0 && row->form != OLLSKUVAN_FORM_COUNT && row->form != OLLSKUVAN_FORM_HEADER;
 }
 
 static uint64_t greatest(const struct ollskuvan_word *row)
@@ -155,8 +154,7 @@ static uint64_t size_of(const struct made *made)
     uint64_t trailer = 8 * ones(made->of.sample_type & OLLSKUVAN_TRAILER_BITS);
     for (size_t i = 0; i < ollskuvan_words_count; i++) {
         const struct ollskuvan_word *row = &ollskuvan_words[i];
-        if (!here(made, row) || row->form == OLLSKUVAN_FORM_HEADER || row->form == OLLSKUVAN_FORM_KEPT ||
-            row->word >= OLLSKUVAN_TRAILER_PID)
+        if (!here(made, row) || row->form == OLLSKUVAN_FORM_HEADER || row->word >= OLLSKUVAN_TRAILER_PID)
             continue;
         if (row->form == OLLSKUVAN_FORM_DIGITS && row->type == OLLSKUVAN_TYPE_MMAP2)
             body += 23; /* a build id takes 24 with its size */
@@ -370,7 +368,7 @@ static void check_words(const struct made *made)
         const struct ollskuvan_word *row = &ollskuvan_words[i];
         if (!ollskuvan_word_is_of(row, made->fields[OLLSKUVAN_TYPE]) || row->form == OLLSKUVAN_FORM_HEADER)
             continue;
-        if (!here(made, row) || row->form == OLLSKUVAN_FORM_KEPT)
+        if (!here(made, row))
             check_unselected(made, row);
         else if (is_list(row))
             check_list(made, row);
