@@ -133,9 +133,9 @@ static bool write_new(const char *new, int fd, mode_t mode, const uint8_t *bytes
         error = errno;
     }
     if (!written)
-        return refuse(why, "it cannot be written: %s; what was there is kept", strerror(error));
+        return refuse(why, "it cannot be written: %s; nothing was replaced", strerror(error));
     if (rename(new, place) != 0)
-        return refuse(why, "it cannot be replaced: %s; what was there is kept", strerror(errno));
+        return refuse(why, "it cannot be replaced: %s; nothing was", strerror(errno));
     return true;
 }
 

@@ -38,6 +38,10 @@ steps='-Wl,--wrap=write,--wrap=fsync,--wrap=rename,--wrap=fchmod,--wrap=close'
   [ -z "${OLLSKUVAN_EMULATED:-}" ] || sanitizers=
   build damage -O1 $sanitizers tool/tests/damage.c tool/dump.c \
     tool/journal.c tool/show.c words/ollskuvan_words.c $shared
+  # the controller's own file in the test, with what else the command is made of
+  commands=$(ls target/tool/commands/*.o | grep -v '/record_command\.o$')
+  ${CC:-cc} -std=c11 -Wall -Wextra -Werror -g -O1 -Iinclude -Iexamples -o $out/gaps tool/tests/gaps.c $commands $archives -lm ||
+    { echo "tool/test.sh: gaps does not build"; exit 1; }
   build stores-checked -O1 $sanitizers $steps tool/tests/stores.c \
     examples/settings.c examples/file.c
 }
@@ -463,6 +467,8 @@ if [ -x target/tests/reader ]; then
 else
   echo "settings: places not compared: target/tests/reader is not built (tests/run.sh)"
 fi
+$out/gaps >$out/gaps.txt 2>$out/gaps.err || wrong "gaps of a live ring: $(grep WRONG $out/gaps.err)"
+! grep 'stop 4' $out/gaps.txt | grep -q ' bytes$' || wrong "bytes are told at stop 4"
 $out/stores cut $stores/cut || wrong "a writing of a store that is cut short"
 
 # ---- replay: a trace by hand over a ring of 64 bytes from 2^64 - 8: across the end, full, a drop, two drains
