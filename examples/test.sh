@@ -195,6 +195,7 @@ refuses 1 'no record tells of a thread nobody' late --watch nobody examples/ring
 refuses 1 'no record tells of a thread 4294967295' late --watch 4294967295 examples/rings/kiln-cpu1.img
 refuses 1 'no file of names' late --names examples/rings/kiln-cpu0.img "${kiln[@]}"
 refuses 1 'No such file' late --names "$out/none.list" "${kiln[@]}"
+refuses 1 'it cannot be read: Is a directory' late --names "$out" "${kiln[@]}"
 refuses 1 'No such file' late --svg "$out/none/kiln.svg" "${kiln[@]}"
 refuses 2 'usage: late ' late --nonsense
 refuses 2 'usage: late ' late
@@ -235,6 +236,10 @@ cmp -s "$out/broken.store" "$out/broken.kept" || wrong "controller --settings wr
 refuses 1 'Is a directory' controller --settings "$out"
 refuses 2 "--settings: a file is wanted, not '-'" controller --settings -
 refuses 1 'No such file' controller --flight "$out/none/saved"
+long=$(printf '%600s' '' | tr ' ' x)
+refuses 1 '--save: the name is too long' controller --save "$long"
+refuses 1 '--flight: the name is too long' controller --flight "$long"
+refuses 1 'Is a directory' late --svg "$out" "${kiln[@]}"
 refuses 2 'one of --save and --flight is wanted, once' controller --save "$out/a" --flight "$out/b"
 refuses 2 'one of --save and --flight is wanted, once' controller --flight "$out/a" --flight "$out/b"
 refuses 2 '--late goes with --flight' controller --late 5
