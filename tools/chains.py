@@ -6,6 +6,9 @@ import os
 import re
 import sys
 
+if sys.argv[1:] not in ([], ['--check']):
+    sys.exit(print(__doc__, file=sys.stderr) or 2)
+
 FEW = 6  # calls in a function, at most
 ALONE = 'sample'  # the type whose chains have a crate of their own: they take as long to prove as all the others
 BODY, TRAIL = 3, 48  # the first word of the fields, and of the trailer

@@ -5,6 +5,9 @@ writes nothing and fails where a file is not what would be written. Run from the
 import os
 import sys
 
+if sys.argv[1:] not in ([], ['--check']):
+    sys.exit(print(__doc__, file=sys.stderr) or 2)
+
 c = {}
 exec(open('tools/chains.py').read().split('\nbad = 0')[0], c)  # all of it but the writing
 PARAMS, FIELD, FEW, BODY, TRAIL = c['PARAMS'], c['FIELD'], c['FEW'], c['BODY'], c['TRAIL']
