@@ -69,7 +69,7 @@ fn found(r: &[u8], kind: u64, known: Known, rows: &[[u64; 7]], slot: &[u64; 8], 
 }
 
 // A record by the slot at h, which is its identifier's: what the slot says, or its event's own answer.
-fn by_slot(
+fn slot_answer(
     r: &[u8],
     kind: u64,
     known: Known,
@@ -115,5 +115,5 @@ pub fn judge(r: &[u8], kind: u64, known: Known, rows: &[[u64; 7]], memo: &mut [[
     let id = event_judge::identifier_of(r, kind);
     let h = (id & (memo.len() as u64 - 1)) as usize;
     held_slots::hold(known, rows, id, memo, h);
-    by_slot(r, kind, known, rows, memo, h, id)
+    slot_answer(r, kind, known, rows, memo, h, id)
 }

@@ -13,8 +13,8 @@ hold-requires c κs =
     let s = c .before .before .before in
     (slot-inside (c .before .identifier-of .result) (length (now (s .args .memo))) (s .pre .1 .1 .1 .1 .1 .1 .1 .0), s .pre .1 .1 .1 .1 .1 .1 .1 .1)
 
-by-slot-requires : tie.Need-by-slot-requires
-by-slot-requires c κs =
+slot-answer-requires : tie.Need-slot-answer-requires
+slot-answer-requires c κs =
     let s = c .before .before .before .before .before .before in
     let p = s .pre in
     let h = c .before .before .hold .ensures in
@@ -23,7 +23,7 @@ by-slot-requires c κs =
     (p .0, (p .1 .0, (p .1 .1 .0, (p .1 .1 .1 .0, (p .1 .1 .1 .1 .0, (p .1 .1 .1 .1 .1 .0, (p .1 .1 .1 .1 .1 .1 .0, (omega (arith, l, h .1 .0), (i .ensures, h .1 .1)))))))))
 
 returns : tie.Need-returns
-returns c = let h = c .before .before .before .hold .ensures in (c .by-slot .ensures, (h .0, h .1 .0))
+returns c = let h = c .before .before .before .hold .ensures in (c .slot-answer .ensures, (h .0, h .1 .0))
 
 pub judge-spec : {M : Type 1} → statement M
 judge-spec =
@@ -32,6 +32,6 @@ judge-spec =
     (λ c κs. search needs)
     (λ c. search needs)
     hold-requires
-    by-slot-requires
+    slot-answer-requires
     (λ c. search needs)
     returns)

@@ -9,8 +9,8 @@ use borrow.Author.Needs.{needs}
 use Rattle.meaning.specs.Records.{kindOf, layout, judge}
 use Rattle.meaning.specs.Events.{eventsOf, identifierOf}
 use Rattle.slots.specs.Slots.{Filled, attributesFor, standing-small, slot-refused, slot-judged}
-use Rattle.event_plan.proofs.by_slot.Statement.{statement}
-use Rattle.event_plan.proofs.by_slot.Tie as tie
+use Rattle.event_plan.proofs.slot_answer.Statement.{statement}
+use Rattle.event_plan.proofs.slot_answer.Tie as tie
 
 module _ (s : tie.Start) where
   from : 1 ≤ kindOf (now (s .args .r))
@@ -52,8 +52,8 @@ returns-2 c =
     c .found .ensures ∙ ap (λ (n : ℕ). judge (layout (s .args .known) (attributesFor es n)) (now (s .args .r))) (its s)
     ∙ slot-judged (s .args .known) es (now (s .args .r)) (from s) (to s) (s .pre .0) (getD (now (s .args .memo)) (s .args .h) []) (slot s) (c .before .before .if1 .left)
 
-pub by-slot-spec : {M : Type 1} → statement M
-by-slot-spec =
+pub slot-answer-spec : {M : Type 1} → statement M
+slot-answer-spec =
     tie.close
     (tie.spec
     (λ c. search needs)
