@@ -12,7 +12,7 @@ began=$(date +%s)
 folder=
 if [ -z "${TMPDIR:-}" ] && [ "$(df -Pk /dev/shm 2>/dev/null | awk 'NR == 2 { print ($4 > 8000000) }')" = 1 ]; then
   folder=$(mktemp -d /dev/shm/gate.XXXXXX) && chmod 711 "$folder" && trap 'rm -rf "$log" "$folder"' EXIT
-  cp /bin/true "$folder/true" && "$folder/true" 2>/dev/null || folder=
+  cp /bin/true "$folder/true" && "$folder/true" 2>/dev/null || { rm -rf "$folder"; folder=; }
 fi
 # How many crates, or edits, rt proves at a time. It starts the next batch only when the whole of one is done, so more of them than processors keep
 # all of these busy. Each is given 1.7 GB of memory, a little more than the largest crate takes: as many as fit, from 2 to 12
