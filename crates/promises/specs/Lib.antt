@@ -1,6 +1,7 @@
 pub mod Examples
 pub mod Scratch
 pub mod Checked
+pub mod AnyDrain
 pub mod Demand1
 pub mod Names
 pub mod Lent
@@ -31,3 +32,4 @@ pub mod Salvage
 pub mod SalvageExamples
 pub mod Compared
 pub mod CompareScratch
+pub mod EventDrains
