@@ -33,3 +33,4 @@ pub mod SalvageExamples
 pub mod Compared
 pub mod CompareScratch
 pub mod EventDrains
+pub mod EventEntries
