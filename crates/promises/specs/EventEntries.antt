@@ -14,12 +14,12 @@ use Rattle.meaning.specs.declared.Event.{Event}
 use Rattle.meaning.specs.declared.Frame.{Frame}
 use Rattle.meaning.specs.declared.Known.{Known}
 use Rattle.meaning.specs.Bytes.{numberAt}
-use Rattle.meaning.specs.Refusals.{Refusal, refusal, first, orElse}
-use Rattle.meaning.specs.Editions.{editions, known, allowed, knows, sampleBit, hasSampleBits, hasReadValues, hasBuildId, hasBranches, strangeBranch, unknowns, clashes, unreadable, isIn}
+use Rattle.meaning.specs.Refusals.{Refusal, first}
+use Rattle.meaning.specs.Editions.{editions, known, allowed, knows, sampleBit, unknowns, clashes, unreadable, isIn}
 use Rattle.meaning.specs.Schema.{schema, trailer}
 use Rattle.meaning.specs.Records.{layout, kindOf, miscOf, room, fieldsAnswer, judge, flagOf}
 use Rattle.meaning.specs.Events.{attributesOf, identifiers, identifierOf, eventAt, eventFor, hasEvent, sound, gate, eventless, layoutFor, judgeEvents, askedEvents, drainEvents, checkEvents, recordCheckEvents}
-use Rattle.meaning.specs.Ring.{frame}
+use Rattle.meaning.specs.Ring.{Asked, frame}
 use Rattle.meaning.specs.Drain.{End, entryFor}
 use Rattle.meaning.specs.Backward.{backFrame, walkEvents}
 use Rattle.laws.specs.Bytes.{apart, and-true}
@@ -28,7 +28,8 @@ use Rattle.laws.specs.Rows.{in-more, in-cond, first-in}
 use Rattle.laws.specs.Matched.{going-sound}
 use Rattle.laws.specs.Inspected.{asked-own}
 use Rattle.runs.specs.Cutting.{Cut, cuttingBy, nothingCut, framed, All}
-use Rattle.runs.specs.Entries.{all-at}
+use Rattle.runs.specs.Entries.{journal-entry, all-at}
+use Rattle.runs.specs.Streams.{AllFramed, all-framed-snoc}
 use Rattle.runs.specs.Forward.{frame-going}
 use Rattle.backward.specs.Promise.{walkCuts}
 use Rattle.backward.specs.Frames.{back-goes}
@@ -36,11 +37,18 @@ use Rattle.editions.specs.Demand3.{answer-in}
 use Rattle.editions.specs.EventRecord.{event-small}
 use Rattle.editions.specs.Numbers.{fieldNumbers, recordNumbers}
 use Rattle.editions.specs.InTable.{not-in, fields-in, judge-in}
+use Rattle.entries.specs.declared.Entry.{Entry}
+use Rattle.entries.specs.Entries.{entryAt}
+use Rattle.replay.specs.declared.Replayed.{Replayed}
+use Rattle.replay.specs.Replay.{Happened, wentIn, wasDropped, drained, Bench, bench, recordsIn, recordsOut, free, goesIn, goesBy, offer, drainOf, cutsOf, drainsOff, bodyOf, isOffer, faultAt, effect, Played, played, play, before, half, ofStore, told, replayEvents}
+use Rattle.replay.specs.Drains.{bytesOf}
+use Rattle.replay.specs.Along.{in-append, no-fault}
 use Rattle.promises.specs.Checked.{recordRows, judge-rows, foremost, first-exactly, lead, hit, other}
 use Rattle.promises.specs.Inspected.{before-20, before-21, check-events-44}
 use Rattle.promises.specs.EventReads.{framed-asked}
 use Rattle.promises.specs.Events.{drain-events-counts, drain-events-entry}
 use Rattle.promises.specs.EventDrains.{drain-events-stop-leaves}
+use Rattle.promises.specs.Replay.{refused-told, after-all, every-point, one-journal, asked-passed}
 use Rattle.promises.specs.Backward.{walk-stop-leaves, walk-events-promised}
 
 -- ---- the rows in the order checked
@@ -237,13 +245,13 @@ module _ (limit e : ℕ) (es : List Event) where
 
   -- the drain. Where a record is taken, the edition is one and the table is sound
   module _ (ring : List ℕ) (head tail budget : ℕ) (journal scratch : List ℕ) (hd : head < 2 ^ 64) (tl : tail < 2 ^ 64) where
-    abbrev drained : End
-    drained = drainEvents limit editions e es ring head tail budget journal scratch
+    abbrev drain-end : End
+    drain-end = drainEvents limit editions e es ring head tail budget journal scratch
 
     abbrev drain-records : List Cut
     drain-records = cuttingBy (askedEvents limit editions e es) ring head tail budget (length journal) scratch .records
 
-    drain-asks : 0 < drained .state .taken → (allowed editions e ≡ true) × (sound limit es ≡ true)
+    drain-asks : 0 < drain-end .state .taken → (allowed editions e ≡ true) × (sound limit es ≡ true)
     drain-asks h = by (next .go) refl
       where
         next : Frame
@@ -256,12 +264,12 @@ module _ (limit e : ℕ) (es : List Event) where
         )
         by false g = absurd (omega (arith, h, drain-events-stop-leaves limit e es ring head tail budget journal scratch g .0))
 
-    pub drain-events-checks : (i : ℕ) → i < drained .state .taken
-        → numberAt 2 (drained .state .journal) (16 * i + 6) ≡ checkEvents limit editions e es (getD drain-records i nothingCut .record-bytes)
+    pub drain-events-checks : (i : ℕ) → i < drain-end .state .taken
+        → numberAt 2 (drain-end .state .journal) (16 * i + 6) ≡ checkEvents limit editions e es (getD drain-records i nothingCut .record-bytes)
     drain-events-checks i h =
         let c = drain-events-counts limit e es ring head tail budget journal scratch hd tl in
         let a = drain-asks (omega (arith, h)) in
-        entry-checks (drained .state .journal) drain-records i (omega (arith, h, c .count)) (c .shaped) (a .0) (a .1) (drain-events-entry limit e es ring head tail budget journal scratch i h)
+        entry-checks (drain-end .state .journal) drain-records i (omega (arith, h, c .count)) (c .shaped) (a .0) (a .1) (drain-events-entry limit e es ring head tail budget journal scratch i h)
 
   -- the walk over a backward ring
   module _ (ring : List ℕ) (head budget : ℕ) (journal scratch : List ℕ) (hd : head < 2 ^ 64) where
@@ -289,3 +297,89 @@ module _ (limit e : ℕ) (es : List Event) where
         let c = w .counted in
         let a = walk-asks (omega (arith, h)) in
         entry-checks (walked .state .journal) walk-records i (omega (arith, h, c .count)) (c .shaped) (a .0) (a .1) (w .entry i h)
+
+-- ---- the replay: its one journal has the entries of all its drains. What goes into its ring is one record by its header, so what comes out is
+
+in-framed : (asked : Asked) (judge : List ℕ → ℕ) (xs : List ℕ) (n at : ℕ) (b : Bench) → AllFramed (recordsIn (b .history))
+    → AllFramed (recordsIn (play ofStore asked judge xs n at b .now .history))
+unfolding play effect offer drainsOff recordsIn
+in-framed asked judge xs zero at b h = h
+in-framed asked judge xs (suc n) at b h = by (leb (length xs) at) (eqb (faultAt ofStore xs at) 0) refl (in-framed asked judge xs n (at + (6 + e .length)) next)
+  where
+    e : Entry
+    e = entryAt xs at
+
+    next : Bench
+    next = effect asked judge xs e b
+
+    same : (x : Happened) → recordsIn (x ∷ []) ≡ [] → AllFramed (recordsIn (b .history ++ (x ∷ [])))
+    same x q = subst AllFramed (sym (in-append (b .history) (x ∷ []) ∙ ap (λ (l : List (List ℕ)). recordsIn (b .history) ++ l) q ∙ append-nil (recordsIn (b .history)))) h
+
+    goes : faultAt ofStore xs at ≡ 0 → AllFramed (recordsIn (next .history))
+    goes f = kind (isOffer e) refl
+      where
+        r : List ℕ
+        r = bodyOf xs e
+
+        fits : (t : Bool) → framed r ≡ true → AllFramed (recordsIn (cond t (goesIn b r) (goesBy b r) .history))
+        fits true g = subst AllFramed (sym (in-append (b .history) (wentIn r ∷ []))) (all-framed-snoc (recordsIn (b .history)) r h g)
+        fits false g = same (wasDropped r) refl
+
+        kind : (t : Bool) → isOffer e ≡ t → AllFramed (recordsIn (cond t (offer b r) (drainsOff asked judge b (numberAt 4 xs (e .body))) .history))
+        kind true o = fits (leb (length r) (free b)) (not-false (framed r) (sym (ap (λ (t : Bool). t && not (framed r)) o) ∙ no-fault ofStore xs at f .1 .0))
+        kind false o = same (drained (cutsOf asked b (numberAt 4 xs (e .body)) .records) (drainOf asked judge b (numberAt 4 xs (e .body)) .stop)) refl
+
+    by : (t u : Bool) → eqb (faultAt ofStore xs at) 0 ≡ u
+        → (AllFramed (recordsIn (next .history)) → AllFramed (recordsIn (play ofStore asked judge xs n (at + (6 + e .length)) next .now .history)))
+        → AllFramed (recordsIn (cond t (played b at 0) (cond u (play ofStore asked judge xs n (at + (6 + e .length)) next) (played b at (faultAt ofStore xs at))) .now .history))
+    by true u q rest = h
+    by false false q rest = h
+    by false true q rest = rest (goes (eqb-true (faultAt ofStore xs at) 0 q))
+
+take-framed : (n : ℕ) (rs : List (List ℕ)) → AllFramed rs → AllFramed (take n rs)
+take-framed zero rs a = tt
+take-framed (suc n) [] a = tt
+take-framed (suc n) (r ∷ rs) a = (a .0, take-framed n rs (a .1))
+
+cuts-framed : (cs : List Cut) → AllFramed (bytesOf cs) → All (λ (c : Cut). framed (c .record-bytes) ≡ true) cs
+cuts-framed [] a = tt
+cuts-framed (c ∷ cs) a = (a .0, cuts-framed cs (a .1))
+
+module _ (limit e : ℕ) (es : List Event) (xs : List ℕ) (count : ℕ) (rooms journal : List ℕ) (fits : count < 2 ^ 64) where
+  abbrev replayed : Played
+  replayed = replayEvents limit editions e es xs count rooms journal
+
+  abbrev asked-events : Asked
+  asked-events = askedEvents limit editions e es
+
+  abbrev judges : List ℕ → ℕ
+  judges = judgeEvents (known editions e) es
+
+  abbrev call : ℕ
+  call = before asked-events (length (take (half (length rooms)) rooms)) count
+
+  abbrev Checks : Played → Type 0
+  Checks p = (i : ℕ) → i < told p .taken → numberAt 2 (p .now .journal) (16 * i + 6) ≡ checkEvents limit editions e es (getD (recordsOut (p .now .history)) i nothingCut .record-bytes)
+
+  pub replay-checks : Checks replayed
+  unfolding recordsIn
+  replay-checks = by (eqb call 0) refl
+    where
+      by : (b : Bool) → eqb call 0 ≡ b → Checks replayed
+      by true q =
+          let ok : call ≡ 0 = eqb-true call 0 q in
+          let ring : List ℕ = take (half (length rooms)) rooms in
+          let first-bench : Bench = bench ring count (drop (half (length rooms)) rooms) journal in
+          let p : Played = play ofStore asked-events judges xs (length xs) 0 first-bench in
+          let out : List Cut = recordsOut (p .now .history) in
+          let w = every-point limit editions e es xs count rooms journal fits ok (length xs) in
+          let j = one-journal limit editions e es xs count rooms journal fits ok (length xs) in
+          let a = asked-passed limit editions e es xs count rooms journal fits ok in
+          let shaped = cuts-framed out
+          (subst AllFramed (sym (w .come-out)) (take-framed (length out) (recordsIn (p .now .history)) (in-framed asked-events judges xs (length xs) 0 first-bench tt))) in
+          subst Checks (sym (after-all limit editions e es xs count rooms journal fits ok))
+          (λ i g. entry-checks limit e es (p .now .journal) out i (omega (arith, g, j .1)) shaped (ap (λ (x : Asked). x .edition) a) (ap (λ (x : Asked). x .table) a)
+          (ap (λ (l : List ℕ). take 16 (drop (16 * i) l)) (w .journal-is) ∙ journal-entry judges out journal (w .journal-room) i nothingCut (omega (arith, g, j .1))))
+      by false q =
+          let t = refused-told limit editions e es xs count rooms journal fits (eqb-false call 0 q) .0 in
+          λ i h. absurd (omega (arith, h, ap (λ (x : Replayed). x .taken) t))
