@@ -34,3 +34,4 @@ pub mod Compared
 pub mod CompareScratch
 pub mod EventDrains
 pub mod EventEntries
+pub mod EventExactly
