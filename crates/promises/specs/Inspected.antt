@@ -233,7 +233,7 @@ module _ (n m : ℕ) (b : Bool) (own : n ≡ m → ⊥) (some : 0 < m) where
       by true false p q h = (eqb-true n 0 p, refl)
       by false u p q h = absurd (own h)
 
-  last-other : (k : ℕ) → 0 < k → (m ≡ k → ⊥) → (orElse n (cond b 0 m) ≡ k → n ≡ k) × (n ≡ k → orElse n (cond b 0 m) ≡ k)
+  pub last-other : (k : ℕ) → 0 < k → (m ≡ k → ⊥) → (orElse n (cond b 0 m) ≡ k → n ≡ k) × (n ≡ k → orElse n (cond b 0 m) ≡ k)
   last-other k p d = (λ h. by (eqb n 0) b h, λ h. rw (ne-eqb n 0 (λ z. omega (arith, p, h, z))) h)
     where
       by : (t u : Bool) → cond t (cond u 0 m) n ≡ k → n ≡ k
