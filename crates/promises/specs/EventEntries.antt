@@ -112,6 +112,13 @@ pub first-says-21 : (es : List Event) (r : List ℕ) → (eqb (kindOf r) 0 || lt
 unfolding known
 first-says-21 es r t = before-21 (known editions 1) es r t refl .0
 
+-- what an event's own checks may answer after 20, and what M-100 does
+abbrev pub from21 : List ℕ
+from21 = 0 ∷ 21 ∷ 22 ∷ 23 ∷ 25 ∷ 24 ∷ 30 ∷ 31 ∷ 32 ∷ 33 ∷ []
+
+abbrev after20 : List ℕ
+after20 = 27 ∷ 26 ∷ from21
+
 module _ (e : ℕ) (es : List Event) (r : List ℕ) where
   abbrev k : Known
   k = known editions e
@@ -137,9 +144,6 @@ module _ (e : ℕ) (es : List Event) (r : List ℕ) where
   chained = refl
 
   -- "from 21 on": of a type that the edition knows an event's own checks do not give 20
-  abbrev pub from21 : List ℕ
-  from21 = 0 ∷ 21 ∷ 22 ∷ 23 ∷ 25 ∷ 24 ∷ 30 ∷ 31 ∷ 32 ∷ 33 ∷ []
-
   pub own-from-21 : type-unknown ≡ false → isIn own from21 ≡ true
   unfolding judge layout unreadable first
   own-from-21 t =
@@ -150,9 +154,6 @@ module _ (e : ℕ) (es : List Event) (r : List ℕ) where
       (in-cond from21 (eqb late 0) body late
       (in-more fieldNumbers from21 body refl (fields-in (schema (kindOf r) (miscOf r) a) (room (trailer (kindOf r) a)) r))
       (first-in from21 (drop 1 (unknowns k (kindOf r) (miscOf r) a)) (first (clashes (kindOf r) a) 0) refl (first-in from21 (clashes (kindOf r) a) 0 refl refl)))
-
-  abbrev after20 : List ℕ
-  after20 = 27 ∷ 26 ∷ from21
 
   -- 20, as without a table: "type 0 or above the edition's"
   pub says-20 : (answer ≡ 20 → type-unknown ≡ true) × (type-unknown ≡ true → answer ≡ 20)

@@ -1,4 +1,4 @@
--- With a table of events, in words and both ways: when a table is taken (M-100), when a record is decoded under one (demand 2), and where nothing of it is
+-- With a table of events, in words and both ways: when a table is allowed (M-100), when a record is decoded under one (demand 2), and where nothing of it is
 -- inspected (M-112), as C is told. Assumes nothing.
 use mathlib.Core.Path.{_≡_, refl, sym, ap, _∙_}
 use mathlib.Core.List.{List, [], _∷_}
@@ -22,12 +22,12 @@ use Rattle.meaning.specs.Events.{attributesOf, identifiers, eventAt, indexOf, d
 use Rattle.one.specs.declared.OneTold.{OneTold}
 use Rattle.event_one.specs.Told.{oneEventsTold}
 use Rattle.laws.specs.Bytes.{and-true, true-and}
-use Rattle.laws.specs.Rows.{in-more}
 use Rattle.laws.specs.Answers.{or-zero}
 use Rattle.laws.specs.Exactly.{LaidOut}
 use Rattle.laws.specs.Lookup.{identifiers-length, identifier-at, marked-at, index-in, index-is, index-unique}
 use Rattle.laws.specs.Matched.{judge-found, judge-matched, sound-marked}
 use Rattle.laws.specs.Inspected.{asked-own, asked-refused, looked}
+use Rattle.runs.specs.Cutting.{framed}
 use Rattle.runs.specs.Streams.{says-framed}
 use Rattle.event_laws.specs.Match.{matched-has}
 use Rattle.editions.specs.Numbers.{recordNumbers}
@@ -42,7 +42,7 @@ use Rattle.promises.specs.Called.{part, one-events-called, event-told-re
 -- ---- M-100: "A table is refused with 11 .. if its length is outside that range, if two identifiers are equal, or if an event lacks sample bit 16 or
 -- sample_id_all"; "1 to 32 of them", with M-112 to 1,024: the limit
 
-pub record Taken (limit : ℕ) (es : List Event) : Type 0 where
+pub record AllowedTable (limit : ℕ) (es : List Event) : Type 0 where
   pub some : 1 ≤ length es
   pub most : length es ≤ limit
   pub marks : (i : ℕ) → i < length es → (bit (eventAt es i .sample) 16 ≡ true) × (eventAt es i .all ≡ 0 → ⊥)
@@ -72,11 +72,11 @@ all-differ (v ∷ vs) h =
         absurd (h 0 (suc _) (omega arith) (omega (arith, i, n)) (λ z. omega (arith, z)) (sym (sym (identifier-at vs _) ∙ index-is (v .identifier) (identifiers vs) i)))
     by false q = refl
 
-pub sound-in-words : (limit : ℕ) (es : List Event) → (sound limit es ≡ true → Taken limit es) × (Taken limit es → sound limit es ≡ true)
+pub sound-in-words : (limit : ℕ) (es : List Event) → (sound limit es ≡ true → AllowedTable limit es) × (AllowedTable limit es → sound limit es ≡ true)
 unfolding sound
 sound-in-words limit es = (there, back)
   where
-    there : sound limit es ≡ true → Taken limit es
+    there : sound limit es ≡ true → AllowedTable limit es
     there h =
         let p = and-true (leb 1 (length es) && leb (length es) limit) (allMarked es && distinct (identifiers es)) h in
         let q = and-true (leb 1 (length es)) (leb (length es) limit) (p .0) in
@@ -92,14 +92,20 @@ sound-in-words limit es = (there, back)
           differ = λ i j g k n z. n (sym (at i g) ∙ ap (λ (x : ℕ). indexOf x (identifiers es)) z ∙ at j k);
         }
 
-    back : Taken limit es → sound limit es ≡ true
+    back : AllowedTable limit es → sound limit es ≡ true
     back t =
         true-and (leb 1 (length es) && leb (length es) limit) (allMarked es && distinct (identifiers es))
         (true-and (leb 1 (length es)) (leb (length es) limit) (le-leb 1 (length es) (t .some)) (le-leb (length es) limit (t .most)))
         (true-and (allMarked es) (distinct (identifiers es)) (all-marked es (t .marks)) (all-differ es (t .differ)))
 
--- ---- demand 2 with a table: "A record is decoded exactly when .. as condensed in 01, give it a meaning": the edition is one, the table is taken, the record has
+-- ---- demand 2 with a table: "A record is decoded exactly when .. as condensed in 01, give it a meaning": the edition is one, the table is allowed, the record has
 -- an event, and it is laid out by the schema under that event's attributes, item after item, with nothing left over
+
+-- what is looked at is one record by its header
+looked-framed : (limit e : ℕ) (es : List Event) (xs : List ℕ) → unasked limit editions e es xs ≡ 0 → framed xs ≡ true
+looked-framed limit e es xs h =
+    let w = looked limit editions e es xs h in
+    says-framed xs (w .low) (ap (λ (n : ℕ). n % 8) (w .size-is) ∙ w .eights) (w .size-is)
 
 module _ (limit e : ℕ) (es : List Event) (xs : List ℕ) where
   pub record Decoded : Type 0 where
@@ -117,7 +123,7 @@ module _ (limit e : ℕ) (es : List Event) (xs : List ℕ) where
           let u = or-zero (unasked limit editions e es xs) (judgeEvents (known editions e) es xs) z in
           let w = looked limit editions e es xs (u .0) in
           let j = or-zero (unmatched (known editions e) es xs) (judge (layoutFor (known editions e) es xs) xs) (sym (judge-matched (known editions e) es xs) ∙ u .1) in
-          let f = says-framed xs (w .low) (ap (λ (n : ℕ). n % 8) (w .size-is) ∙ w .eights) (w .size-is) in
+          let f = looked-framed limit e es xs (u .0) in
           record {
             edition = w .edition;
             table = w .table;
@@ -134,12 +140,12 @@ module _ (limit e : ℕ) (es : List Event) (xs : List ℕ) where
           ∙ judge-found (known editions e) es xs (sound-marked limit es (d .table)) (d .event)
           ∙ sym (check-framed editions e (d .edition) (attributesOf (eventFor es xs)) xs f) ∙ c
 
--- ---- M-112: "the number inspected is reported with the answer and equals .. 0 without a lookup". 20, 21 by the edition, which does not know bit 16, and 27
--- come before the lookup. `ollskuvan_check_events`, `ollskuvan_read_events`, `ollskuvan_read_one_events`
+-- ---- M-112: "the number inspected is reported with the answer and equals .. 0 without a lookup". 20, what edition 1 answers to everything, and 27 come before
+-- the lookup. `ollskuvan_check_events`, `ollskuvan_read_events`, `ollskuvan_read_one_events`
 
 -- what is told where nothing was looked up
-abbrev pub Unlooked : Known → ℕ → ℕ → Type 0
-Unlooked k answer inspected = (answer ≡ 20 → inspected ≡ 0) × (knows k (sampleBit 16) ≡ false → inspected ≡ 0) × (answer ≡ 27 → inspected ≡ 0)
+abbrev pub Unlooked : ℕ → ℕ → ℕ → Type 0
+Unlooked e answer inspected = (answer ≡ 20 → inspected ≡ 0) × (e ≡ 1 → inspected ≡ 0) × (answer ≡ 27 → inspected ≡ 0)
 
 module _ (limit e : ℕ) (es : List Event) (xs : List ℕ) where
   abbrev k : Known
@@ -158,7 +164,7 @@ module _ (limit e : ℕ) (es : List Event) (xs : List ℕ) where
       by : (b : Bool) → eqb (unmatched k es xs) 0 ≡ b → inspected k es xs ≡ 0
       by true q =
           let w = looked limit editions e es xs h in
-          let f = says-framed xs (w .low) (ap (λ (n : ℕ). n % 8) (w .size-is) ∙ w .eights) (w .size-is) in
+          let f = looked-framed limit e es xs h in
           let a : Attributes = attributesOf (eventFor es xs) in
           before-20 k es xs (answers-20 e a xs (w .edition) f .0 (check-framed editions e (w .edition) a xs f ∙ sym (own-or true q) ∙ z)) .1
       by false q = unfound 20 z (λ y. omega (arith, y)) q
@@ -170,27 +176,28 @@ module _ (limit e : ℕ) (es : List Event) (xs : List ℕ) where
       by true q = absurd (not-in recordNumbers 27 (judge (layoutFor k es xs) xs) refl (judge-in k (attributesOf (eventFor es xs)) xs) (sym (own-or true q) ∙ z))
       by false q = unfound 27 z (λ y. omega (arith, y)) q
 
-  by-edition : knows k (sampleBit 16) ≡ false → inspected k es xs ≡ 0
+  by-edition : e ≡ 1 → inspected k es xs ≡ 0
+  unfolding known
   by-edition n = by (eqb (kindOf xs) 0 || ltb (k .kinds) (kindOf xs)) refl
     where
       by : (b : Bool) → (eqb (kindOf xs) 0 || ltb (k .kinds) (kindOf xs)) ≡ b → inspected k es xs ≡ 0
       by true t = before-20 k es xs t .1
-      by false t = before-21 k es xs t n .1
+      by false t = before-21 k es xs t (ap (λ (m : ℕ). knows (known editions m) (sampleBit 16)) n) .1
 
   -- with a last step, 44 or 40, in the place of 0 alone
-  unlooked-then : (m : ℕ) (b : Bool) → 0 < m → isIn m (20 ∷ 27 ∷ eventCheckNumbers) ≡ false → Unlooked k (orElse (checkEvents limit editions e es xs) (cond b 0 m)) (checkInspected limit editions e es xs)
+  unlooked-then : (m : ℕ) (b : Bool) → 0 < m → isIn m eventCheckNumbers ≡ false → Unlooked e (orElse (checkEvents limit editions e es xs) (cond b 0 m)) (checkInspected limit editions e es xs)
   unlooked-then m b p d = by (eqb (unasked limit editions e es xs) 0) refl
     where
       n : ℕ
       n = checkEvents limit editions e es xs
 
       never : n ≡ m → ⊥
-      never q = absurd (not-in (20 ∷ 27 ∷ eventCheckNumbers) m n d (in-more eventCheckNumbers (20 ∷ 27 ∷ eventCheckNumbers) n refl (check-events-in limit editions e es xs)) q)
+      never = not-in eventCheckNumbers m n d (check-events-in limit editions e es xs)
 
-      before : (x : ℕ) → 0 < x → isIn x (20 ∷ 27 ∷ eventCheckNumbers) ≡ true → orElse n (cond b 0 m) ≡ x → n ≡ x
-      before x y i h = last-other n m b never p x y (λ q. not-in (20 ∷ 27 ∷ eventCheckNumbers) m x d i (sym q)) .0 h
+      before : (x : ℕ) → 0 < x → isIn x eventCheckNumbers ≡ true → orElse n (cond b 0 m) ≡ x → n ≡ x
+      before x y i h = last-other n m b never p x y (λ q. not-in eventCheckNumbers m x d i (sym q)) .0 h
 
-      by : (c : Bool) → eqb (unasked limit editions e es xs) 0 ≡ c → Unlooked k (orElse n (cond b 0 m)) (checkInspected limit editions e es xs)
+      by : (c : Bool) → eqb (unasked limit editions e es xs) 0 ≡ c → Unlooked e (orElse n (cond b 0 m)) (checkInspected limit editions e es xs)
       by true q =
           let u = eqb-true (unasked limit editions e es xs) 0 q in
           let w = asked-own limit editions e es xs u in (
@@ -202,16 +209,16 @@ module _ (limit e : ℕ) (es : List Event) (xs : List ℕ) where
           let z = asked-refused limit editions e es xs (eqb-false (unasked limit editions e es xs) 0 q) .1 in
           (λ h. z, λ h. z, λ h. z)
 
-  pub told-unlooked : Unlooked k (recordCheckEvents limit editions e es xs .answer) (recordCheckEvents limit editions e es xs .inspected)
+  pub told-unlooked : Unlooked e (recordCheckEvents limit editions e es xs .answer) (recordCheckEvents limit editions e es xs .inspected)
   unfolding recordCheckEvents
   told-unlooked = unlooked-then 44 (eqb (flagOf (layoutFor k es xs) xs) 0) (omega arith) refl
 
-  pub read-unlooked : (words : List ℕ) → Unlooked k (readEvents limit editions e es xs words .answer) (readEvents limit editions e es xs words .inspected)
+  pub read-unlooked : (words : List ℕ) → Unlooked e (readEvents limit editions e es xs words .answer) (readEvents limit editions e es xs words .inspected)
   unfolding readEvents
   read-unlooked words = unlooked-then 40 (leb valueWords (length words)) (omega arith) refl
 
 pub one-unlooked : (limit e : ℕ) (es : List Event) (ring : List ℕ) (head tail : ℕ) (scratch words : List ℕ)
-    → Unlooked (known editions e) (oneEventsTold limit editions e es ring head tail scratch words .answer) (oneEventsTold limit editions e es ring head tail scratch words .inspected)
+    → Unlooked e (oneEventsTold limit editions e es ring head tail scratch words .answer) (oneEventsTold limit editions e es ring head tail scratch words .inspected)
 one-unlooked limit e es ring head tail scratch words =
     ⊎-elim
     (λ (h : told .size ≡ 0). let z = one-events-called limit e es ring head tail scratch words .stop-tells h .5 in (λ q. z, λ q. z, λ q. z))
