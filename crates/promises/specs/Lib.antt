@@ -1,6 +1,7 @@
 pub mod Examples
 pub mod Scratch
 pub mod Checked
+pub mod AnyDrain
 pub mod Demand1
 pub mod Names
 pub mod FlagInWords
@@ -39,3 +40,6 @@ pub mod CompareScratch
 pub mod Written
 pub mod Recorded
 pub mod Nobody44
+pub mod EventDrains
+pub mod EventEntries
+pub mod EventExactly
