@@ -12,7 +12,7 @@ use borrow.Author.Tests.{ne-eqb, eq-eqb, eqb-true, eqb-false}
 use Rattle.meaning.specs.declared.Frame.{Frame}
 use Rattle.meaning.specs.Ring.{distance, recordAt}
 use Rattle.laws.specs.Bytes.{apart}
-use Rattle.laws.specs.Rings.{distance-step}
+use Rattle.laws.specs.Rings.{distance-on}
 use Rattle.runs.specs.Cutting.{Cut, Spot, Cuts, begin, cutAt, spotAfter, halt, cutBy}
 use Rattle.runs.specs.Runs.{cut-go, cut-stop}
 use Rattle.compare.specs.declared.Compared.{Compared}
@@ -83,7 +83,7 @@ stands-next s head n j p hd f h g =
     let a = f .low (p .tail) (length (p .scratch)) g in
     let b = f .near (p .tail) (length (p .scratch)) g in
     let c = h .enough g in
-    let d = distance-step head (p .tail) (frameAt s p .size) hd (h .tail) b in
+    let d = distance-on head (p .tail) (frameAt s p .size) (h .tail) b in
     record {
       here = more-by s n (begin (s .tail) 0 (s .scratch)) ∙ ap (λ (q : Spot). cutFrom s 1 q .last) (h .here) ∙ one-go s p g;
       enough = λ q. omega (arith, a, c, d);

@@ -7,7 +7,7 @@ use denote.Ref.{now}
 use borrow.Author.Needs.{needs}
 use Rattle.pair_fields.specs.declared.Pos.{Pos}
 use Rattle.pair_fields.specs.Inner.{isAlike, isField, toGo, moved, Stands}
-use Rattle.compare.specs.Slices.{small-of}
+use Rattle.laws.specs.Numbers.{small-of}
 use Rattle.pair_fields.specs.Fields.{differs-stands, settled-less, end-in, row-needs, row-other, row-same, row-less}
 use Rattle.pair_fields.proofs.turn.Statement.{statement}
 use Rattle.pair_fields.proofs.turn.Tie as tie

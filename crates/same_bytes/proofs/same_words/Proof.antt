@@ -4,7 +4,7 @@ use Prim.Native.Nat.{_-_}
 use native.Mathlib.Omega.{arith}
 use denote.Ref.{now}
 use borrow.Author.Needs.{needs}
-use Rattle.compare.specs.Slices.{small-of}
+use Rattle.laws.specs.Numbers.{small-of}
 use Rattle.same_bytes.specs.Rest.{Rest}
 use Rattle.same_bytes.proofs.Laws.{rest-words}
 use Rattle.same_bytes.proofs.same_words.Statement.{statement}
