@@ -24,7 +24,7 @@ use Rattle.compare.specs.Fields.{Reads, fields}
 use Rattle.compare.specs.Compared.{alike, agree, eventReads}
 use Rattle.compare.specs.Here.{Here, PairOf, here-start, here-ends, here-pair, here-same, ensured-same}
 use Rattle.pair_fields.specs.Inner.{Stands, toGo}
-use Rattle.compare.specs.Slices.{small-of}
+use Rattle.laws.specs.Numbers.{small-of}
 use Rattle.pair_fields.specs.Fields.{stands-on, stands-ended, stands-other}
 use Rattle.comparing.proofs.compare_rings.Statement.{statement}
 use Rattle.comparing.proofs.compare_rings.Tie as tie
