@@ -11,10 +11,13 @@ help:
 	@echo "make run       prove and build ringdump, and drain a shipped ring (RING=$(RING))"
 	@echo "make test      prove every crate, try every must-fail edit, run all tests (the gate)"
 	@echo "make lib       build $(LIB) for C"
+	@echo "make tool      build the program: target/tool/ollskuvan"
+	@echo "make examples  build the examples: target/examples"
 	@echo "make report    the report of the shipped kiln rings, and its picture"
 	@echo "make bench     speed beside careful C"
-	@echo "make install   header, library, pkg-config file, manual page (PREFIX=$(PREFIX))"
+	@echo "make install   program, header, both libraries, pkg-config file, manual pages (PREFIX=$(PREFIX))"
 	@echo "make soak      random and damaged rings beside the independent reader (MINUTES=5)"
+	@echo "make clean     remove target/, all that was proved and built"
 
 # the journal of a ring that a live kernel wrote: an entry a line, then why the drain stopped and at which tail
 run:

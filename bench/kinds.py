@@ -1,6 +1,8 @@
 #!/usr/bin/env python3
 """kinds.py FOLDER: what callgrind counted for each kind of ring, ours against careful C, the slowest first."""
 import glob, re, sys
+if len(sys.argv) != 2:
+    sys.exit(print(__doc__, file=sys.stderr) or 2)
 out = sys.argv[1]
 
 

@@ -9,7 +9,7 @@
 #
 # Options before the part: --library FILE (an archive other than target/staticlib/libollskuvan.a),
 # --standin (the independent reader of tests/reader in its place: to try the bench itself, it says nothing of the library),
-# --rings N, --seed N (the comparison), --rounds N (the times). RUSTC names another rustc.
+# --rings N, --seed N (the comparison), --rounds N (the times). RUSTC and CC name another rustc and C compiler (gcc).
 set -u
 cd "$(dirname "$0")/.." || exit 2
 out=target/bench
@@ -18,15 +18,22 @@ rings=20000 seed=1 rounds= part=all link=
 rustc=${RUSTC:-rustc}
 
 die() { echo "bench/run.sh: $*" >&2; exit 2; }
+number() { # OPTION NUMBER: from 1 on, at most nine digits
+  case ${2:-} in
+    '' | *[!0-9]* | 0* | ??????????*) die "$1: a number from 1 to 999999999 is wanted, not '${2:-}'" ;;
+  esac
+}
 
 while [ $# -gt 0 ]; do
   case "$1" in
     --library) [ $# -gt 1 ] || die "--library needs a file"; library=$2; shift ;;
     --standin) library=standin ;;
-    --rings) [ $# -gt 1 ] || die "--rings needs a number"; rings=$2; shift ;;
-    --seed) [ $# -gt 1 ] || die "--seed needs a number"; seed=$2; shift ;;
-    --rounds) [ $# -gt 1 ] || die "--rounds needs a number"; rounds=$2; shift ;;
-    --short | --time | --sizes | --values | --reads | --writes | --instructions | --kinds | --tables | --walks | --stores | --replay | --salvage | --compare | --sanitize) part=${1#--} ;;
+    --rings) number "$1" "${2:-}"; rings=$2; shift ;;
+    --seed) number "$1" "${2:-}"; seed=$2; shift ;;
+    --rounds) number "$1" "${2:-}"; rounds=$2; shift ;;
+    --short | --time | --sizes | --values | --reads | --writes | --instructions | --kinds | --tables | --walks | --stores | --replay | --salvage | --compare | --sanitize)
+      [ "$part" = all ] || die "one part at a time: --$part or $1"
+      part=${1#--} ;;
     -h | --help) sed -n '2,12p' "$0" | sed 's/^# \{0,1\}//'; exit 0 ;;
     *) die "unknown argument: $1 (see --help)" ;;
   esac
@@ -80,19 +87,14 @@ case "$part" in
     fi ;;
 esac
 
-values=
-if ! nm "$library" 2>/dev/null | grep -q ' T ollskuvan_write$'; then
-  values=-DWITHOUT_VALUES
-  echo "bench: this archive has no ollskuvan_read and ollskuvan_write: their cost is left out"
-fi
-flags="-std=c11 -O3 -g -Wall -Wextra -Werror -Iinclude $other $values"
+flags="-std=c11 -O3 -g -Wall -Wextra -Werror -Iinclude $other"
 program=$out/bench
 if [ "$part" = sanitize ]; then
-  flags="-std=c11 -O1 -g -Wall -Wextra -Werror -Iinclude -fsanitize=address,undefined -fno-sanitize-recover=all $values"
+  flags="-std=c11 -O1 -g -Wall -Wextra -Werror -Iinclude -fsanitize=address,undefined -fno-sanitize-recover=all"
   program=$out/bench-sanitized
 fi
 # shellcheck disable=SC2086 # the flags are words
-gcc $flags -o "$program" bench/bench.c bench/compare.c bench/timing.c bench/made.c bench/kinds.c bench/replay.c bench/salvage.c bench/rings.c bench/careful.c bench/careful_check.c bench/careful_read.c bench/values.c bench/careful_write.c bench/writes.c bench/careful_replay.c bench/careful_store.c bench/stores.c bench/careful_walk.c bench/walks.c bench/careful_salvage.c bench/floor.c "$library" $link ||
+"${CC:-gcc}" $flags -o "$program" bench/bench.c bench/compare.c bench/timing.c bench/made.c bench/kinds.c bench/replay.c bench/salvage.c bench/rings.c bench/careful.c bench/careful_check.c bench/careful_read.c bench/values.c bench/careful_write.c bench/writes.c bench/careful_replay.c bench/careful_store.c bench/stores.c bench/careful_walk.c bench/walks.c bench/careful_salvage.c bench/floor.c "$library" $link ||
   die "the bench does not build"
 
 # instructions of one drain under callgrind, which repeat exactly

@@ -7,13 +7,17 @@
 set -u
 cd "$(dirname "$0")/.." || exit 2
 library=${1:-target/staticlib/libollskuvan.a}
+for number in "${RINGS:-20000}" "${SEED:-1}"; do
+  case $number in '' | *[!0-9]*) echo "bench/teeth.sh: RINGS and SEED are numbers, not '$number'" >&2; exit 2 ;; esac
+done
+[ $# -le 1 ] || { echo "use: bench/teeth.sh [ARCHIVE]" >&2; exit 2; }
 out=target/bench/teeth
 [ -f "$library" ] || { echo "bench/teeth.sh: no such archive: $library" >&2; exit 2; }
 mkdir -p "$out" || exit 2
 found=0 missed=0
 
 # what no mistake is planted in is compiled once
-build() { gcc -std=c11 -O2 -w -DWITHOUT_VALUES -Iinclude "$@" || exit 2; }
+build() { "${CC:-gcc}" -std=c11 -O2 -w -Iinclude "$@" || exit 2; }
 rm -f "$out"/*.o
 for file in bench/*.c; do
   case $file in bench/careful*.c | bench/count.c) continue ;; esac

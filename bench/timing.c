@@ -301,15 +301,6 @@ int time_sizes(size_t rounds)
 
 /* ---- values ---- */
 
-#ifdef WITHOUT_VALUES
-int time_values(size_t rounds)
-{
-    (void)rounds;
-    printf("\nvalues: left out, the archive has no ollskuvan_read and ollskuvan_write\n");
-    return 0;
-}
-#else
-
 struct whole {
     uint8_t *bytes; /* the records end to end, none of them across an end */
     size_t length;
@@ -434,5 +425,3 @@ int time_values(size_t rounds)
         time_value(which, rounds);
     return 0;
 }
-
-#endif

@@ -20,17 +20,6 @@ static uint32_t run_read(read_function *read, const uint8_t *record, size_t size
         a->branch_sample_type, edition, out, words);
 }
 
-#ifdef WITHOUT_VALUES
-int compare_reads(uint64_t rings, uint64_t seed)
-{
-    (void)rings;
-    (void)seed;
-    return 0;
-}
-#define OUR_READ careful_read
-#else
-#define OUR_READ ollskuvan_read
-
 /* ---- the comparison ---- */
 
 struct tally {
@@ -89,7 +78,6 @@ int compare_reads(uint64_t rings, uint64_t seed)
     free(ring.bytes);
     return t.differ != 0 || t.accepted == 0;
 }
-#endif
 
 /* ---- one call at a time, for a counter: the names ---- */
 
@@ -155,7 +143,7 @@ static int run_workload(read_function *read, enum made_workload which)
 
 int run_reads(const char *whose, const char *what)
 {
-    read_function *read = strcmp(whose, "ours") == 0 ? OUR_READ : careful_read;
+    read_function *read = strcmp(whose, "ours") == 0 ? ollskuvan_read : careful_read;
     unsigned number;
     switch (one_named(what, &number)) {
     case ONE_WORKLOAD: return run_workload(read, number);

@@ -13,22 +13,6 @@ typedef uint32_t write_function(const uint64_t *, size_t, const uint8_t *, size_
 
 enum { WORDS = 56, TURNS = 100, ANSWERS = 64 };
 
-#ifdef WITHOUT_VALUES
-int compare_writes(uint64_t rings, uint64_t seed)
-{
-    (void)rings;
-    (void)seed;
-    return 0;
-}
-
-int run_writes(const char *whose, const char *what)
-{
-    (void)whose;
-    (void)what;
-    return 2;
-}
-#else
-
 static uint32_t run_write(write_function *write, const uint64_t *words, size_t count, const uint8_t *source, size_t length,
     const struct made_attributes *a, uint32_t edition, uint8_t *buffer, size_t room)
 {
@@ -182,4 +166,3 @@ int run_writes(const char *whose, const char *what)
     default: return 2;
     }
 }
-#endif

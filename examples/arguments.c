@@ -27,6 +27,15 @@ bool whole_argument(const char *text, const char *option, unsigned long long lea
     return false;
 }
 
+bool edition_argument(const char *text, uint32_t *edition)
+{
+    unsigned long long n;
+    if (!whole_argument(text, "--edition", OLLSKUVAN_EDITION_1, OLLSKUVAN_EDITION_4, &n))
+        return false;
+    *edition = (uint32_t)n;
+    return true;
+}
+
 bool bits_argument(const char *text, const char *option, uint64_t *bits)
 {
     bool hexadecimal = text[0] == '0' && text[1] == 'x' && isxdigit((unsigned char)text[2]);

@@ -14,6 +14,9 @@ enum { PAGES_MAX = 256 };
 bool whole_argument(const char *text, const char *option, unsigned long long least, unsigned long long most,
     unsigned long long *number);
 
+/* What the reader knows. */
+bool edition_argument(const char *text, uint32_t *edition);
+
 /* Bits, not 0: a number, or 0x and hexadecimal digits. */
 bool bits_argument(const char *text, const char *option, uint64_t *bits);
 

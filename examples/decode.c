@@ -57,7 +57,8 @@ static int drain(struct perf_event_mmap_page *page)
 int main(int argc, char **argv)
 {
     int fd = (int)syscall(SYS_perf_event_open, &attr, -1, argc > 1 ? atoi(argv[1]) : 0, -1, PERF_FLAG_FD_CLOEXEC);
-    void *page = fd < 0 ? MAP_FAILED : mmap(NULL, 65 * 4096, PROT_READ | PROT_WRITE, MAP_SHARED, fd, 0);
+    size_t length = 65 * (size_t)sysconf(_SC_PAGESIZE); /* a page of counts, and the ring */
+    void *page = fd < 0 ? MAP_FAILED : mmap(NULL, length, PROT_READ | PROT_WRITE, MAP_SHARED, fd, 0);
     if (page == MAP_FAILED)
         return perror("decode"), 1;
     while (fflush(stdout) == 0)

@@ -7,18 +7,19 @@
 #include <stdlib.h>
 #include <string.h>
 
+#include "file.h"
+#include "why.h"
+
 enum { PATH_ROOM = 4096, LINE_ROOM = 512, WORDS = sizeof(struct ollskuvan_event) / sizeof(uint64_t) };
 
-static bool refuse(char why[WHY_ROOM], const char *words, unsigned line)
+static bool refuse_line(char why[WHY_ROOM], const char *words, unsigned line)
 {
-    snprintf(why, WHY_ROOM, "no table of events: line %u %s", line, words);
-    return false;
+    return refuse(why, "no table of events: line %u %s", line, words);
 }
 
 static bool refuse_path(char why[WHY_ROOM])
 {
-    snprintf(why, WHY_ROOM, "its table of events: %s", strerror(errno));
-    return false;
+    return refuse(why, "its table of events: %s", strerror(errno));
 }
 
 /* NAME.table for NAME.img, and for any other name NAME.table too. */
@@ -68,18 +69,18 @@ static bool read_events(struct event_table *table, FILE *file, char why[WHY_ROOM
     char line[LINE_ROOM];
     for (unsigned number = 1; fgets(line, sizeof line, file) != NULL; number++) {
         if (strchr(line, '\n') == NULL && !feof(file))
-            return refuse(why, "is too long", number);
+            return refuse_line(why, "is too long", number);
         line[strcspn(line, "#")] = '\0';
         if (is_blank(line))
             continue;
         if (table->count == OLLSKUVAN_EVENTS_MAX)
-            return refuse(why, "has one more event than a table may have", number);
+            return refuse_line(why, "has one more event than a table may have", number);
         if (!read_event(line, &table->events[table->count++]))
-            return refuse(why, "has other than the seven words of an event", number);
+            return refuse_line(why, "has other than the seven words of an event", number);
     }
     if (ferror(file))
         return refuse_path(why);
-    return table->count != 0 || refuse(why, "and all others have no event", 1);
+    return table->count != 0 || refuse_line(why, "and all others have no event", 1);
 }
 
 bool event_table_load(struct event_table *table, const char *image_path, char why[WHY_ROOM])
@@ -107,21 +108,22 @@ static void write_event(FILE *file, const struct ollskuvan_event *v, const char 
         v->sample_id_all, name);
 }
 
+static void print_events(FILE *out, const void *what)
+{
+    const struct event_table *table = what;
+    fprintf(out, "# identifier sample_type read_format user_mask interrupt_mask branch_sample_type sample_id_all\n");
+    for (size_t i = 0; i < table->count; i++)
+        write_event(out, &table->events[i], table->names[i]);
+}
+
 bool event_table_save(const struct event_table *table, const char *image_path, char why[WHY_ROOM])
 {
-    char path[PATH_ROOM];
+    char path[PATH_ROOM], reason[WHY_ROOM];
     if (!table_path(path, image_path))
         return refuse_path(why);
     if (table->count == 0)
         return remove(path) == 0 || errno == ENOENT || refuse_path(why);
-    FILE *file = fopen(path, "w");
-    if (file == NULL)
-        return refuse_path(why);
-    fprintf(file, "# identifier sample_type read_format user_mask interrupt_mask branch_sample_type sample_id_all\n");
-    for (size_t i = 0; i < table->count; i++)
-        write_event(file, &table->events[i], table->names[i]);
-    bool failed = ferror(file) != 0;
-    return (fclose(file) == 0 && !failed) || refuse_path(why);
+    return file_print(path, print_events, table, reason) || refuse(why, "its table of events: %s", reason);
 }
 
 /* ---- whose record ---- */

@@ -3,6 +3,7 @@
 
 #include <errno.h>
 #include <signal.h>
+#include <stdio.h>
 #include <stdlib.h>
 #include <string.h>
 #include <sys/wait.h>
@@ -11,6 +12,7 @@
 #include "commands.h"
 #include "memory.h"
 #include "messages.h"
+#include "text.h"
 
 enum { CPUS_MAX = 4096 };
 
@@ -217,4 +219,13 @@ void live_wait(struct live *live)
             tell_end(status);
     }
     restore_signals();
+}
+
+const char *gap_text(uint32_t stop, uint64_t bytes, char text[GAP_TEXT])
+{
+    if (stop == OLLSKUVAN_STOP_DISTANCE)
+        snprintf(text, GAP_TEXT, "what lies before head");
+    else
+        snprintf(text, GAP_TEXT, "%llu %s", (unsigned long long)bytes, plural(bytes, "byte", "bytes"));
+    return text;
 }

@@ -57,6 +57,11 @@ enum live_end {
  * are paused before anything else is done. */
 enum live_end live_record(struct live *live, void (*look)(void *context), void *context);
 
+/* What a stop gives up, in words: "24 bytes"; of stop 4 no number, since head and
+ * tail are then no two counts of one ring. */
+enum { GAP_TEXT = 48 };
+const char *gap_text(uint32_t stop, uint64_t bytes, char text[GAP_TEXT]);
+
 /* Until the program has ended by itself, or SIGINT or SIGTERM comes. */
 void live_wait(struct live *live);
 

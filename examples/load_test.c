@@ -30,6 +30,7 @@
 #include <time.h>
 #include <unistd.h>
 
+#include "arguments.h"
 #include "bytes.h"
 #include "messages.h"
 #include "ollskuvan.h"
@@ -298,15 +299,11 @@ static void read_the_rest(struct test *t)
         empty(t);
 }
 
-static uint64_t argument(const char *text, uint64_t most)
+static uint64_t argument(const char *text, const char *what, uint64_t most)
 {
-    char *end;
-    errno = 0;
-    unsigned long long n = strtoull(text, &end, 10);
-    if (errno != 0 || end == text || *end != '\0' || *text == '-' || n == 0 || n > most) {
-        fprintf(stderr, "load_test: a number from 1 to %llu is wanted, not %s\n", (unsigned long long)most, text);
+    unsigned long long n;
+    if (!whole_argument(text, what, 1, most, &n))
         exit(2);
-    }
     return n;
 }
 
@@ -318,9 +315,9 @@ int main(int argc, char **argv)
         fprintf(stderr, "usage: load_test [RECORDS [BUDGET [REPORT]]]\n");
         return 2;
     }
-    t.changes = argc > 1 ? argument(argv[1], 1000000000) : 100000;
-    t.budget = argc > 2 ? argument(argv[2], 40) : 16; /* 40 COMM records are less than a page */
-    t.slow = argc > 3 ? argument(argv[3], 40) : 0;
+    t.changes = argc > 1 ? argument(argv[1], "RECORDS", 1000000000) : 100000;
+    t.budget = argc > 2 ? argument(argv[2], "BUDGET", 40) : 16; /* 40 COMM records are less than a page */
+    t.slow = argc > 3 ? argument(argv[3], "REPORT", 40) : 0;
     alarm(HANG_SECONDS); /* a hang ends the test by a signal */
     sem_init(&t.ready, 0, 0);
     sem_init(&t.go, 0, 0);

@@ -27,6 +27,7 @@
 #include <stdlib.h>
 #include <string.h>
 
+#include "arguments.h"
 #include "bytes.h"
 #include "commands.h"
 #include "memory.h"
@@ -338,7 +339,10 @@ int main(int argc, char **argv)
     if (argc == 3) {
         read_scene(&scene, argv[1]);
     } else if (argc == 5 && strcmp(argv[1], "--many") == 0) {
-        make_many(&scene, strtoull(argv[2], NULL, 10), strtoull(argv[3], NULL, 10));
+        unsigned long long records, lost;
+        if (!whole_argument(argv[2], "RECORDS", 1, 1000000000, &records) || !whole_argument(argv[3], "LOST", 0, 1000000000, &lost))
+            return STATUS_USAGE;
+        make_many(&scene, records, lost);
     } else {
         fprintf(stderr, "usage: %s SCENE PREFIX | %s --many RECORDS LOST PREFIX\n", own_name(), own_name());
         return STATUS_USAGE;

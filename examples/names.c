@@ -8,7 +8,9 @@
 #include <stdlib.h>
 #include <string.h>
 
+#include "file.h"
 #include "memory.h"
+#include "why.h"
 
 static void add(struct names *names, const struct named *named)
 {
@@ -70,25 +72,20 @@ void names_from_proc(struct names *names, bool at_end)
 
 /* ---- files ---- */
 
-static bool because(char why[WHY_ROOM], const char *text)
+static void print_names(FILE *out, const void *what)
 {
-    snprintf(why, WHY_ROOM, "%s", text);
-    return false;
+    const struct names *names = what;
+    char plain[4 * NAMED_ROOM];
+    for (size_t i = 0; i < names->count; i++) {
+        const struct named *n = &names->list[i];
+        plain_text(plain, sizeof plain, n->name, sizeof plain - 1);
+        fprintf(out, "%s %u %u %s\n", n->at_end ? "end" : "begin", n->pid, n->tid, plain);
+    }
 }
 
 bool names_save(const struct names *names, const char *path, char why[WHY_ROOM])
 {
-    char plain[4 * NAMED_ROOM];
-    FILE *file = fopen(path, "w");
-    if (file == NULL)
-        return because(why, strerror(errno));
-    for (size_t i = 0; i < names->count; i++) {
-        const struct named *n = &names->list[i];
-        plain_text(plain, sizeof plain, n->name, sizeof plain - 1);
-        fprintf(file, "%s %u %u %s\n", n->at_end ? "end" : "begin", n->pid, n->tid, plain);
-    }
-    bool failed = ferror(file) != 0;
-    return fclose(file) == 0 && !failed ? true : because(why, "it cannot be written");
+    return file_print(path, print_names, names, why);
 }
 
 static bool add_line(struct names *names, char *line)
@@ -112,10 +109,14 @@ bool names_load(struct names *names, const char *path, char why[WHY_ROOM])
     bool good = true;
     FILE *file = fopen(path, "r");
     if (file == NULL)
-        return because(why, strerror(errno));
+        return refuse(why, "%s", strerror(errno));
+    errno = 0;
     while (good && fgets(line, sizeof line, file) != NULL)
         good = add_line(names, line);
-    good = good && ferror(file) == 0;
+    int error = errno;
+    bool read = ferror(file) == 0;
     fclose(file);
-    return good ? true : because(why, "no file of names: its lines are 'begin PID TID NAME' or 'end PID TID NAME'");
+    if (!read)
+        return refuse(why, "it cannot be read: %s", strerror(error));
+    return good || refuse(why, "no file of names: its lines are 'begin PID TID NAME' or 'end PID TID NAME'");
 }

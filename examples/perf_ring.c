@@ -13,6 +13,7 @@
 #include <unistd.h>
 
 #include "bytes.h"
+#include "file.h"
 #include "ollskuvan.h"
 #include "ring_image.h"
 #include "why.h"
@@ -371,63 +372,41 @@ size_t cpus_online(int *cpus, size_t most)
 
 /* ---- images ---- */
 
-/* The whole file, at most `most` bytes. */
-static bool read_all(const char *path, uint8_t *all, size_t most, size_t *length, char why[WHY_ROOM])
-{
-    bool standard = strcmp(path, "-") == 0;
-    FILE *file = standard ? stdin : fopen(path, "rb");
-    if (file == NULL)
-        return refuse(why, "%s", strerror(errno));
-    errno = 0;
-    *length = fread(all, 1, most, file);
-    bool failed = ferror(file) != 0;
-    int error = errno;
-    if (!standard)
-        fclose(file);
-    return failed ? refuse(why, "it cannot be read: %s", strerror(error)) : true;
-}
-
 bool ring_image_load(const char *path, struct ring_image *image, char why[WHY_ROOM])
 {
-    enum { MOST = IMAGE_HEADER + OLLSKUVAN_RING_MAX + IMAGE_BRANCH };
-    size_t length = 0;
-    uint8_t *all = malloc(MOST + 1); /* one more, so that a longer file is seen */
-    if (all == NULL)
-        return refuse(why, "out of memory");
-    bool fits = read_all(path, all, MOST + 1, &length, why);
-    if (fits && length < IMAGE_HEADER)
-        fits = refuse(why, "no ring image: it has fewer than 50 bytes");
-    if (fits && length > IMAGE_HEADER + OLLSKUVAN_RING_MAX && !ring_has_branch(length - IMAGE_HEADER))
+    struct file file;
+    if (!file_read(&file, path, IMAGE_MOST + 1, why)) /* one more, so that a longer file is seen */
+        return false;
+    bool fits = file.length >= IMAGE_HEADER || refuse(why, "no ring image: it has fewer than 50 bytes");
+    if (fits && file.length > IMAGE_HEADER + OLLSKUVAN_RING_MAX && !ring_has_branch(file.length - IMAGE_HEADER))
         fits = refuse(why, "no ring image: it has a ring of more than 1,048,576 bytes");
     if (!fits) {
-        free(all);
+        free(file.bytes);
         return false;
     }
-    *image = ring_image_of(all, length);
-    image->bytes = memmove(all, image->bytes, image->length); /* so that it can be freed */
+    *image = ring_image_of(file.bytes, file.length);
+    image->bytes = memmove(file.bytes, image->bytes, image->length); /* so that it can be freed */
     return true;
 }
 
 bool ring_image_save(const char *path, const struct ring_attributes *attributes, uint64_t head, uint64_t tail,
     const uint8_t *bytes, size_t length, char why[WHY_ROOM])
 {
-    uint8_t header[IMAGE_HEADER], branch[IMAGE_BRANCH];
-    size_t behind = attributes->branch_sample_type != 0 ? sizeof branch : 0;
-    put_little(header, 8, head);
-    put_little(header + 8, 8, tail);
-    put_little(header + 16, 8, attributes->sample_type);
-    put_little(header + 24, 8, attributes->read_format);
-    put_little(header + 32, 8, attributes->user_mask);
-    put_little(header + 40, 8, attributes->interrupt_mask);
-    header[48] = (uint8_t)attributes->edition;
-    header[49] = attributes->sample_id_all != 0;
-    put_little(branch, 8, attributes->branch_sample_type);
-    FILE *file = fopen(path, "wb");
-    if (file == NULL)
-        return refuse(why, "%s", strerror(errno));
-    bool written = fwrite(header, 1, sizeof header, file) == sizeof header && fwrite(bytes, 1, length, file) == length &&
-        fwrite(branch, 1, behind, file) == behind;
-    if (fclose(file) != 0 || !written)
-        return refuse(why, "it cannot be written: %s", strerror(errno));
-    return true;
+    size_t behind = attributes->branch_sample_type != 0 ? IMAGE_BRANCH : 0;
+    uint8_t *all = malloc(IMAGE_HEADER + length + IMAGE_BRANCH);
+    if (all == NULL)
+        return refuse(why, "out of memory");
+    put_little(all, 8, head);
+    put_little(all + 8, 8, tail);
+    put_little(all + 16, 8, attributes->sample_type);
+    put_little(all + 24, 8, attributes->read_format);
+    put_little(all + 32, 8, attributes->user_mask);
+    put_little(all + 40, 8, attributes->interrupt_mask);
+    all[48] = (uint8_t)attributes->edition;
+    all[49] = attributes->sample_id_all != 0;
+    memcpy(all + IMAGE_HEADER, bytes, length);
+    put_little(all + IMAGE_HEADER + length, IMAGE_BRANCH, attributes->branch_sample_type);
+    bool written = file_replace(path, all, IMAGE_HEADER + length + behind, why);
+    free(all);
+    return written;
 }

@@ -114,12 +114,13 @@ struct ring_image {
     size_t length;
 };
 
-enum { IMAGE_HEADER = 50, IMAGE_BRANCH = 8 };
+enum { IMAGE_HEADER = 50, IMAGE_BRANCH = 8, IMAGE_MOST = IMAGE_HEADER + OLLSKUVAN_RING_MAX + IMAGE_BRANCH };
 /* ringdump takes no longer ring. */
 enum { RINGDUMP_RING_MAX = 16384 };
 
 /* Of a file, or of standard input: "-". */
 bool ring_image_load(const char *path, struct ring_image *image, char why[WHY_ROOM]);
+/* Whole or not at all: what stood there is replaced (file.h). */
 bool ring_image_save(const char *path, const struct ring_attributes *attributes, uint64_t head, uint64_t tail,
     const uint8_t *bytes, size_t length, char why[WHY_ROOM]);
 

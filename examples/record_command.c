@@ -6,12 +6,12 @@
  * build ids: of everyone, or of PROGRAM and its children), drains the rings through
  * libollskuvan.a, handles every stop, hands back each tail, and names what is
  * refused. With --events more events write into the same ring, and it is drained
- * with a table of all of them. With --save nothing is drained until the end; the rings are then
- * written as images that the report takes. With --settings it starts from a store of settings, and With --trace what the kernel wrote and each drain go to With --flight the rings are written backward,
- * keeps in it what it was started with.
- * a file too, which ollskuvan replay plays again.
- * over their oldest records, until a signal comes or a step runs late: then they are paused,
- * walked and saved.
+ * with a table of all of them. With --save nothing is drained until the end; the
+ * rings are then written as images that the report takes. With --settings it starts
+ * from a store of settings, and keeps in it what it was started with. With --trace
+ * what the kernel wrote and each drain go to a file too, which ollskuvan replay plays
+ * again. With --flight the rings are written backward, over their oldest records,
+ * until a signal comes or a step runs late: then they are paused, walked and saved.
  */
 #define _GNU_SOURCE
 #include <getopt.h>
@@ -24,8 +24,9 @@
 #include "bytes.h"
 #include "commands.h"
 #include "events.h"
-#include "kept.h"
+#include "file.h"
 #include "flight.h"
+#include "kept.h"
 #include "live.h"
 #include "memory.h"
 #include "messages.h"
@@ -59,7 +60,7 @@ struct controller {
     uint8_t scratch[OLLSKUVAN_RECORD_MAX]; /* so stop 3 cannot be */
     uint8_t journal[BUDGET_MAX * OLLSKUVAN_JOURNAL_ENTRY];
     /* what it saw */
-    uint64_t taken, bytes, drains, skipped, longest_ns, refused;
+    uint64_t taken, bytes, drains, gaps, skipped, longest_ns, refused; /* skipped: bytes of the gaps, but for those at stop 4 */
     uint64_t by_kind[OLLSKUVAN_KIND_OTHER + 1u], by_refusal[REFUSALS], by_stop[STOPS];
     uint64_t by_event[OLLSKUVAN_EVENTS_MAX]; /* the tables of all rings have the same order */
 };
@@ -99,6 +100,7 @@ static void count_event(struct controller *c, const struct perf_ring *ring, uint
 static uint64_t tail_after(struct controller *c, const struct perf_ring *ring, uint64_t head,
     const struct ollskuvan_drained *done)
 {
+    char text[GAP_TEXT];
     switch (done->stop) {
     case OLLSKUVAN_STOP_NOTHING:
     case OLLSKUVAN_STOP_BUDGET:  /* the next call goes on */
@@ -108,9 +110,10 @@ static uint64_t tail_after(struct controller *c, const struct perf_ring *ring, u
     case OLLSKUVAN_STOP_ALIGNMENT:
     case OLLSKUVAN_STOP_SIZE:
     case OLLSKUVAN_STOP_PAST_HEAD:
-        printf("cpu %d: stop %u at tail %llu: %s; given up: %llu bytes\n", ring->cpu, done->stop,
-            (unsigned long long)done->tail, ollskuvan_stop_text(done->stop), (unsigned long long)(head - done->tail));
-        c->skipped += head - done->tail;
+        printf("cpu %d: stop %u at tail %llu: %s; given up: %s\n", ring->cpu, done->stop, (unsigned long long)done->tail,
+            ollskuvan_stop_text(done->stop), gap_text(done->stop, head - done->tail, text));
+        c->gaps++;
+        c->skipped += done->stop != OLLSKUVAN_STOP_DISTANCE ? head - done->tail : 0;
         return head;
     default: /* 1, 2, 3, 11: this program is set up wrongly, and no ring can mend it */
         complain("cpu %d: stop %u: %s", ring->cpu, done->stop, ollskuvan_stop_text(done->stop));
@@ -268,10 +271,28 @@ static bool path_for(char path[PATH_ROOM], const char *name, const char *end, co
     return false;
 }
 
-static bool save_names(struct controller *c)
+/* The option that named the files. */
+static const char *save_option(const struct controller *c)
+{
+    return c->options.want.backward ? "--flight" : "--save";
+}
+
+/* Before anything is recorded: whether it can be saved. An older recording of that name stays until then. */
+static bool may_save(const struct controller *c)
 {
     char path[PATH_ROOM], why[WHY_ROOM];
-    if (!path_for(path, c->options.save, "-names.txt", "--save"))
+    if (!path_for(path, c->options.save, "-names.txt", save_option(c)))
+        return false;
+    if (file_replaceable(path, why))
+        return true;
+    complain("%s: %s", path, why);
+    return false;
+}
+
+static bool save_names(const struct controller *c)
+{
+    char path[PATH_ROOM], why[WHY_ROOM];
+    if (!path_for(path, c->options.save, "-names.txt", save_option(c)))
         return false;
     if (names_save(&c->names, path, why))
         return true;
@@ -284,7 +305,7 @@ static bool save_ring(const struct controller *c, size_t number)
     const struct perf_ring *ring = &c->live.rings[number];
     char path[PATH_ROOM], why[WHY_ROOM], end[32];
     snprintf(end, sizeof end, "-cpu%d.img", ring->cpu);
-    if (!path_for(path, c->options.save, end, "--save"))
+    if (!path_for(path, c->options.save, end, save_option(c)))
         return false;
     uint64_t head = perf_ring_head(ring), tail = perf_ring_tail(ring);
     if (!ring_image_save(path, &ring->attributes, head, tail, ring->bytes, ring->length, why) ||
@@ -357,7 +378,7 @@ static bool end_traces(struct controller *c)
             print_trace(t, &c->live.rings[i]);
         }
         if (t->ended)
-            complain("%s: it ends before a header that is no record's", t->path);
+            complain("%s: it ends early: a header in the ring was no record's, or the ring's head no count of it", t->path);
     }
     return written;
 }
@@ -386,7 +407,7 @@ static bool save_flight(struct controller *c, const struct perf_ring *ring)
     snprintf(end, sizeof end, "-cpu%d.img", ring->cpu);
     count_flight(c, ring, &flight);
     free(flight.journal);
-    if (!path_for(path, c->options.save, end, "--save"))
+    if (!path_for(path, c->options.save, end, save_option(c)))
         return false;
     if (!ring_image_save(path, &ring->attributes, head, perf_ring_tail(ring), ring->bytes, ring->length, why) ||
         !event_table_save(&ring->table, path, why)) {
@@ -471,8 +492,9 @@ static void summary(const struct controller *c)
             (unsigned long long)c->compared.records, plural(c->compared.records, "record", "records"),
             (unsigned long long)c->compared.drains, plural(c->compared.drains, "drain", "drains"),
             (unsigned long long)c->compared.differences);
-    if (c->skipped != 0)
-        printf("  given up at stops: %llu %s\n", (unsigned long long)c->skipped, plural(c->skipped, "byte", "bytes"));
+    if (c->gaps != 0)
+        printf("  given up: %llu %s, %llu %s but for what stop 4 gave up\n", (unsigned long long)c->gaps, plural(c->gaps, "gap", "gaps"),
+            (unsigned long long)c->skipped, plural(c->skipped, "byte", "bytes"));
 }
 
 /* ---- set-up ---- */
@@ -544,10 +566,7 @@ static bool take_option(void *options, int letter)
     case 'v':
         return counters_argument(optarg, &o->want.counters);
     case 'e':
-        if (!whole_argument(optarg, "--edition", 1, 4, &n))
-            return false;
-        o->want.edition = (uint32_t)n;
-        return true;
+        return edition_argument(optarg, &o->want.edition);
     case 'w':
     case 'f':
         if (o->save != NULL) {
@@ -611,7 +630,7 @@ static bool read_options(struct options *o, int argc, char **argv, bool *help)
         return false;
     }
     if (o->trace != NULL && (o->save != NULL || o->report != 0)) {
-        complain("--trace goes with neither --save nor --report: it is of one reader that drains while it records");
+        complain("--trace goes with none of --save, --flight and --report: it is of one reader that drains while it records");
         return false;
     }
     o->want.program = optind < argc ? argv + optind : NULL;
@@ -674,7 +693,7 @@ static int control(struct controller *c)
     if (c->options.settings != NULL && !start_from_store(&c->options))
         return STATUS_FAILED;
     fill_in(&c->options);
-    if (c->options.save != NULL && !save_names(c)) /* none yet: where nothing can be written it is said before anything is recorded */
+    if (c->options.save != NULL && !may_save(c))
         return STATUS_FAILED;
     int status = live_open(&c->live, &c->options.want);
     if (status != STATUS_DONE)
@@ -713,7 +732,7 @@ static int control(struct controller *c)
     if (!end_traces(c))
         status = STATUS_FAILED;
     summary(c);
-    return c->broken || c->skipped != 0 || c->compared.differences != 0 ? STATUS_FAILED : status;
+    return c->broken || c->gaps != 0 || c->compared.differences != 0 ? STATUS_FAILED : status;
 }
 
 int record_command(int argc, char **argv)

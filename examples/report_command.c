@@ -6,7 +6,6 @@
  * names are copied by ollskuvan_copy_name.
  */
 #define _GNU_SOURCE
-#include <errno.h>
 #include <getopt.h>
 #include <stdio.h>
 #include <stdlib.h>
@@ -15,6 +14,7 @@
 #include "arguments.h"
 #include "commands.h"
 #include "events.h"
+#include "file.h"
 #include "flight.h"
 #include "live.h"
 #include "messages.h"
@@ -27,8 +27,7 @@
 enum { EVENTS_MOST = 2000000 };
 
 struct options {
-    const char *watch, *names, *svg_path;
-    FILE *svg;
+    const char *watch, *names, *svg;
     uint64_t period; /* ns; 0: not given */
     size_t columns;
     bool live, short_form;
@@ -131,6 +130,7 @@ static void add_sources(struct telling *t)
 static void take_all(void *context)
 {
     struct telling *t = context;
+    char text[GAP_TEXT];
     for (size_t i = 0; i < t->live.count; i++) {
         const struct perf_ring *ring = &t->live.rings[i];
         struct source *source = &t->story->sources[i];
@@ -138,8 +138,8 @@ static void take_all(void *context)
         source->full = ring_is_full(ring->length, head, tail); /* what the last look saw is kept */
         tail = story_take(t->story, (unsigned)i, ring->bytes, head, tail);
         if (tail != head)
-            complain("cpu %d: stop %u: %s; given up: %llu bytes", ring->cpu, source->stop, ollskuvan_stop_text(source->stop),
-                (unsigned long long)(head - tail));
+            complain("cpu %d: stop %u: %s; given up: %s", ring->cpu, source->last_stop, ollskuvan_stop_text(source->last_stop),
+                gap_text(source->last_stop, head - tail, text));
         perf_ring_give_back(ring, head);
     }
 }
@@ -198,7 +198,7 @@ static bool take_option(void *options, int letter)
         o->names = optarg;
         return true;
     case 'v':
-        o->svg_path = optarg;
+        o->svg = optarg;
         return true;
     case 'q':
         return o->short_form = true;
@@ -275,18 +275,28 @@ static void fill_in(struct options *o)
 
 /* ---- the whole ---- */
 
-static bool draw(const struct story *story, const struct verdict *verdict, struct options *o)
+struct drawn {
+    const struct story *story;
+    const struct verdict *verdict;
+};
+
+static void print_picture(FILE *out, const void *what)
 {
-    picture(o->svg, story, verdict);
-    bool failed = ferror(o->svg) != 0;
-    failed = fclose(o->svg) != 0 || failed;
-    o->svg = NULL;
-    if (failed)
-        complain("%s: it cannot be written", o->svg_path);
-    return !failed;
+    const struct drawn *d = what;
+    picture(out, d->story, d->verdict);
 }
 
-static int tell(struct story *story, struct options *o)
+static bool draw(const struct story *story, const struct verdict *verdict, const char *path)
+{
+    const struct drawn drawn = { story, verdict };
+    char why[WHY_ROOM];
+    if (file_print(path, print_picture, &drawn, why))
+        return true;
+    complain("%s: %s", path, why);
+    return false;
+}
+
+static int tell(struct story *story, const struct options *o)
 {
     struct verdict verdict;
     story_tell(story);
@@ -304,16 +314,17 @@ static int tell(struct story *story, struct options *o)
     report(stdout, story, &verdict, !o->short_form, o->columns);
     bool done = verdict.thread != NULL && story_is_whole(story);
     if (o->svg != NULL)
-        done = draw(story, &verdict, o) && done;
+        done = draw(story, &verdict, o->svg) && done;
     verdict_end(&verdict);
     return done ? STATUS_DONE : STATUS_FAILED;
 }
 
-static int run(struct options *o)
+static int run(const struct options *o)
 {
     struct story story;
-    if (o->svg_path != NULL && (o->svg = fopen(o->svg_path, "w")) == NULL) {
-        complain("%s: %s", o->svg_path, strerror(errno));
+    char why[WHY_ROOM];
+    if (o->svg != NULL && !file_replaceable(o->svg, why)) { /* said before anything is read or recorded */
+        complain("%s: %s", o->svg, why);
         return STATUS_FAILED;
     }
     story_begin(&story, EVENTS_MOST);
@@ -321,8 +332,6 @@ static int run(struct options *o)
     if (status == STATUS_DONE)
         status = tell(&story, o);
     story_end(&story);
-    if (o->svg != NULL)
-        fclose(o->svg);
     return status;
 }
 

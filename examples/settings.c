@@ -1,21 +1,16 @@
-#define _GNU_SOURCE
 #include "settings.h"
 
-#include <errno.h>
-#include <fcntl.h>
 #include <inttypes.h>
-#include <libgen.h>
 #include <stdio.h>
 #include <stdlib.h>
 #include <string.h>
-#include <sys/stat.h>
-#include <unistd.h>
 
 #include "bytes.h"
+#include "file.h"
 #include "why.h"
 
 /* An entry: a length that covers itself, a kind, a body. */
-enum { LENGTH_BYTES = 4, KIND_BYTES = 2, HEAD = LENGTH_BYTES + KIND_BYTES, PATH_ROOM = 4096 };
+enum { LENGTH_BYTES = 4, KIND_BYTES = 2, HEAD = LENGTH_BYTES + KIND_BYTES };
 /* No store that can be read, and no fault in a row, lies further on. */
 enum { FILE_MOST = 1 << 22 };
 
@@ -193,28 +188,6 @@ static bool refuse_store(char why[WHY_ROOM], uint32_t answer, const uint8_t *byt
 
 /* ---- reading ---- */
 
-/* The whole file, at most one byte more than FILE_MOST. */
-static enum settings_answer read_file(const char *path, uint8_t *bytes, size_t *length, char why[WHY_ROOM])
-{
-    bool standard = strcmp(path, "-") == 0;
-    FILE *file = standard ? stdin : fopen(path, "rb");
-    if (file == NULL) {
-        enum settings_answer answer = errno == ENOENT ? SETTINGS_MISSING : SETTINGS_BAD;
-        refuse(why, "%s", strerror(errno));
-        return answer;
-    }
-    errno = 0;
-    *length = fread(bytes, 1, FILE_MOST + 1, file);
-    bool failed = ferror(file) != 0;
-    if (failed)
-        refuse(why, "it cannot be read: %s", strerror(errno));
-    if (!standard)
-        fclose(file);
-    if (!failed && *length > FILE_MOST)
-        failed = !refuse(why, "no settings: it has more than %d bytes", FILE_MOST);
-    return failed ? SETTINGS_BAD : SETTINGS_READ;
-}
-
 static bool read_bytes(const uint8_t *bytes, size_t length, struct settings *settings, char why[WHY_ROOM])
 {
     struct ollskuvan_settings s = ollskuvan_read_store(bytes, length, settings->events, OLLSKUVAN_EVENTS_MAX);
@@ -231,18 +204,14 @@ static bool read_bytes(const uint8_t *bytes, size_t length, struct settings *set
 
 enum settings_answer settings_load(const char *path, struct settings *settings, char why[WHY_ROOM])
 {
-    size_t length = 0;
-    uint8_t *bytes = malloc(FILE_MOST + 1);
+    struct file file;
     memset(settings, 0, sizeof *settings);
-    if (bytes == NULL) {
-        refuse(why, "out of memory");
-        return SETTINGS_BAD;
-    }
-    enum settings_answer answer = read_file(path, bytes, &length, why);
-    if (answer == SETTINGS_READ && !read_bytes(bytes, length, settings, why))
-        answer = SETTINGS_BAD;
-    free(bytes);
-    return answer;
+    if (!file_read(&file, path, FILE_MOST + 1, why))
+        return file.missing ? SETTINGS_MISSING : SETTINGS_BAD;
+    bool read = file.length <= FILE_MOST ? read_bytes(file.bytes, file.length, settings, why)
+        : refuse(why, "no settings: it has more than %d bytes", FILE_MOST);
+    free(file.bytes);
+    return read ? SETTINGS_READ : SETTINGS_BAD;
 }
 
 bool settings_equal(const struct settings *one, const struct settings *other)
@@ -253,90 +222,14 @@ bool settings_equal(const struct settings *one, const struct settings *other)
 
 /* ---- writing ---- */
 
-static bool write_all(int fd, const uint8_t *bytes, size_t length)
-{
-    while (length > 0) {
-        ssize_t written = write(fd, bytes, length);
-        if (written < 0 && errno == EINTR)
-            continue;
-        if (written <= 0)
-            return false;
-        bytes += written;
-        length -= (size_t)written;
-    }
-    return true;
-}
-
-/* The folder's own entry is on the disk too. */
-static bool sync_folder(const char *path)
-{
-    char folder[PATH_ROOM];
-    snprintf(folder, sizeof folder, "%s", path);
-    int fd = open(dirname(folder), O_RDONLY | O_DIRECTORY | O_CLOEXEC);
-    if (fd < 0)
-        return false;
-    bool done = fsync(fd) == 0 || errno == EINVAL; /* a file system that has nothing to sync says EINVAL */
-    int error = errno;
-    close(fd);
-    errno = error;
-    return done;
-}
-
-/* Where the store stands: behind a link, the file that the link names. Only a file may be replaced. */
-static bool find_place(const char *path, char place[PATH_ROOM], mode_t *mode, char why[WHY_ROOM])
-{
-    struct stat there;
-    char *real = realpath(path, NULL);
-    bool fits = strlen(real != NULL ? real : path) < PATH_ROOM - sizeof ".new-XXXXXX";
-    if (fits)
-        strcpy(place, real != NULL ? real : path);
-    free(real);
-    if (!fits)
-        return refuse(why, "%s", strerror(ENAMETOOLONG));
-    mode_t mask = umask(0);
-    umask(mask);
-    *mode = 0666 & ~mask;
-    if (stat(place, &there) != 0)
-        return errno == ENOENT || refuse(why, "%s", strerror(errno));
-    *mode = there.st_mode & 0777;
-    return S_ISREG(there.st_mode) || refuse(why, "it is no file, and is not replaced");
-}
-
-/* All of it is on the disk before the name is changed. */
-static bool write_new(const char *new, int fd, mode_t mode, const uint8_t *bytes, size_t length, const char *place, char why[WHY_ROOM])
-{
-    bool written = fchmod(fd, mode) == 0 && write_all(fd, bytes, length) && fsync(fd) == 0;
-    int error = errno;
-    if (close(fd) != 0 && written) {
-        written = false;
-        error = errno;
-    }
-    if (!written)
-        return refuse(why, "it cannot be written: %s; what was there is kept", strerror(error));
-    if (rename(new, place) != 0)
-        return refuse(why, "it cannot be replaced: %s; what was there is kept", strerror(errno));
-    return true;
-}
-
 bool settings_save(const char *path, const struct settings *settings, char why[WHY_ROOM])
 {
     static uint8_t bytes[OLLSKUVAN_STORE_BYTES(OLLSKUVAN_EVENTS_MAX)];
-    char place[PATH_ROOM], new[PATH_ROOM];
-    mode_t mode = 0;
     struct ollskuvan_stored stored = ollskuvan_write_store(settings->events, settings->count, settings->ring_length,
         settings->edition, settings->budget, bytes, sizeof bytes);
     if (stored.answer != OLLSKUVAN_OK)
         return refuse(why, "these settings cannot be kept: %" PRIu32 ", %s", stored.answer, ollskuvan_refusal_text(stored.answer));
-    if (!find_place(path, place, &mode, why))
-        return false;
-    memcpy(new, place, strlen(place) + 1);
-    strcat(new, ".new-XXXXXX");
-    int fd = mkstemp(new);
-    if (fd < 0)
-        return refuse(why, "no new file beside it: %s", strerror(errno));
-    if (!write_new(new, fd, mode, bytes, (size_t)stored.bytes, place, why)) {
-        unlink(new);
-        return false;
-    }
-    return sync_folder(place) || refuse(why, "it was replaced, but its folder is not known to be on the disk: %s", strerror(errno));
+    if (file_is_other(path))
+        return refuse(why, "it is no file, and is not replaced");
+    return file_replace(path, bytes, (size_t)stored.bytes, why);
 }

@@ -105,6 +105,7 @@ struct source {
     bool round;           /* backward: what came before its first record is not there */
     uint32_t stop;        /* of the drain that did not reach the head, else of the last one; backward: of the walk */
     uint64_t stop_tail;
+    uint32_t last_stop;   /* of the last story_take */
     bool full;            /* what came after its last record is not known */
     bool whole_cpu;       /* its switches are those of a cpu, not of a thread */
     bool cut;             /* more records than are kept */

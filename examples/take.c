@@ -333,6 +333,7 @@ uint64_t story_take(struct story *story, unsigned number, const uint8_t *ring, u
     for (;;) {
         struct ollskuvan_one one = read_one(&r, source, ring, head, tail);
         if (one.size == 0) {
+            source->last_stop = one.stop;
             if (source->stop == OLLSKUVAN_STOP_NOTHING) { /* the first fault is kept, also when a live ring goes on */
                 source->stop = one.stop;
                 source->stop_tail = tail;

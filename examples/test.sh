@@ -195,6 +195,7 @@ refuses 1 'no record tells of a thread nobody' late --watch nobody examples/ring
 refuses 1 'no record tells of a thread 4294967295' late --watch 4294967295 examples/rings/kiln-cpu1.img
 refuses 1 'no file of names' late --names examples/rings/kiln-cpu0.img "${kiln[@]}"
 refuses 1 'No such file' late --names "$out/none.list" "${kiln[@]}"
+refuses 1 'it cannot be read: Is a directory' late --names "$out" "${kiln[@]}"
 refuses 1 'No such file' late --svg "$out/none/kiln.svg" "${kiln[@]}"
 refuses 2 'usage: late ' late --nonsense
 refuses 2 'usage: late ' late
@@ -224,6 +225,9 @@ for list in '' faults page-faults, page-faults,page-faults 'page-faults cpu-cloc
   refuses 2 '--events: some of cpu-clock, page-faults, context-switches and cpu-migrations are wanted' controller --events "$list"
 done
 refuses 2 '--clock and --events cpu-clock are the same counter' controller --clock --events page-faults,cpu-clock
+refuses 2 'RECORDS: a number from 1' make_rings --many x 5 "$out/none"
+refuses 2 'LOST: a number from 0' make_rings --many 10 -5 "$out/none"
+refuses 2 'RECORDS: a number from 1' load_test 0
 refuses 1 'No such file' controller --save "$out/none/saved"
 # a store that is none is named with its number and place, and left as it is
 printf '\010\000\000\000\001\000\001\000\007' >"$out/broken.store" && cp "$out/broken.store" "$out/broken.kept"
@@ -232,6 +236,10 @@ cmp -s "$out/broken.store" "$out/broken.kept" || wrong "controller --settings wr
 refuses 1 'Is a directory' controller --settings "$out"
 refuses 2 "--settings: a file is wanted, not '-'" controller --settings -
 refuses 1 'No such file' controller --flight "$out/none/saved"
+long=$(printf '%600s' '' | tr ' ' x)
+refuses 1 '--save: the name is too long' controller --save "$long"
+refuses 1 '--flight: the name is too long' controller --flight "$long"
+refuses 1 'Is a directory' late --svg "$out" "${kiln[@]}"
 refuses 2 'one of --save and --flight is wanted, once' controller --save "$out/a" --flight "$out/b"
 refuses 2 'one of --save and --flight is wanted, once' controller --flight "$out/a" --flight "$out/b"
 refuses 2 '--late goes with --flight' controller --late 5
@@ -257,6 +265,29 @@ unwritten closed "$late" --short "${kiln[@]}"
 unwritten /dev/full "$late" --help
 unwritten /dev/full "$programs/controller" --help
 unwritten /dev/null "$late" --svg /dev/full "${kiln[@]}"
+# a call that fails loses nothing that was there, and leaves nothing beside it
+keeps() { # FILE STATUS COMMAND..
+  local file=$1 status=$2 said
+  shift 2
+  echo old >"$file"
+  "$@" >/dev/null 2>"$out/kept.err" </dev/null
+  said=$?
+  [ $said -eq "$status" ] || wrong "$*: status $said, not $status: $(head -n 1 "$out/kept.err")"
+  [ "$(cat "$file")" = old ] || wrong "$*: $file is lost"
+  [ -z "$(find "$(dirname "$file")" -name '*.new-*')" ] || wrong "$*: leaves a file behind"
+  bad=$((bad + 1))
+}
+no_room() { (trap '' XFSZ; ulimit -f 0; exec "$@" 2>/dev/null); } # no byte can be written to a file
+mkdir -p "$out/keep"
+keeps "$out/keep/kiln.svg" 1 "$late" --svg "$out/keep/kiln.svg" "$out/none.img"
+keeps "$out/keep/kiln.svg" 1 "$late" --svg "$out/keep/kiln.svg" --watch nobody "${kiln[@]}"
+keeps "$out/keep/kiln.svg" 1 no_room "$late" --svg "$out/keep/kiln.svg" "${kiln[@]}"
+keeps "$out/keep/ring-cpu0.img" 1 no_room "$programs/make_rings" --many 1000 5 "$out/keep/ring"
+rm "$out/keep/ring-cpu0.img"
+no_room "$programs/make_rings" --many 1000 5 "$out/keep/ring"
+[ ! -e "$out/keep/ring-cpu0.img" ] || wrong "half an image is left where it could not be written"
+keeps "$out/keep/firing-names.txt" 2 "$programs/controller" --cpu 7777 --save "$out/keep/firing"
+keeps "$out/keep/firing-names.txt" 2 "$programs/controller" --cpu 7777 --flight "$out/keep/firing"
 "$late" --svg "$out/closed.svg" "${kiln[@]}" >&- 2>/dev/null
 head -c 4 "$out/closed.svg" | grep -q '<svg' || wrong "with standard output closed the report goes into the picture"
 

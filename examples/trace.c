@@ -5,13 +5,13 @@
 
 #include "bytes.h"
 #include "events.h"
+#include "why.h"
 
 enum { ENTRY_HEAD = 6, RECORD_HEAD = 8 };
 
-static bool refuse(char why[WHY_ROOM], const char *what)
+static bool refuse_error(char why[WHY_ROOM], const char *what)
 {
-    snprintf(why, WHY_ROOM, "%s: %s", what, strerror(errno));
-    return false;
+    return refuse(why, "%s: %s", what, strerror(errno));
 }
 
 bool trace_begin(struct trace *t, const char *path, const struct perf_ring *ring, char why[WHY_ROOM])
@@ -20,16 +20,16 @@ bool trace_begin(struct trace *t, const char *path, const struct perf_ring *ring
     *t = (struct trace){ .start = perf_ring_tail(ring), .seen = perf_ring_tail(ring) };
     if (snprintf(t->path, sizeof t->path, "%s", path) >= (int)sizeof t->path - (int)sizeof ".journal") {
         errno = ENAMETOOLONG;
-        return refuse(why, "the trace");
+        return refuse_error(why, "the trace");
     }
     if (!event_table_save(&ring->table, path, why))
         return false;
     t->file = fopen(path, "wb");
     if (t->file == NULL)
-        return refuse(why, "the trace");
+        return refuse_error(why, "the trace");
     snprintf(beside, sizeof beside, "%.*s.journal", TRACE_PATH_ROOM - 16, path);
     t->journal = fopen(beside, "w");
-    return t->journal != NULL || refuse(why, "its journal");
+    return t->journal != NULL || refuse_error(why, "its journal");
 }
 
 /* ---- entries ---- */
@@ -100,11 +100,13 @@ static bool close_file(FILE **file, char why[WHY_ROOM], const char *what)
 {
     if (*file == NULL)
         return true;
+    bool failed = ferror(*file) != 0; /* some earlier writing did, and why is not known any more */
     errno = 0;
-    bool failed = ferror(*file) != 0;
     bool closed = fclose(*file) == 0;
     *file = NULL;
-    return (closed && !failed) || refuse(why, what);
+    if (closed && !failed)
+        return true;
+    return errno != 0 ? refuse_error(why, what) : refuse(why, "%s: it cannot be written", what);
 }
 
 bool trace_close(struct trace *t, char why[WHY_ROOM])

@@ -961,10 +961,12 @@ struct ollskuvan_replayed {
  *   53: it offers fewer than 8 bytes, or a record whose size is below 8, no
  *     multiple of 8, or not the length of what is offered.
  *
- * Afterwards: the records offered that went in lie where they were put in the
- * ring; the scratch begins with the record that was copied last, if one was; the
- * journal's first 16 * taken bytes are the entries. All other bytes of rooms and
- * journal are unchanged. What the ring held before shows in nothing that is told.
+ * A record that goes in is put at head's place, round the ring's end, and changes
+ * no other byte of the ring; a drain changes none. Afterwards: the records held
+ * lie where they were put; the scratch begins with the record that was copied
+ * last, if one was; the journal's first 16 * taken bytes are the entries. Bytes
+ * of ring, scratch and journal that nothing was put over are unchanged. What the
+ * ring held before shows in nothing that is told.
  */
 struct ollskuvan_replayed ollskuvan_replay(const uint8_t *trace, size_t trace_len, uint64_t start,
     const struct ollskuvan_event *events, size_t event_count, uint32_t edition, uint8_t *rooms, size_t rooms_len,

@@ -4,8 +4,6 @@
  * byte short, buffers one byte short, values one word short, tables of 0, 32 and 33
  * events, traces that end in the middle, backward rings that have gone round and that have not, streams with holes.
  *
- * With WITHOUT_VALUES defined, ollskuvan_read, ollskuvan_read_one and ollskuvan_write are left out.
- *
  * Every slice is its own block of the heap, of exactly its length, so that
  * valgrind sees any byte read or written outside it.
  */
@@ -586,7 +584,6 @@ static uint64_t answers(const uint8_t *journal, uint64_t taken)
     return all;
 }
 
-#ifndef WITHOUT_VALUES
 /* The flag's word, read and written: 43 where it is not 0. */
 static void test_dirty_values(void)
 {
@@ -997,7 +994,6 @@ static void test_read_one_events(void)
     free(one_scratch);
     free(one_words);
 }
-#endif
 
 static void test_drain_events(void)
 {
@@ -1502,7 +1498,6 @@ static void test_walk_round(void)
     lay_at(ring, head + 56, SWITCH, 8);
     WALKED(walk(ring, 64, head, 4, scratch, 24, journal, 64), 4, 64, OLLSKUVAN_STOP_NOTHING);
     WALKED(walk(ring, 64, head, 3, scratch, 24, journal, 64), 3, 56, OLLSKUVAN_STOP_BUDGET);
-#ifndef WITHOUT_VALUES
     /* from an entry to its record: the head is as far as the walk came */
     {
         uint64_t fields[OLLSKUVAN_FIELDS];
@@ -1513,7 +1508,6 @@ static void test_walk_round(void)
         IS(fields[OLLSKUVAN_TYPE], OLLSKUVAN_TYPE_COMM);
         IS(fields[OLLSKUVAN_COMM_NAME_COUNT], 4);
     }
-#endif
     free(ring);
     free(journal);
     free(scratch);
@@ -1940,7 +1934,6 @@ static void test_stores(void)
     free(rows);
 }
 
-#ifndef WITHOUT_VALUES
 /* The reader with a table: as record check but for 44, and 40 with the number all the same. */
 static void test_read_events(void)
 {
@@ -1974,7 +1967,6 @@ static void test_read_events(void)
     free(record);
     free(words);
 }
-#endif
 
 int main(void)
 {
@@ -2001,7 +1993,6 @@ int main(void)
     test_walk_calls();
     test_salvage();
     test_compare();
-#ifndef WITHOUT_VALUES
     test_dirty_values();
     test_read_write();
     test_edition_4();
@@ -2009,7 +2000,6 @@ int main(void)
     test_read_one();
     test_read_one_events();
     test_read_events();
-#endif
     printf("exports from C: %d calls and bytes as due, %d not\n", passed, failed);
     return failed ? 1 : 0;
 }

@@ -4,7 +4,6 @@
 # taken from a live kernel (rings/).
 #
 #   tests/run.sh                 all of it, as the gate runs it
-#   tests/run.sh without-values  for an archive that has no ollskuvan_read and ollskuvan_write yet
 #   tests/run.sh standin         with the independent reader in the library's place: tries the tests
 #                                themselves and says nothing about the library
 #   tests/run.sh long COUNT SEED COUNT drains, COUNT with a table, COUNT walks and COUNT values with this seed, and nothing else
@@ -30,19 +29,29 @@ libraries=
 ringdump=target/bin/ringdump
 
 stop() { echo "tests/run.sh: $*" >&2; exit 1; }
+wrong() { echo "tests/run.sh: $*" >&2; exit 2; }
+number() { # WHAT NUMBER: digits, at most 19
+    case $2 in
+        '' | *[!0-9]* | ????????????????????*) wrong "$1: a number is wanted, not '$2'" ;;
+    esac
+}
 
 case $mode in
-    all | standin | without-values) ;;
+    all | standin) [ $# -le 1 ] || wrong "nothing follows '$mode' (see the head of this file)" ;;
     long)
-        [ $# -eq 3 ] || stop "use: tests/run.sh long COUNT SEED"
+        [ $# -eq 3 ] || wrong "use: tests/run.sh long COUNT SEED"
         drains=$2 values=$2 seed=$3
         ;;
     soak)
-        { [ $# -eq 2 ] || [ $# -eq 3 ]; } || stop "use: tests/run.sh soak MINUTES [SEED]"
+        { [ $# -eq 2 ] || [ $# -eq 3 ]; } || wrong "use: tests/run.sh soak MINUTES [SEED]"
         minutes=$2 seed=${3:-1}
+        number MINUTES "$minutes"
         ;;
-    *) stop "no such word: $mode (see the head of this file)" ;;
+    *) wrong "no such word: $mode (see the head of this file)" ;;
 esac
+number "DRAINS or COUNT" "$drains"
+number "VALUES or COUNT" "$values"
+number SEED "$seed"
 command -v "$rustc" >/dev/null || stop "$rustc is missing: the independent reader is written in Rust"
 command -v "$cc" >/dev/null || stop "$cc is missing: the exports are called from C"
 mkdir -p "$out"
@@ -75,20 +84,8 @@ case $mode in
     *)
         [ -f "$archive" ] || stop "$archive is missing: run 'make lib' first"
         [ $mode = long ] || [ -x "$ringdump" ] || stop "$ringdump is missing: run 'rt check ringdump' first"
-        without= undefined=
-        if [ $mode = soak ] && ! nm "$archive" 2>/dev/null | grep -q ' T ollskuvan_read$'; then
-            echo "== the archive has no read and write: they are left out"
-            without="--cfg without_values"
-        fi
-        if [ $mode = without-values ]; then
-            without="--cfg without_values"
-            undefined=-DWITHOUT_VALUES
-        fi
-        # shellcheck disable=SC2086
-        part "build the independent reader" \
-            rust $without -C link-arg="$archive" -o "$out/reader" tests/reader/main.rs
-        # shellcheck disable=SC2086
-        [ $mode = soak ] || part "build the calls from C" c $undefined -o "$out/exports" tests/exports.c "$archive"
+        part "build the independent reader" rust -C link-arg="$archive" -o "$out/reader" tests/reader/main.rs
+        [ $mode = soak ] || part "build the calls from C" c -o "$out/exports" tests/exports.c "$archive"
         ;;
 esac
 
@@ -117,13 +114,11 @@ elif command -v valgrind >/dev/null; then
 else
     echo "== valgrind is missing: the calls from C ran without it"
 fi
-if [ $mode != without-values ]; then
-    # shellcheck disable=SC2086
-    part "build the test of the header's names" c -Iinclude -o "$out/names" tests/names.c "$archive" $libraries
-    part "every constant of the header, by its name" "$out/names"
-    # shellcheck disable=SC2086
-    part "constants swapped in the header are seen" tests/swaps.sh "$archive" $libraries
-fi
+# shellcheck disable=SC2086
+part "build the test of the header's names" c -Iinclude -o "$out/names" tests/names.c "$archive" $libraries
+part "every constant of the header, by its name" "$out/names"
+# shellcheck disable=SC2086
+part "constants swapped in the header are seen" tests/swaps.sh "$archive" $libraries
 part "drains, checks and name copies: $drains cases, seed $seed" \
     "$out/reader" drains --count "$drains" --seed "$seed"
 part "tables of events: $((drains / 2)) drains and their records, seed $seed" \
@@ -150,13 +145,11 @@ part "what misc means" "$out/reader" meanings --count "$values" --seed "$seed"
 part "real rings" "$out/reader" rings rings
 part "real rings of several events" "$out/reader" table-rings rings/events --seed "$seed"
 part "real backward rings" "$out/reader" back-rings rings/backward --seed "$seed"
-if [ $mode != without-values ]; then
-    part "each sample bit, read format, type and trailer bit" "$out/reader" bits
-    part "values: $values records, seed $seed" "$out/reader" values --count "$values" --seed "$seed"
-    # each ring is lent anew for each of its records
-    part "the reader of one record: $((values / 5)) rings, seed $seed" \
-        "$out/reader" ones --count $((values / 5)) --seed "$seed"
-fi
+part "each sample bit, read format, type and trailer bit" "$out/reader" bits
+part "values: $values records, seed $seed" "$out/reader" values --count "$values" --seed "$seed"
+# each ring is lent anew for each of its records
+part "the reader of one record: $((values / 5)) rings, seed $seed" \
+    "$out/reader" ones --count $((values / 5)) --seed "$seed"
 # shellcheck disable=SC2086
 part "what ringdump prints" "$out/reader" images $ringdump --rings rings --folder "$out" --seed "$seed" --count 400
 part "damaged real rings: 5000 cases, seed $seed" "$out/reader" damaged --rings rings --seed "$seed" --count 5000

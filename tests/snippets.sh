@@ -57,7 +57,7 @@ look() { # PAGE FOLDER
 # a busy machine may fill the ring with its own records once: what errs errs every time
 live() { timeout 60 $out/program live $out; }
 
-# each of these must be seen: a C block that is missing, a line of an output that differs, a call that is wrong, a number that is
+# each of these must be seen: a C block that is missing, a line of an output that differs, a wrong call, a wrong number of an answer
 planted=0
 bites() { # WHAT: the page was broken in this way
   cmp -s $page $out/teeth/page.md && wrong "nothing was planted: $1"
@@ -127,6 +127,13 @@ PLANTS
   echo "snippets: $planted broken pages, each seen"
 }
 
+usage() { echo "snippets: $* (see the head of tests/snippets.sh)" >&2; exit 2; }
+[ $# -le 1 ] || usage 'one word at most'
+case ${1:-} in
+--teeth) ;;
+-*) usage "no such word: $1" ;;
+?*) [ -f "$1" ] || usage "no such page: $1" ;;
+esac
 [ -f $archive ] || wrong "$archive is missing: run 'make lib' first"
 case ${1:-} in
 --teeth) teeth ;;

@@ -7,6 +7,7 @@
 #include <stdlib.h>
 #include <string.h>
 
+#include "arguments.h"
 #include "bytes.h"
 #include "command.h"
 #include "flight.h"
@@ -64,27 +65,46 @@ static bool add_event(struct event_table *table, const struct ollskuvan_event *e
     return true;
 }
 
-/* Without a table every identifier of the ring's records stands for an event with the image's own attributes. */
-static bool add_identifiers(struct event_table *table, const struct image *image)
+/* Where a table has it: the first word after the header in a SAMPLE, the last word in any other record, refused or not.
+ * False: the record is too short for one. */
+static bool identifier_of(const struct image *image, uint64_t tail, uint64_t *identifier)
+{
+    uint64_t fields[OLLSKUVAN_FIELDS];
+    const uint8_t *record;
+    uint64_t size = image_read_one(image, tail, fields, &record).size;
+    if (size < 16)
+        return false;
+    *identifier = little(record + (little(record, 4) == OLLSKUVAN_TYPE_SAMPLE ? 8 : size - 8), 8);
+    return true;
+}
+
+/* What is no record of this event may hold any word there: it gets the attributes of its image if no event has it and
+ * there is room, so that it is answered as without a table. */
+static void add_refused(struct event_table *table, const struct ollskuvan_event *event)
+{
+    if (ollskuvan_find_event(table->events, table->count, event->identifier) == table->count &&
+        table->count < OLLSKUVAN_EVENTS_MAX)
+        table->events[table->count++] = *event;
+}
+
+/* Without a table every identifier of the ring's records, those that are accepted or those that are refused, stands
+ * for an event with the image's own attributes. */
+static bool add_identifiers(struct event_table *table, const struct image *image, bool refused)
 {
     struct ollskuvan_event event = { 0, image->sample_type, image->read_format, image->user_mask, image->interrupt_mask,
         image->branch_sample_type, image->sample_id_all };
     struct ollskuvan_drained done;
-    if ((event.sample_type & OLLSKUVAN_BIT_IDENTIFIER) == 0 || event.sample_id_all == 0) {
-        complain("%s: there is no table of events beside it, and its records carry no identifier", image->name);
-        return false;
-    }
     uint8_t *journal = image_drain(image, &done);
     bool added = journal != NULL;
     for (uint64_t i = 0; added && i < done.taken; i++) {
-        const uint8_t *entry = journal + i * OLLSKUVAN_JOURNAL_ENTRY, *record;
-        uint64_t fields[OLLSKUVAN_FIELDS];
-        if (little(entry + OLLSKUVAN_JOURNAL_ANSWER, 2) != OLLSKUVAN_OK)
+        const uint8_t *entry = journal + i * OLLSKUVAN_JOURNAL_ENTRY;
+        if ((little(entry + OLLSKUVAN_JOURNAL_ANSWER, 2) != OLLSKUVAN_OK) != refused ||
+            !identifier_of(image, little(entry + OLLSKUVAN_JOURNAL_TAIL, 8), &event.identifier))
             continue;
-        image_read_one(image, little(entry + OLLSKUVAN_JOURNAL_TAIL, 8), fields, &record);
-        event.identifier = fields[fields[OLLSKUVAN_TYPE] == OLLSKUVAN_TYPE_SAMPLE ? OLLSKUVAN_SAMPLE_IDENTIFIER
-            : OLLSKUVAN_TRAILER_IDENTIFIER];
-        added = add_event(table, &event, image->name);
+        if (refused)
+            add_refused(table, &event);
+        else
+            added = add_event(table, &event, image->name);
     }
     free(journal);
     return added;
@@ -93,9 +113,31 @@ static bool add_identifiers(struct event_table *table, const struct image *image
 static bool add_side(struct event_table *table, const struct image *image)
 {
     if (image->table.count == 0)
-        return add_identifiers(table, image);
+        return add_identifiers(table, image, false);
     for (size_t i = 0; i < image->table.count; i++)
         if (!add_event(table, &image->table.events[i], image->name))
+            return false;
+    return true;
+}
+
+/* False: there is no table, and no identifier that could stand for one, which was said. */
+static bool has_events(const struct image *image)
+{
+    if (image->table.count != 0 || ((image->sample_type & OLLSKUVAN_BIT_IDENTIFIER) != 0 && image->sample_id_all != 0))
+        return true;
+    complain("%s: there is no table of events beside it, and its records carry no identifier", image->name);
+    return false;
+}
+
+/* The events of both sides first, then what only refused records have: it takes no event's place. */
+static bool add_both(struct event_table *table)
+{
+    const struct image *sides[] = { &left.image, &right.image };
+    for (int i = 0; i < 2; i++)
+        if (!has_events(sides[i]) || !add_side(table, sides[i]))
+            return false;
+    for (int i = 0; i < 2; i++)
+        if (sides[i]->table.count == 0 && !add_identifiers(table, sides[i], true))
             return false;
     return true;
 }
@@ -108,19 +150,19 @@ static void add_any(struct event_table *table)
         table->events[table->count++] = any;
 }
 
-static bool one_for_both(const char *edition)
+static bool one_for_both(uint32_t edition)
 {
     static struct event_table table;
-    if (edition == NULL && left.image.edition != right.image.edition) {
+    if (edition == 0 && left.image.edition != right.image.edition) {
         complain("%s has edition %" PRIu32 " and %s edition %" PRIu32 ": --edition N compares both under one",
             left.image.name, left.image.edition, right.image.name, right.image.edition);
         return false;
     }
-    if (!add_side(&table, &left.image) || !add_side(&table, &right.image))
+    if (edition != 0) /* what is accepted, and so what brings its event, depends on it */
+        left.image.edition = right.image.edition = edition;
+    if (!add_both(&table))
         return false;
     add_any(&table);
-    if (edition != NULL)
-        left.image.edition = right.image.edition = (uint32_t)(edition[0] - '0');
     left.image.table = right.image.table = table;
     return true;
 }
@@ -136,13 +178,6 @@ static void take(struct side *side, uint64_t number)
         tail = image_read_one(&side->image, tail, side->fields, &record).tail;
     side->one = image_read_one(&side->image, tail, side->fields, &record);
     memcpy(side->record, record, (size_t)side->one.size);
-}
-
-static struct value value_of(const struct side *side, struct image *of)
-{
-    *of = image_of_event(&side->image, side->fields);
-    const struct value value = { of, side->record, side->fields, false };
-    return value;
 }
 
 /* Small numbers are the same in both forms. */
@@ -179,8 +214,7 @@ static void print_runs(const uint8_t *a, uint64_t a_count, const uint8_t *b, uin
 
 static void print_list(const struct ollskuvan_word *row)
 {
-    struct image of;
-    const struct value value = value_of(&left, &of);
+    const struct value value = { record_attributes(&left.image, left.fields), left.record, left.fields, false };
     const uint8_t *a = left.record + left.fields[row->word], *b = right.record + right.fields[row->word];
     uint64_t a_count = left.fields[row->count], b_count = right.fields[row->count];
     if (row->form == OLLSKUVAN_FORM_NAME) {
@@ -277,7 +311,7 @@ static bool side_read(struct side *side, const char *path)
     return false;
 }
 
-static int compare(const char *edition)
+static int compare(uint32_t edition)
 {
     if (!one_for_both(edition))
         return TROUBLE;
@@ -288,22 +322,15 @@ static int compare(const char *edition)
     return tell(&told);
 }
 
-static bool edition_is_known(const char *text)
-{
-    if (text == NULL || (text[0] >= '1' && text[0] <= '4' && text[1] == '\0'))
-        return true;
-    complain("--edition: a number from 1 to 4 is wanted, not '%s'", text);
-    return false;
-}
-
 int compare_command(int argc, char **argv)
 {
-    const char *edition = NULL;
+    const char *given = NULL;
+    uint32_t edition = 0; /* that of both images */
     int status;
-    if (!take_option(&argc, argv, "--edition", &edition, takes.usage, &status) ||
+    if (!take_option(&argc, argv, "--edition", &given, takes.usage, &status) ||
         take_words(argc, argv, &takes, &status) < 0)
         return status == STATUS_DONE ? ALIKE : TROUBLE;
-    if (!edition_is_known(edition))
+    if (given != NULL && !edition_argument(given, &edition))
         return TROUBLE;
     status = side_read(&left, argv[1]) && side_read(&right, argv[2]) ? compare(edition) : TROUBLE;
     image_free(&left.image);

@@ -60,8 +60,7 @@ static bool print_record(const struct image *image, uint64_t number, uint64_t ta
     struct ollskuvan_one one = image_read_one(image, tail, fields, &record);
     print_header(number, tail, record, (size_t)one.size);
     if (one.answer == OLLSKUVAN_OK) {
-        const struct image of = image_of_event(image, fields);
-        const struct value value = { &of, record, fields, all };
+        const struct value value = { record_attributes(image, fields), record, fields, all };
         show_fields(&value);
         return true;
     }
@@ -105,8 +104,7 @@ static int flight_end(const struct image *image, const struct flight *flight)
 /* A backward ring, the oldest record first. */
 static int print_flight(const struct image *image)
 {
-    const struct ring_attributes attributes = { image->sample_type, image->read_format, image->user_mask,
-        image->interrupt_mask, image->branch_sample_type, image->sample_id_all, image->edition };
+    const struct ring_attributes attributes = image_attributes(image);
     struct flight flight = flight_walk(&attributes, &image->table, image->ring, image->length, image->head);
     struct image walked = *image;
     uint64_t refused = 0;

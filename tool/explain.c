@@ -15,8 +15,8 @@ static bool all;
 static const struct flag flags[] = { { "--all", &all }, { NULL, NULL } };
 static const struct takes takes = {
     "usage: ollskuvan explain NUMBER.. | --all\n"
-    "Says in words why a drain stopped, what a record was answered, or why a record, a name or a value was\n"
-    "refused.\n"
+    "Says in words why a call stopped, what a record was answered, or why a record, a name, a value, a table\n"
+    "of events, a store of settings, a trace or a salvage was refused.\n"
     "  --all   every number that is used\n",
     flags, 0, 99,
 };
@@ -79,11 +79,11 @@ static const struct {
     { OLLSKUVAN_DIRTY_NAME,
         "Of record check alone, in place of 0: the record is sound, and a byte after its name's zero, before the\n"
         "    trailer or the record's end, is not zero. A drain and the readers answer 0." },
-    { OLLSKUVAN_REFUSED_VERSION, "This build reads versions 1 and 2. A newer program wrote the store." },
+    { OLLSKUVAN_REFUSED_VERSION, "This build reads versions 1 and 2. A newer program wrote the store, or it is damaged." },
     { OLLSKUVAN_REFUSED_ENTRY,
-        "The store is damaged: a length is below 6, passes the end or is not that of its kind, or the last\n"
-        "    entry, which has the ring's length, is missing. In a trace: the same of an entry; kind 16 offers a\n"
-        "    record, and kind 17, of length 10, drains." },
+        "A length is below 6, passes the end or is not that of its kind, or the last entry, which has the\n"
+        "    ring's length, is missing: a store that is damaged, or no store. In a trace: the same of an entry;\n"
+        "    kind 16 offers a record, and kind 17, of length 10, drains." },
     { OLLSKUVAN_REFUSED_DEPARTURE,
         "A kind or an index out of turn; a ring length that is no power of two from 64 to 1,048,576; or an\n"
         "    edition that this build does not know. In a trace: an entry of a store. The replay ends before it." },

@@ -1,35 +1,16 @@
 #include "image.h"
 
-#include <errno.h>
 #include <inttypes.h>
 #include <stdio.h>
 #include <stdlib.h>
 #include <string.h>
 
 #include "command.h"
+#include "file.h"
 #include "messages.h"
 #include "ring_image.h"
 
-enum { MOST = IMAGE_HEADER + OLLSKUVAN_RING_MAX + IMAGE_BRANCH };
-
 /* ---- reading ---- */
-
-/* One byte more than the longest image, so that a longer input is seen. */
-static bool read_bytes(struct image *image, FILE *file)
-{
-    image->bytes = malloc(MOST + 1);
-    if (image->bytes == NULL) {
-        complain("%s: no memory", image->name);
-        return false;
-    }
-    errno = 0;
-    image->present = fread(image->bytes, 1, MOST + 1, file);
-    if (!ferror(file))
-        return true;
-    complain("%s: %s", image->name, errno != 0 ? strerror(errno) : "it cannot be read");
-    image_free(image);
-    return false;
-}
 
 static void split(struct image *image)
 {
@@ -50,32 +31,23 @@ static void split(struct image *image)
     image->length = of.length;
 }
 
-static bool read_table(struct image *image, const char *path)
+/* One byte more than the longest image, so that a longer input is seen. */
+bool image_read(struct image *image, const char *path)
 {
+    struct file file;
     char why[WHY_ROOM];
-    if (event_table_load(&image->table, path, why))
+    memset(image, 0, sizeof *image);
+    image->name = strcmp(path, "-") == 0 ? "standard input" : path;
+    bool done = file_read(&file, path, IMAGE_MOST + 1, why);
+    image->bytes = file.bytes;
+    image->present = file.length;
+    if (done && event_table_load(&image->table, path, why)) {
+        split(image);
         return true;
+    }
     complain("%s: %s", image->name, why);
     image_free(image);
     return false;
-}
-
-bool image_read(struct image *image, const char *path)
-{
-    bool standard_input = strcmp(path, "-") == 0;
-    memset(image, 0, sizeof *image);
-    image->name = standard_input ? "standard input" : path;
-    FILE *file = standard_input ? stdin : fopen(path, "rb");
-    if (file == NULL) {
-        complain("%s: %s", path, strerror(errno));
-        return false;
-    }
-    bool done = read_bytes(image, file);
-    if (!standard_input)
-        fclose(file);
-    if (done)
-        split(image);
-    return done && read_table(image, path);
 }
 
 void image_free(struct image *image)
@@ -138,7 +110,7 @@ uint8_t *image_drain(const struct image *image, struct ollskuvan_drained *done)
     size_t room = image->length / 8 * OLLSKUVAN_JOURNAL_ENTRY;
     uint8_t *journal = malloc(room + 1);
     if (journal == NULL) {
-        complain("%s: no memory", image->name);
+        complain("%s: out of memory", image->name);
         return NULL;
     }
     if (image->table.count != 0)
@@ -151,19 +123,21 @@ uint8_t *image_drain(const struct image *image, struct ollskuvan_drained *done)
     return journal;
 }
 
-struct image image_of_event(const struct image *image, const uint64_t fields[OLLSKUVAN_FIELDS])
+struct ring_attributes image_attributes(const struct image *image)
 {
-    struct image of = *image;
+    const struct ring_attributes own = { image->sample_type, image->read_format, image->user_mask, image->interrupt_mask,
+        image->branch_sample_type, image->sample_id_all, image->edition };
+    return own;
+}
+
+struct ring_attributes record_attributes(const struct image *image, const uint64_t fields[OLLSKUVAN_FIELDS])
+{
     size_t event = image->table.count != 0 ? event_of(&image->table, fields) : 0;
     if (event >= image->table.count)
-        return of;
+        return image_attributes(image);
     const struct ollskuvan_event *v = &image->table.events[event];
-    of.sample_type = v->sample_type;
-    of.read_format = v->read_format;
-    of.user_mask = v->user_mask;
-    of.interrupt_mask = v->interrupt_mask;
-    of.branch_sample_type = v->branch_sample_type;
-    of.sample_id_all = v->sample_id_all != 0;
+    const struct ring_attributes of = { v->sample_type, v->read_format, v->user_mask, v->interrupt_mask,
+        v->branch_sample_type, v->sample_id_all != 0, image->edition };
     return of;
 }
 

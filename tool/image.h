@@ -52,9 +52,12 @@ uint8_t *image_drain(const struct image *image, struct ollskuvan_drained *done);
  * Returns the exit status. */
 int image_end(const struct image *image, const struct ollskuvan_drained *done);
 
-/* The image with the attributes of the event that wrote a record, of whose value
- * the words are; without a table it is the image itself. */
-struct image image_of_event(const struct image *image, const uint64_t fields[OLLSKUVAN_FIELDS]);
+/* Its own attributes. */
+struct ring_attributes image_attributes(const struct image *image);
+
+/* Those of the event that wrote a record, of whose value the words are; without a
+ * table the image's own. */
+struct ring_attributes record_attributes(const struct image *image, const uint64_t fields[OLLSKUVAN_FIELDS]);
 
 /* The record at this tail, read. It lies in the ring, or in a scratch up to the
  * next call. */

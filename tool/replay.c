@@ -2,13 +2,12 @@
  * ollskuvan replay: plays a recorded trace over a ring of its own, and prints
  * the journal of its drains and what became of the records.
  */
-#include <ctype.h>
-#include <errno.h>
 #include <inttypes.h>
 #include <stdio.h>
 #include <stdlib.h>
 #include <string.h>
 
+#include "arguments.h"
 #include "bytes.h"
 #include "command.h"
 #include "events.h"
@@ -33,7 +32,8 @@ enum { OFFER_LEAST = 14 }; /* the bytes of the shortest entry that offers a reco
 /* What a trace is played with. */
 struct settings {
     struct event_table table;
-    uint64_t ring, start, edition;
+    uint64_t ring, start;
+    uint32_t edition;
 };
 
 /* Where they are found: the options, and the table beside the trace. */
@@ -55,6 +55,15 @@ struct trace {
     const char *path;
     struct file file;
 };
+
+static bool read_trace(struct trace *trace)
+{
+    char why[WHY_ROOM];
+    if (file_read(&trace->file, trace->path, SIZE_MAX, why))
+        return true;
+    complain("%s: %s", trace->path, why);
+    return false;
+}
 
 /* Where the entry of this number begins: those before it were played, and so are whole. */
 static size_t place_of(const struct trace *trace, uint64_t entry)
@@ -103,10 +112,10 @@ static int play(const struct trace *trace, const struct settings *s)
     uint8_t *rooms = calloc(rooms_len + 1, 1), *journal = malloc(journal_len);
     int status = STATUS_FAILED;
     if (rooms == NULL || journal == NULL) {
-        no_memory(trace->path);
+        complain("%s: out of memory", trace->path);
     } else {
         struct ollskuvan_replayed r = ollskuvan_replay(trace->file.bytes, trace->file.length, s->start, s->table.events, s->table.count,
-            (uint32_t)s->edition, rooms, rooms_len, journal, journal_len);
+            s->edition, rooms, rooms_len, journal, journal_len);
         for (uint64_t i = 0; i < r.taken && !ferror(stdout); i++)
             show_entry(journal + i * OLLSKUVAN_JOURNAL_ENTRY);
         if (!is_before_all(r.answer))
@@ -118,20 +127,13 @@ static int play(const struct trace *trace, const struct settings *s)
     return status;
 }
 
-/* Digits alone; without the option the number stays as it is. */
+/* Without the option the number stays as it is. */
 static bool take_number(const char *option, const char *text, uint64_t most, uint64_t *number)
 {
-    char *end;
-    if (text == NULL)
-        return true;
-    errno = 0;
-    unsigned long long n = strtoull(text, &end, 10);
-    if (errno == 0 && isdigit((unsigned char)*text) && *end == '\0' && n <= most) {
-        *number = n;
-        return true;
-    }
-    complain("%s: a number up to %" PRIu64 " is wanted, not '%s'", option, most, text);
-    return false;
+    unsigned long long n = *number;
+    bool taken = text == NULL || whole_argument(text, option, 0, most, &n);
+    *number = n;
+    return taken;
 }
 
 int replay_command(int argc, char **argv)
@@ -147,10 +149,10 @@ int replay_command(int argc, char **argv)
         return status;
     if (!take_number("--ring", ring, OLLSKUVAN_RING_MAX, &settings.ring) ||
         !take_number("--start", start, UINT64_MAX, &settings.start) ||
-        !take_number("--edition", edition, OLLSKUVAN_EDITION_4, &settings.edition))
+        (edition != NULL && !edition_argument(edition, &settings.edition)))
         return STATUS_USAGE;
     trace.path = argv[1];
-    status = file_read(&trace.file, trace.path) && settings_of(&settings, trace.path) ? play(&trace, &settings) : STATUS_FAILED;
+    status = read_trace(&trace) && settings_of(&settings, trace.path) ? play(&trace, &settings) : STATUS_FAILED;
     free(trace.file.bytes);
     return finished(status);
 }

@@ -8,6 +8,7 @@
 #include <stdlib.h>
 #include <string.h>
 
+#include "arguments.h"
 #include "bytes.h"
 #include "command.h"
 #include "events.h"
@@ -20,7 +21,8 @@ static const struct takes takes = {
     "usage: ollskuvan salvage IN OUT [--changes FILE] [--settings STORE] [--edition N]\n"
     "Keeps the sound records of IN, a stream of records end to end, in OUT, and prints each hole: where it\n"
     "begins in IN, and its bytes. The table of events stands beside IN: NAME.table beside NAME.img, else\n"
-    "IN.table; or in a store of settings. Nothing is overwritten: OUT and FILE must not be there yet.\n"
+    "IN.table; or in a store of settings, which it does if IN is '-', standard input. Nothing is\n"
+    "overwritten: OUT and FILE must not be there yet.\n"
     "  --changes FILE   the list of holes too, an entry of 22 bytes each\n"
     "  --settings STORE the table, and the edition unless it is named, of a store of settings\n"
     "  --edition N      what the reader knows: 1, 2, 3 or 4 (4)\n",
@@ -147,17 +149,12 @@ static void print_told(const struct salvage *s)
 
 /* ---- the command ---- */
 
-/* 0 if none is named. False: it is none, which is said. */
-static bool edition_of(uint32_t *edition, const char *text)
+static bool read_stream(struct salvage *s)
 {
-    *edition = 0;
-    if (text == NULL)
+    char why[WHY_ROOM];
+    if (file_read(&s->stream, s->in, SIZE_MAX, why))
         return true;
-    if (text[0] >= '1' && text[0] <= '4' && text[1] == '\0') {
-        *edition = (uint32_t)(text[0] - '0');
-        return true;
-    }
-    complain("--edition: a number from 1 to 4 is wanted, not '%s'", text);
+    complain("%s: %s", s->in, why);
     return false;
 }
 
@@ -167,8 +164,10 @@ static bool salvage(struct salvage *s)
     size_t room = OLLSKUVAN_CHANGE_ENTRY * (s->stream.length / 24 + 1);
     s->kept = malloc(s->stream.length + 1);
     s->list = malloc(room);
-    if (s->kept == NULL || s->list == NULL)
-        return no_memory(s->in);
+    if (s->kept == NULL || s->list == NULL) {
+        complain("%s: out of memory", s->in);
+        return false;
+    }
     s->told = ollskuvan_salvage(s->stream.bytes, s->stream.length, s->basis.events, s->basis.count, s->basis.edition,
         s->kept, s->stream.length, s->list, room);
     if (s->told.answer != OLLSKUVAN_OK)
@@ -186,11 +185,11 @@ int salvage_command(int argc, char **argv)
         !take_option(&argc, argv, "--edition", &given, takes.usage, &status) ||
         take_words(argc, argv, &takes, &status) < 0)
         return status;
-    if (!edition_of(&s.basis.edition, given))
+    if (given != NULL && !edition_argument(given, &s.basis.edition))
         return STATUS_USAGE;
     s.in = argv[1];
     s.out = argv[2];
-    bool done = file_read(&s.stream, s.in) &&
+    bool done = read_stream(&s) &&
         (s.store != NULL ? basis_of_store(&s.basis, s.store) : basis_beside(&s.basis, s.in)) && salvage(&s) && write_files(&s);
     if (done)
         print_told(&s);

@@ -92,10 +92,7 @@ static bool take_letter(struct wanted *w, int letter)
     case 'p':
         return pages_argument(optarg, &w->want.pages);
     case 'e':
-        if (!whole_argument(optarg, "--edition", OLLSKUVAN_EDITION_1, OLLSKUVAN_EDITION_4, &n))
-            return false;
-        w->want.edition = (uint32_t)n;
-        return true;
+        return edition_argument(optarg, &w->want.edition);
     case 'k':
         return w->want.clock = true;
     case 'r':

@@ -187,13 +187,13 @@ static void show_element(const struct value *value, unsigned form, uint64_t inde
         show_address(little(at, 8));
         break;
     case OLLSKUVAN_FORM_USER_REGISTERS:
-        printf("bit %u: 0x%" PRIx64, register_bit(value->image->user_mask, index), little(at, 8));
+        printf("bit %u: 0x%" PRIx64, register_bit(value->of.user_mask, index), little(at, 8));
         break;
     case OLLSKUVAN_FORM_INTERRUPT_REGISTERS:
-        printf("bit %u: 0x%" PRIx64, register_bit(value->image->interrupt_mask, index), little(at, 8));
+        printf("bit %u: 0x%" PRIx64, register_bit(value->of.interrupt_mask, index), little(at, 8));
         break;
     case OLLSKUVAN_FORM_READ_VALUES:
-        show_counter(value->image->read_format, at);
+        show_counter(value->of.read_format, at);
         break;
     case OLLSKUVAN_FORM_BRANCHES:
         printf("from 0x%" PRIx64 " to 0x%" PRIx64 " flags 0x%" PRIx64, little(at, 8), little(at + 8, 8),
@@ -212,7 +212,7 @@ uint64_t element_bytes(const struct value *value, const struct ollskuvan_word *l
     case OLLSKUVAN_FORM_DIGITS:
         return 1;
     case OLLSKUVAN_FORM_READ_VALUES:
-        return counter_bytes(value->image->read_format);
+        return counter_bytes(value->of.read_format);
     case OLLSKUVAN_FORM_BRANCHES:
         return 24;
     case OLLSKUVAN_FORM_NAMESPACES:
@@ -277,9 +277,9 @@ static void show_list(const struct value *value, const struct ollskuvan_word *li
 
 bool is_selected(const struct value *value, const struct ollskuvan_word *row)
 {
-    const struct image *image = value->image;
-    const struct ollskuvan_written written = { image->sample_type, image->read_format, image->branch_sample_type,
-        image->sample_id_all != 0, value->fields };
+    const struct ring_attributes *of = &value->of;
+    const struct ollskuvan_written written = { of->sample_type, of->read_format, of->branch_sample_type, of->sample_id_all != 0,
+        value->fields };
     return ollskuvan_word_is_present(row, &written) != 0;
 }
 
@@ -296,19 +296,19 @@ static void show_abi(uint64_t abi)
 }
 
 /* The bytes of the trailer; SAMPLE, which has none, has no name either. */
-static uint64_t trailer_bytes(const struct image *image)
+static uint64_t trailer_bytes(const struct ring_attributes *of)
 {
     uint64_t bytes = 0;
-    for (uint64_t bits = image->sample_type & OLLSKUVAN_TRAILER_BITS; bits != 0; bits &= bits - 1)
+    for (uint64_t bits = of->sample_type & OLLSKUVAN_TRAILER_BITS; bits != 0; bits &= bits - 1)
         bytes += 8;
-    return image->sample_id_all != 0 ? bytes : 0;
+    return of->sample_id_all != 0 ? bytes : 0;
 }
 
 /* A name's flag, and where it is set what stands between the name's zero and its room's end: seven bytes at most. */
 static void show_flag(const struct value *value, uint32_t word)
 {
     uint64_t zero = value->fields[word - 2] + value->fields[word - 1];
-    uint64_t end = value->fields[OLLSKUVAN_SIZE] - trailer_bytes(value->image);
+    uint64_t end = value->fields[OLLSKUVAN_SIZE] - trailer_bytes(&value->of);
     printf("%" PRIu64, value->fields[word]);
     if (value->fields[word] != 0) {
         fputs(" (stale bytes after the name's zero:", stdout);
@@ -345,7 +345,7 @@ static void show_field(const struct value *value, const struct ollskuvan_word *r
 
 static bool has_line(unsigned form)
 {
-    return form != OLLSKUVAN_FORM_HEADER && form != OLLSKUVAN_FORM_COUNT && form != OLLSKUVAN_FORM_KEPT;
+    return form != OLLSKUVAN_FORM_HEADER && form != OLLSKUVAN_FORM_COUNT;
 }
 
 void show_fields(const struct value *value)

@@ -13,7 +13,7 @@
 
 /* One record that ollskuvan_read accepted. */
 struct value {
-    const struct image *image; /* its attributes */
+    struct ring_attributes of; /* of the event that wrote it */
     const uint8_t *record;
     const uint64_t *fields;
     bool whole; /* lists are not shortened */

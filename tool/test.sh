@@ -24,12 +24,12 @@ build() { # NAME FLAGS.. FILES..: C99 with the tool's own files
   ${CC:-cc} -std=c99 -pedantic -Wall -Wextra -Werror -g -Iinclude -Iwords -Iexamples -Itool -o "$out/$name" "$@" \
     $archives || { echo "tool/test.sh: $name does not build"; exit 1; }
 }
-shared='tool/image.c tool/command.c examples/events.c examples/flight.c examples/memory.c examples/messages.c examples/text.c'
+shared='tool/image.c tool/command.c examples/events.c examples/file.c examples/flight.c examples/memory.c examples/messages.c examples/text.c'
 # what a writing of a store is made of, so that it can end or fail at each step
 steps='-Wl,--wrap=write,--wrap=fsync,--wrap=rename,--wrap=fchmod,--wrap=close'
 # shellcheck disable=SC2086
 {
-  build stores -O1 $steps tool/tests/stores.c examples/settings.c
+  build stores -O1 $steps tool/tests/stores.c examples/settings.c examples/file.c
   build values -O1 tool/tests/values.c tool/show.c $shared
   build fields -O1 tool/tests/fields.c tool/show.c $shared
   build stack -O1 -fno-optimize-sibling-calls -Wl,-z,now tool/tests/stack.c $shared
@@ -38,8 +38,12 @@ steps='-Wl,--wrap=write,--wrap=fsync,--wrap=rename,--wrap=fchmod,--wrap=close'
   [ -z "${OLLSKUVAN_EMULATED:-}" ] || sanitizers=
   build damage -O1 $sanitizers tool/tests/damage.c tool/dump.c \
     tool/journal.c tool/show.c words/ollskuvan_words.c $shared
+  # the controller's own file in the test, with what else the command is made of
+  commands=$(ls target/tool/commands/*.o | grep -v '/record_command\.o$')
+  ${CC:-cc} -std=c11 -Wall -Wextra -Werror -g -O1 -Iinclude -Iexamples -o $out/gaps tool/tests/gaps.c $commands $archives -lm ||
+    { echo "tool/test.sh: gaps does not build"; exit 1; }
   build stores-checked -O1 $sanitizers $steps tool/tests/stores.c \
-    examples/settings.c
+    examples/settings.c examples/file.c
 }
 
 # ---- the header's constants and the one table of words
@@ -463,6 +467,8 @@ if [ -x target/tests/reader ]; then
 else
   echo "settings: places not compared: target/tests/reader is not built (tests/run.sh)"
 fi
+$out/gaps >$out/gaps.txt 2>$out/gaps.err || wrong "gaps of a live ring: $(grep WRONG $out/gaps.err)"
+! grep 'stop 4' $out/gaps.txt | grep -q ' bytes$' || wrong "bytes are told at stop 4"
 $out/stores cut $stores/cut || wrong "a writing of a store that is cut short"
 
 # ---- replay: a trace by hand over a ring of 64 bytes from 2^64 - 8: across the end, full, a drop, two drains
@@ -524,7 +530,7 @@ says 1 'store: not played to its end: 52 at entry 1, byte 22: an entry that may 
 trace other '\016\0\0\0\020\0\016\0\0\0\0\0\020\0'
 says 1 'other: not played to its end: 53 at entry 0, byte 0: what is offered is no record' replay $out/replay/other
 refuses 1 "worked: not played: 1, the ring's length is not allowed" replay $out/replay/worked --ring 100
-refuses 1 'worked: not played: 2, the edition is not' replay $out/replay/worked --edition 0
+refuses 2 '--edition: a number from 1 to 4 is wanted' replay $out/replay/worked --edition 0
 refuses 1 'worked: not played: 5, head or tail is no multiple of 8' replay $out/replay/worked --start 4
 printf '7 0x10000 0 0 0 0 0\n' >$out/replay/worked.table
 refuses 1 'worked: not played: 11, the table of events is not allowed' replay $out/replay/worked
@@ -537,10 +543,11 @@ refuses 1 'Is a directory' replay rings
 refuses 2 'too few words' replay
 refuses 2 'too many words' replay a b
 refuses 2 'a value is wanted behind --ring' replay $out/replay/worked --ring
-refuses 2 '--ring: a number up to 1048576 is wanted' replay $out/replay/worked --ring 1048577
-refuses 2 '--start: a number up to 18446744073709551615 is wanted' replay $out/replay/worked --start -8
+refuses 2 '--ring: a number from 0 to 1048576 is wanted' replay $out/replay/worked --ring 1048577
+refuses 2 '--start: a number from 0 to 18446744073709551615 is wanted' replay $out/replay/worked --start -8
 refuses 2 'unknown option --budget' replay $out/replay/worked --budget 3
-refuses 2 '--trace goes with neither --save nor --report' record --trace a --save b
+refuses 2 '--trace goes with none of --save, --flight and --report' record --trace a --save b
+refuses 2 '--trace goes with none of --save, --flight and --report' record --trace a --flight b
 
 # ---- salvage: the records of the real rings of several events, end to end, whole and with holes
 straight() { # IMAGE: the bytes from its tail to its head
@@ -590,6 +597,9 @@ writes $stores/seven --image $stores/many.img
 rm -f $out/salvage/bare* && printf "$switch" >$out/salvage/bare
 [ "$($tool salvage $out/salvage/bare $out/salvage/bare.out --settings $stores/seven)" = 'kept 16 bytes, 1 record; dropped 0 bytes, 0 holes' ] ||
   wrong "salvage with the table of a store"
+[ "$($tool salvage - $out/salvage/bare.too --settings $stores/seven <$out/salvage/bare)" = 'kept 16 bytes, 1 record; dropped 0 bytes, 0 holes' ] &&
+  cmp -s $out/salvage/bare.out $out/salvage/bare.too || wrong "salvage of standard input"
+refuses 1 '-: there is no table of events beside it' salvage - $out/salvage/new
 head -c 20 $stores/seven >$stores/torn
 refuses 1 'torn: ' salvage $out/salvage/bare $out/salvage/new --settings $stores/torn
 refuses 1 'No such file' salvage $out/salvage/bare $out/salvage/new --settings $stores/none
@@ -624,16 +634,17 @@ $tool salvage --edition 1 $out/salvage/kept $out/salvage/first | grep -qx 'hole 
 mkdir -p $out/compare
 $out/fields rings/*.img rings/events/*.img $out/made/*.img >$out/fields.txt || { wrong "fields by number"; head $out/fields.txt; }
 tail -n 1 $out/fields.txt
-compares() { # STATUS LINE A B: what is printed
-  local said status
-  said=$($tool compare "$3" "$4" 2>&1)
+compares() { # STATUS LINE A B [OPTION..]: what is printed
+  local due=$1 line=$2 said status
+  shift 2
+  said=$($tool compare "$@" 2>&1)
   status=$?
-  [ "$status" -eq "$1" ] && [ "$said" = "$2" ] || wrong "compare $3 $4: exit $status, '$said' and not '$2'"
+  [ "$status" -eq "$due" ] && [ "$said" = "$line" ] || wrong "compare $*: exit $status, '$said' and not '$line'"
   tried=$((tried + 1))
 }
-# an image: head and tail in octal bytes, sample type with bit 16, edition 4, sample_id_all, then 64 bytes from stdin
-image_of() { # NAME HEAD TAIL
-  { printf "$2\\0\\0\\0\\0\\0\\0\\0$3\\0\\0\\0\\0\\0\\0\\0\\0\\0\\1\\0\\0\\0\\0\\0"; head -c 24 /dev/zero; printf '\4\1'
+# an image: head and tail in octal bytes, sample type with bit 16, the edition (4), sample_id_all, then 64 bytes from stdin
+image_of() { # NAME HEAD TAIL [EDITION]
+  { printf "$2\\0\\0\\0\\0\\0\\0\\0$3\\0\\0\\0\\0\\0\\0\\0\\0\\0\\1\\0\\0\\0\\0\\0"; head -c 24 /dev/zero; printf "\\${4:-4}\\1"
     { cat; head -c 64 /dev/zero; } | head -c 64; } >$out/compare/"$1".img
 }
 for image in rings/events/children.img rings/events/counters.img rings/tasks.img; do
@@ -671,6 +682,25 @@ compares 1 'record 0 (COMM): field 7, name, "kiln" and "oven"' $of/kiln.img $of/
 compares 1 'record 0 (COMM): field 8, name flag, 0 and 1' $of/kiln.img $of/dirty.img
 compares 2 "ollskuvan compare: $of/cut.img: stop 7 after 1 equal record: the record's size passes the head" $of/six.img $of/cut.img
 compares 2 "ollskuvan compare: $of/cut.img: stop 7 after 1 equal record: the record's size passes the head" $of/cut.img $of/six.img
+# under a newer edition than the images' own, which alone accepts their records: their identifiers stand for an event too
+newer() { printf '\025\0\0\0\0\0\030\0\'"$1"'\0\0\0\0\0\0\0\7\0\0\0\0\0\0\0'; }
+newer 5 | image_of newer '\030' '\0' 3
+newer 6 | image_of newer-too '\030' '\0' 3
+compares 1 'record 0 (AUX_OUTPUT_HW_ID): field 1, the bytes of both, refused with 20, byte 8: 05 and 06' $of/newer.img $of/newer-too.img
+compares 1 'record 0 (AUX_OUTPUT_HW_ID): field 5, hardware id, 5 and 6' $of/newer.img $of/newer-too.img --edition 4
+# records that are refused have their own numbers, as in dump, and take no event's place; too short for an identifier they have 27
+refused() { printf '\2\0\0\0\0\0\030\0\5\0\0\0\0\0\0\0\'"$1"'\0\0\0\0\0\0\0'; }
+refused 6 | image_of refused '\030' '\0'
+refused 7 | image_of refused-too '\030' '\0'
+{ refused 7; printf "$switch"; } | image_of refused-first '\050' '\0'
+printf '\2\0\0\0\0\0\010\0' | image_of no-identifier '\010' '\0'
+printf '\2\0\0\0\1\0\010\0' | image_of no-identifier-too '\010' '\0'
+$tool dump $of/refused.img | grep -q '^    refused: 30, ' || wrong "a LOST that is too short is not refused with 30"
+compares 1 'record 0 (LOST): field 1, the bytes of both, refused with 30, byte 16: 06 and 07' $of/refused.img $of/refused-too.img
+compares 1 'record 0 (LOST): field 1, the bytes of both, refused with 30, byte 16: 06 and 07' $of/refused.img $of/refused-first.img
+compares 1 'record 0 (LOST): field 1, the bytes of both, refused with 27, byte 4: 00 and 01' $of/no-identifier.img $of/no-identifier-too.img
+cp $of/refused-first.img $of/before.img && printf '7 0x10000 0 0 0 0 1\n' >$of/before.table
+compares 0 'alike: 2 records' $of/refused-first.img $of/before.img
 # tables: one that is not allowed, events that are told otherwise
 cp $of/six.img $of/table.img && printf '7 0x10000 0 0 0 0 1\n' >$of/table.table
 compares 0 'alike: 2 records' $of/table.img $of/six.img
@@ -685,8 +715,7 @@ refuses 2 'No such file' compare $of/six.img $of/none.img
 refuses 2 'no ring image' compare $out/49.img $of/six.img
 refuses 2 'a number from 1 to 4 is wanted' compare $of/six.img $of/six.img --edition 5
 refuses 2 'too few words' compare $of/six.img
-[ "$($tool compare --edition 1 $of/six.img $of/seven.img)" = \
-  'record 1 (LOST): field 1, the bytes of both, refused with 21, byte 16: 06 and 07' ] || wrong "compare --edition 1"
+compares 1 'record 1 (LOST): field 1, the bytes of both, refused with 21, byte 16: 06 and 07' --edition 1 $of/six.img $of/seven.img
 $tool compare $of/six.img $of/six.img >/dev/full 2>/dev/null
 [ $? -eq 2 ] || wrong "compare to a full device is no trouble"
 

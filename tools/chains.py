@@ -1,10 +1,13 @@
 #!/usr/bin/env python3
-"""chains.py [--check]: writes the lists of crate layouts (specs/Lists.antt) and crates sample_fills and chains (src/lib.rt and the proofs) from
-the rows of crates/table/src/rows.rt. A row becomes one call of the function of its shape, with its guard and the number of its first word; a few
+"""chains.py [--check]: writes the lists and the types of crate layouts (specs/Lists.antt, src/types.rt) and crates sample_fills and chains
+(src/lib.rt and the proofs) from the rows of crates/table/src/rows.rt. A row becomes one call of the function of its shape, with its guard and the number of its first word; a few
 calls make a function. --check writes nothing and fails where a file is not what would be written. Run from the repository's root."""
 import os
 import re
 import sys
+
+if sys.argv[1:] not in ([], ['--check']):
+    sys.exit(print(__doc__, file=sys.stderr) or 2)
 
 FEW = 6  # calls in a function, at most
 ALONE = 'sample'  # the type whose chains have a crate of their own: they take as long to prove as all the others
@@ -27,6 +30,7 @@ for line in body.splitlines():
         names[int(m.group(1))] = m.group(2)
 part = src[src.index('pub const STARTS'):]
 starts = [int(x) for x in re.findall(r'^\s+(\d+),$', part[:part.index('];')], re.M)]
+names.setdefault(14, 'SWITCH')  # the one type without a field
 TYPES, FIELD_ROWS = consts['TYPES'], consts['FIELD_ROWS']
 assert len(rows) == consts['ALL_ROWS'] and len(starts) == TYPES + 1 and starts[-1] == FIELD_ROWS
 
@@ -144,27 +148,57 @@ def crate_of(fn):
     return 'sample_fills' if alone(fn) else 'chains'
 
 
+def word(at):
+    """the number of a word as a contract spells it"""
+    return {BODY: 'bodyWords', TRAIL: 'trailWords'}.get(at, str(at))
+
+
+def kind(t):
+    """a type as an arm of a `match` spells it; 0 is none"""
+    return f'types::{names[t]}' if t else '0'
+
+
+def uses(imports, text):
+    """the lines of `use`, each with those of its names that the text has"""
+    words = set(re.split(r'[\s(){},]+', text))
+
+    def has(name):
+        return name in words or name.strip('_') in words
+    out = []
+    for line in imports:
+        m = re.match(r'((?:ghost )?use \S+)\.\{(.*)\}(;?)$', line)
+        if m:
+            kept = [name for name in m.group(2).split(', ') if has(name.split(' as ')[-1])]
+            out += [f'{m.group(1)}.{{{", ".join(kept)}}}{m.group(3)}'] if kept else []
+        elif any(w.startswith(line.split()[-1] + '.') for w in words):
+            out.append(line)
+    return ''.join(line + '\n' for line in out)
+
+
 def args(ps):
     return ''.join(f', {p}' for p in ps)
 
 
-def proof_file(fn, text, spec_args):
+IMPORTS = ['use mathlib.Core.Path.{refl, ap, ap₂}', 'use mathlib.Core.Bool.{not, _&&_, _||_}', 'use mathlib.Core.List.{_++_}',
+           'use Rattle.meaning.specs.Values.{tell, width}', 'use Rattle.layouts.specs.Lists as lists',
+           'use Rattle.fills.specs.Chains.{start, done, last, long, head, next, head₁, next₁}', 'use borrow.Author.Needs.{needs}']
+
+
+def guarded(rs):
+    return ', its guard found bit by bit,' if any(bits(r.on) for r in rs) else ''
+
+
+def proof_file(fn, why, text, spec_args):
     name, crate = fn.replace('_', '-'), crate_of(fn)
-    files[f'{crate}/proofs/{fn}/Proof.antt'] = f'''-- `{crate}::{fn}` meets its contract. Assumes nothing.
-{MADE}.
-use mathlib.Core.Path.{{refl, ap, ap₂}}
-use mathlib.Core.Bool.{{not, _&&_, _||_}}
-use mathlib.Core.List.{{_++_}}
-use Rattle.meaning.specs.Values.{{tell, width}}
-use Rattle.layouts.specs.Lists as lists
-use Rattle.fills.specs.Chains.{{start, done, last, long, head, next, head₁, next₁}}
-use borrow.Author.Needs.{{needs}}
-use Rattle.{crate}.proofs.{fn}.Statement.{{statement}}
-use Rattle.{crate}.proofs.{fn}.Tie as tie
-{text}
+    text += f'''
 pub {name}-spec : {{M : Type 1}} → statement M
 {name}-spec = tie.close (tie.spec {" ".join(spec_args)})
 '''
+    files[f'{crate}/proofs/{fn}/Proof.antt'] = f'''-- `{crate}::{fn}` meets its contract: {why}. Assumes nothing.
+{MADE}.
+{uses(IMPORTS, text)}use Rattle.{crate}.proofs.{fn}.Statement.{{statement}}
+use Rattle.{crate}.proofs.{fn}.Tie as tie
+{text}'''
 
 
 def listed(name, ps):
@@ -178,8 +212,8 @@ def signature(fn, title, ps, at, list_text):
     if len(head) > 100:  # as `rt fmt` breaks it
         head = f'{public}fn {fn}(\n    s: &[u8],\n' + ''.join(f'    {p}: u64,\n' for p in ps) + '    c: Cursor,\n    out: &mut [u64],\n) -> Cursor'
     return [f'// {title}', head,
-            f'    requires {{ ⌜ Ready {list_text} (now s) c (now out) {at} ⌝ }}',
-            f'    ensures {{ λ r. ⌜ Filling {list_text} (now (s .entry)) c (now (out .entry)) {at} (now (out .exit)) r ⌝ }}', '{']
+            f'    requires {{ ⌜ Ready {list_text} (now s) c (now out) {word(at)} ⌝ }}',
+            f'    ensures {{ λ r. ⌜ Filling {list_text} (now (s .entry)) c (now (out .entry)) {word(at)} (now (out .exit)) r ⌝ }}', '{']
 
 
 def ended(unfolded, term):
@@ -226,7 +260,8 @@ def chain(fn, title, rs):
         steps.append(('next₁', equation, where))
         ev.add('out'), ev.add('slice-known')
     text += ended('unfolding tell', f'done {going(steps, ev, ev.start())}')
-    proof_file(fn, text, spec_args + ['same-length', 'returns'])
+    why = f'each call fills the words of the next item of the list{guarded(rs)} and leaves what the item after it asks'
+    proof_file(fn, why, text, spec_args + ['same-length', 'returns'])
     code_out[crate_of(fn)] += out + ['}', '']
     return ps
 
@@ -265,7 +300,8 @@ def joined(fn, title, pieces):
         steps.append(('next' if rest else 'last', lists if rest else (lambda e: ''), where))
         ev.add('out'), ev.add('slice-known')
     text += ended('unfolding tell width', going(steps, ev, ev.start()))
-    proof_file(fn, text, spec_args + ['same-length', 'returns'])
+    why = 'the list is its parts one after the other, and each call fills the words of the next part and leaves what the part after it asks'
+    proof_file(fn, why, text, spec_args + ['same-length', 'returns'])
     code_out[crate_of(fn)] += out + ['}', '']
     return params
 
@@ -318,9 +354,9 @@ def flag_word(t):
 used = [p for p in PARAMS if p in FIELD and any(p in ps for _, ps in kinds.values())]
 code_out['chains'] += ['// The fields of a type; a type that has none, or that the table does not have, changes nothing.',
              'pub fn fields(s: &[u8], kind: u64, misc: u64, a: Attributes, c: Cursor, out: &mut [u64]) -> Cursor',
-             f'    requires {{ ⌜ Ready (schema kind misc a) (now s) c (now out) {BODY} ⌝ }}',
-             f'    ensures {{ λ r. ⌜ Filling (schema kind misc a) (now (s .entry)) c (now (out .entry)) {BODY} (now (out .exit)) r ⌝ }}', '{']
-code_out['chains'] += [f'    let {p} = a.{FIELD[p]};' for p in used] + ['    match kind {'] + [f'        {t} => {arm(t)},' for t in range(TYPES)] + ['        _ => c,', '    }', '}', '']
+             f'    requires {{ ⌜ Ready (schema kind misc a) (now s) c (now out) {word(BODY)} ⌝ }}',
+             f'    ensures {{ λ r. ⌜ Filling (schema kind misc a) (now (s .entry)) c (now (out .entry)) {word(BODY)} (now (out .exit)) r ⌝ }}', '{']
+code_out['chains'] += [f'    let {p} = a.{FIELD[p]};' for p in used] + ['    match kind {'] + [f'        {kind(t)} => {arm(t)},' for t in range(TYPES)] + ['        _ => c,', '    }', '}', '']
 calls, needs, returns, text = {}, [], [], ''
 for t in range(TYPES + 1):
     n = f'-{t + 1}' if t else ''
@@ -360,7 +396,7 @@ fields-spec = tie.close (tie.spec {" ".join(needs + returns)})
 '''
 code_out['chains'] += ["// The word of the flag, of a type that has a name: the next after the words of its fields (M-107). 0 of the other types.",
              'pub fn flag_at(kind: u64) -> usize', '    ensures { λ r. ⌜ r ≡ flagAt kind ⌝ }', '{', '    match kind {']
-code_out['chains'] += [f'        {t} => {flag_word(t)},' for t in range(TYPES)] + ['        _ => 0,', '    }', '}', '']
+code_out['chains'] += [f'        {kind(t)} => {flag_word(t)},' for t in range(TYPES)] + ['        _ => 0,', '    }', '}', '']
 text = ''
 for t in range(TYPES):
     n = f'-{t + 1}' if t else ''
@@ -380,8 +416,8 @@ flag-at-spec = tie.close (tie.spec {" ".join("returns" + (f"-{t + 1}" if t else 
 '''
 code_out['chains'] += ['// The trailer of a record of this type, the cursor at its start.',
                        'pub fn trail(s: &[u8], kind: u64, a: Attributes, c: Cursor, out: &mut [u64]) -> Cursor',
-                       f'    requires {{ ⌜ Ready (trailerOf kind a) (now s) c (now out) {TRAIL} ⌝ }}',
-                       f'    ensures {{ λ r. ⌜ Filling (trailerOf kind a) (now (s .entry)) c (now (out .entry)) {TRAIL} (now (out .exit)) r ⌝ }}', '{',
+                       f'    requires {{ ⌜ Ready (trailerOf kind a) (now s) c (now out) {word(TRAIL)} ⌝ }}',
+                       f'    ensures {{ λ r. ⌜ Filling (trailerOf kind a) (now (s .entry)) c (now (out .entry)) {word(TRAIL)} (now (out .exit)) r ⌝ }}', '{',
                        '    trailer(s, layouts::trailer_bits(kind, a), c, out)', '}']
 
 shapes = ['Number', 'Ignored', 'Count', 'Size', 'Times', 'Earlier', 'Registers', 'Filled', 'Abi', 'Limit', 'Listed', 'Bytes', 'Pad', 'Name']
@@ -406,8 +442,12 @@ def lists_of(crate):
     return ', '.join(l for l in all_lists if crate_of(l.replace('-', '_')) == crate)
 
 
+files['layouts/src/types.rt'] = '''// The types of records by name, for the arms of a `match`.
+// Written by tools/chains.py from the rows of crate table.
+''' + '\n'.join(f'pub const {names[t]}: u64 = {t};\n' for t in range(1, TYPES))
 files['sample_fills/src/lib.rt'] = f'''// The words of SAMPLE's fields: a call for each item, in the order of the schema.
 // Written by tools/chains.py from the rows of crate table.
+ghost use Rattle.meaning.specs.Values.{{bodyWords}};
 ghost use Rattle.layouts.specs.Lists.{{{lists_of("sample_fills")}}};
 ghost use Rattle.fills.specs.Chains.{{Ready, Filling}};
 use meaning::Cursor;
@@ -417,9 +457,11 @@ files['chains/src/lib.rt'] = f'''// The words of each type's fields and of the t
 // Written by tools/chains.py from the rows of crate table.
 ghost use mathlib.Core.Path.{{_≡_}};
 ghost use Rattle.meaning.specs.Schema.{{schema, trailer as trailerOf}};
+ghost use Rattle.meaning.specs.Values.{{bodyWords, trailWords}};
 ghost use Rattle.layouts.specs.Lists.{{{lists_of("chains")}}};
 ghost use Rattle.table.specs.Flags.{{flagAt}};
 ghost use Rattle.fills.specs.Chains.{{Ready, Filling}};
+use layouts::types;
 use meaning::Attributes;
 use meaning::Cursor;
 

@@ -8,14 +8,14 @@ trap 'rm -f "$log"' EXIT
 began=$(date +%s)
 
 # A check copies what its crate stands on, thousands of small files, to a temporary folder. In memory, where there is room for them and programs may be
-# run from there, that takes a third less time
+# run from there, that takes less time
 folder=
 if [ -z "${TMPDIR:-}" ] && [ "$(df -Pk /dev/shm 2>/dev/null | awk 'NR == 2 { print ($4 > 8000000) }')" = 1 ]; then
   folder=$(mktemp -d /dev/shm/gate.XXXXXX) && chmod 711 "$folder" && trap 'rm -rf "$log" "$folder"' EXIT
-  cp /bin/true "$folder/true" && "$folder/true" 2>/dev/null || folder=
+  cp /bin/true "$folder/true" && "$folder/true" 2>/dev/null || { rm -rf "$folder"; folder=; }
 fi
-# rt waits for a whole batch of crates, or of edits, before it starts the next: with more of them at a time than there are processors none stands idle
-# for long. As many as memory holds at 1.7 GB each, which is a little more than the largest crate takes; at least 2, at most 12
+# How many crates, or edits, rt proves at a time. It starts the next batch only when the whole of one is done, so more of them than processors keep
+# all of these busy. Each is given 1.7 GB of memory, a little more than the largest crate takes: as many as fit, from 2 to 12
 jobs=$(awk '/^MemAvailable:/ { n = int($2 / 1700000); print (n < 2 ? 2 : n > 12 ? 12 : n) }' /proc/meminfo 2>/dev/null)
 TMPDIR=${TMPDIR:-${folder:-/tmp}} RT_JOBS=${RT_JOBS:-${jobs:-4}} rt ci >"$log" 2>&1
 status=$?

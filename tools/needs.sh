@@ -11,7 +11,7 @@
 # toolchain.txt is a warning.
 set -u
 cd "$(dirname "$0")/.." || exit 2
-line='apt-get install -y gcc libc6-dev make rustc pkg-config valgrind'
+line='apt-get install -y gcc libc6-dev make python3 rustc pkg-config valgrind'
 cc=${CC:-cc}
 rustc=${RUSTC:-rustc}
 
@@ -31,6 +31,7 @@ toolchain() {
 missing() {
   have "$cc" || echo gcc
   have make || echo make
+  have python3 || echo python3
   have "$rustc" || echo rustc
   have pkg-config || echo pkg-config
   if have "$cc"; then

@@ -99,6 +99,7 @@ PLANTS
 
 case ${1:-} in
 --teeth) teeth ;;
+?*) echo "never_used: no such word: $1 (--teeth, or nothing)" >&2; exit 2 ;;
 *) if look "$home"; then echo 'never_used: nothing answers 10'; else bad=1; fi ;;
 esac
 exit "$bad"

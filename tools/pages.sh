@@ -6,10 +6,8 @@ export LC_ALL=C.UTF-8
 bad=0
 say() { printf 'pages: %s\n' "$*"; bad=1; }
 
-# pages that are still to be wrapped (tools/wrap.py does it)
-later=''
-for page in *.md docs/*.md; do
-  case " $later " in *" $page "*) continue ;; esac
+# tools/wrap.py wraps them
+for page in *.md docs/*.md docs/landings/*.md tests/cases/README.md rings/README.md examples/README.md; do
   wide=$(grep -nE '^.{121,}' "$page" | cut -d: -f1 | tr '\n' ' ')
   [ -z "$wide" ] || say "$page has lines above 120 columns: $wide"
 done
@@ -34,6 +32,16 @@ for path in $(echo "$named" | grep -v NAME | sort -u); do
   [ -e "$path" ] || say "there is no $path, which README or CONTRIBUTING names"
 done
 
+# the crates of docs/ARCHITECTURE.md's two tables are those of crates.txt
+listed=$(sed -n 's/^\([a-z0-9_]*\):.*/\1/p' crates.txt | sort)
+[ "$(wc -w <<<"$listed")" -ge 100 ] || say "crates.txt was not read"
+for table in 'The crates, one above the other' 'Size and time'; do
+  told=$(awk -v title="## $table" '/^## / { on = $0 == title } on' docs/ARCHITECTURE.md | sed -n 's/^| `\([a-z0-9_]*\)` |.*/\1/p' | sort)
+  [ -n "$told" ] || say "docs/ARCHITECTURE.md has no table under '$table'"
+  for crate in $(comm -23 <(echo "$listed") <(echo "$told")); do say "docs/ARCHITECTURE.md, '$table': no row for crate $crate"; done
+  for crate in $(comm -13 <(echo "$listed") <(echo "$told")); do say "docs/ARCHITECTURE.md, '$table': crate $crate is not in crates.txt, or told twice"; done
+done
+
 # each must-fail edit has a line in docs/WRONG-READERS.md, and each that it names is there
 edits=$(for f in crates/*/must-fail/*.edit; do crate=${f#crates/} label=${f##*/}; echo "${crate%%/*}/${label%.edit}"; done | sort)
 told=$(grep -oP '(?<![\w/])[a-z0-9_]+/[a-z0-9_]+(?![\w/])' docs/WRONG-READERS.md | sort -u |
@@ -43,5 +51,6 @@ for edit in $(comm -23 <(echo "$edits") <(echo "$told")); do say "docs/WRONG-REA
 for edit in $(comm -13 <(echo "$edits") <(echo "$told")); do say "docs/WRONG-READERS.md names $edit, and there is no such edit"; done
 
 tests/format.sh || say 'docs/FORMAT.md is not what the header says'
-[ "$bad" -eq 0 ] && echo "pages: width, lines of README, named files, $(wc -l <<<"$edits") must-fail edits, format: all fine"
+python3 tests/words.py || say 'a word of a value has another name elsewhere'
+[ "$bad" -eq 0 ] && echo "pages: width, lines of README, named files, lists of crates, $(wc -l <<<"$edits") must-fail edits, format, words: all fine"
 exit "$bad"

@@ -10,6 +10,7 @@ out=$(rt fmt --check 2>&1) || say "rt fmt --check: $out"
 open=$(grep -rnE '(^|[ (=])\?($|[ )])' --include='*.antt' crates | head -n 3)
 [ -n "$open" ] && say "a place in a proof is left open: $open"
 bash tools/pages.sh || say 'a page is not as it should be'
+tests/bad_words.sh || say 'a script takes what it should refuse'
 for d in crates/*/; do
   name=$(basename "$d")
   grep -qE "^$name:" crates.txt || say "crate $name is not listed in crates.txt"

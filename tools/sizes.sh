@@ -4,6 +4,8 @@
 set -u
 cd "$(dirname "$0")/.." || exit 2
 log=${1:-}
+[ $# -le 1 ] || { echo 'sizes: one log at most' >&2; exit 2; }
+[ -z "$log" ] || [ -r "$log" ] || { echo "sizes: there is no log $log" >&2; exit 2; }
 lines() { find "$@" -name '*.rt' -o -name '*.antt' 2>/dev/null | xargs -r cat | wc -l; }
 seconds() { [ -n "$log" ] && sed -n "s/^rt: $1 proved (\([0-9]*\) s).*/\1/p" "$log" | tail -n 1; }
 printf '| crate | code | specs | proofs | edits | check |\n|---|---|---|---|---|---|\n'

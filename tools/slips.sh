@@ -5,6 +5,11 @@
 set -u
 cd "$(dirname "$0")/.." || exit 2
 root=$PWD
+wrong() { echo "slips: $*" >&2; exit 2; }
+case ${1:-} in
+--each) for name in "${@:2}"; do [ -f "tools/slips/$name.edit" ] || wrong "no such slip: $name (tools/slips/$name.edit)"; done ;;
+?*) wrong "no such word: $1 (--each [NAME..], or nothing)" ;;
+esac
 work=$(mktemp -d) || exit 2
 trap 'rm -rf "$work"' EXIT
 bad=0

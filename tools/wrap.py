@@ -90,6 +90,8 @@ def wrap(text):
     return '\n'.join(out)
 
 
+if len(sys.argv) < 2:
+    sys.exit(print(__doc__, file=sys.stderr) or 2)
 for name in sys.argv[1:]:
     old = open(name, encoding='utf-8').read()
     new = wrap(old)

@@ -5,13 +5,22 @@ writes nothing and fails where a file is not what would be written. Run from the
 import os
 import sys
 
+if sys.argv[1:] not in ([], ['--check']):
+    sys.exit(print(__doc__, file=sys.stderr) or 2)
+
 c = {}
 exec(open('tools/chains.py').read().split('\nbad = 0')[0], c)  # all of it but the writing
 PARAMS, FIELD, FEW, BODY, TRAIL = c['PARAMS'], c['FIELD'], c['FEW'], c['BODY'], c['TRAIL']
 bits, code, proof_of, listed, rows_from, back = c['bits'], c['code'], c['proof_of'], c['listed'], c['rows_from'], c['back']
-alone, ALONE, all_lists = c['alone'], c['ALONE'], c['all_lists']
+alone, ALONE, all_lists, uses, guarded = c['alone'], c['ALONE'], c['all_lists'], c['uses'], c['guarded']
+word, kind = c['word'], c['kind']
 starts, rows, names, TYPES, FIELD_ROWS = c['starts'], c['rows'], c['names'], c['TYPES'], c['FIELD_ROWS']
 MADE = '-- Written by tools/write_chains.py from the rows of crate table'
+IMPORTS = ['use mathlib.Core.Path.{refl, ap, ap₂, _∙_}', 'use mathlib.Core.Bool.{not, _&&_, _||_}', 'use mathlib.Core.List.{_++_}',
+           'use native.Mathlib.Omega.{arith}', 'use Rattle.meaning.specs.Values.{tell, width}',
+           'use Rattle.write_fits.specs.Steps.{tried-none, tried-next, tried-then}',
+           'use Rattle.write_puts.specs.Puts.{placed-none, placed₁, placed-then, ready-first, ready-after, head₁, next₁}',
+           'use Rattle.layouts.specs.Lists as lists', 'use borrow.Author.Needs.{needs}']
 WIDTH = {'8': 'Width::W8', '4': 'Width::W4', '2': 'Width::W2'}
 
 
@@ -58,30 +67,22 @@ class Chains:
 
     def contract(self, items, at):
         if self.puts:
-            return [f'    requires {{ ⌜ Ready {items} (now source) (now ws) {at} c (now buffer) × (56 ≤ length (now ws)) ⌝ }}',
-                    f'    ensures {{ λ r. ⌜ Placed {items} (now (source .entry)) (now (ws .entry)) {at} c (now (buffer .entry)) (now (buffer .exit)) r ⌝ }}']
-        return ['    requires { ⌜ (c .at ≤ 65535) × (56 ≤ length (now ws)) ⌝ }',
-                f'    ensures {{ λ r. ⌜ Tried {items} (now (source .entry)) (now (ws .entry)) {at} c r ⌝ }}']
+            return [f'    requires {{ ⌜ Ready {items} (now source) (now ws) {word(at)} c (now buffer) × (valueWords ≤ length (now ws)) ⌝ }}',
+                    f'    ensures {{ λ r. ⌜ Placed {items} (now (source .entry)) (now (ws .entry)) {word(at)} c (now (buffer .entry)) (now (buffer .exit)) r ⌝ }}']
+        return ['    requires { ⌜ (c .at ≤ mostBytes) × (valueWords ≤ length (now ws)) ⌝ }',
+                f'    ensures {{ λ r. ⌜ Tried {items} (now (source .entry)) (now (ws .entry)) {word(at)} c r ⌝ }}']
 
-    def proof_file(self, fn, text, spec_args):
+    def proof_file(self, fn, why, text, spec_args):
         name, crate = fn.replace('_', '-'), self.crate_of(fn)
-        laws = ('Rattle.write_puts.specs.Puts.{placed-none, placed₁, placed-then, ready-first, ready-after, head₁, next₁}\nuse Rattle.layouts.specs.Lists as lists'
-                if self.puts else 'Rattle.write_fits.specs.Steps.{tried-none, tried-next, tried-then}')
-        self.files[f'{crate}/proofs/{fn}/Proof.antt'] = f'''-- `{crate}::{fn}` meets its contract. Assumes nothing.
-{MADE}.
-use mathlib.Core.Path.{{refl, ap, ap₂{', _∙_' if self.puts else ''}}}
-use mathlib.Core.Bool.{{not, _&&_, _||_}}
-use mathlib.Core.List.{{_++_}}
-use native.Mathlib.Omega.{{arith}}
-use Rattle.meaning.specs.Values.{{tell, width}}
-use {laws}
-use borrow.Author.Needs.{{needs}}
-use Rattle.{crate}.proofs.{fn}.Statement.{{statement}}
-use Rattle.{crate}.proofs.{fn}.Tie as tie
-{text}
+        text += f'''
 pub {name}-spec : {{M : Type 1}} → statement M
 {name}-spec = tie.close (tie.spec {" ".join(spec_args)})
 '''
+        self.files[f'{crate}/proofs/{fn}/Proof.antt'] = f'''-- `{crate}::{fn}` meets its contract: {why}. Assumes nothing.
+{MADE}.
+{uses(IMPORTS, text)}use Rattle.{crate}.proofs.{fn}.Statement.{{statement}}
+use Rattle.{crate}.proofs.{fn}.Tie as tie
+{text}'''
 
     # what is done so far, and (of the puts) what is left to do
     def done(self, steps, ev, single):
@@ -156,7 +157,9 @@ pub {name}-spec : {{M : Type 1}} → statement M
             if self.puts:
                 ev.add('buffer'), ev.add('slice-known')
         text += self.ended(steps, ev, True)
-        self.proof_file(fn, text, spec_args + (['same-length'] if self.puts else []) + ['returns'])
+        what = 'puts the next item of the list' if self.puts else 'tries the next item of the list'
+        why = f'each call {what}{guarded(rs)} from where the call before it ended'
+        self.proof_file(fn, why, text, spec_args + (['same-length'] if self.puts else []) + ['returns'])
         self.code[self.crate_of(fn)] += out + ['}', '']
 
     def joined(self, fn, title, ones):
@@ -186,7 +189,9 @@ pub {name}-spec : {{M : Type 1}} → statement M
             if self.puts:
                 ev.add('buffer'), ev.add('slice-known')
         text += self.ended(steps, ev, False)
-        self.proof_file(fn, text, spec_args + (['same-length'] if self.puts else []) + ['returns'])
+        what = 'puts the next part' if self.puts else 'tries the next part'
+        why = f'the list is its parts one after the other, and each call {what} from where the call before it ended'
+        self.proof_file(fn, why, text, spec_args + (['same-length'] if self.puts else []) + ['returns'])
         self.code[self.crate_of(fn)] += out + ['}', '']
 
     def all_of(self, base, title, rs):
@@ -226,7 +231,7 @@ pub {name}-spec : {{M : Type 1}} → statement M
             if t in kinds:
                 fn, ps = kinds[t]
                 arm = f'{self.sample + "::" if alone(fn) else ""}{fn}({", ".join(["ws", "source"] + ps + ["c"] + more)})'
-            code.append(f'        {t} => {arm},')
+            code.append(f'        {kind(t)} => {arm},')
         code += ['        _ => c,', '    }', '}', '']
         (ns, nm), (rs, rm, rc), (os_, om) = depths
         calls, needs, returns, text = {}, [], [], ''
@@ -274,35 +279,32 @@ fields-spec = tie.close (tie.spec {" ".join(needs + returns)})
 
     def finish(self, said, said_sample):
         ghost = 'ghost use Rattle.write_puts.specs.Puts.{Ready, Placed};' if self.puts else 'ghost use Rattle.write_fits.specs.Steps.{Tried};'
-        path = '' if self.puts else 'ghost use mathlib.Core.Path.{_≡_};\n'
-        plus = '_≤_' if self.puts else '_+_, _≤_'
-        counted = '' if self.puts else 'ghost use Rattle.meaning.specs.Values.{bodyWidth, bodyWords};\n'
+        imports = ['ghost use mathlib.Core.Path.{_≡_};', 'ghost use Prim.Native.Nat.{_+_, _≤_};', 'ghost use lib.ListN.{length};',
+                   'ghost use Rattle.meaning.specs.Schema.{schema, trailer as trailerOf};',
+                   'ghost use Rattle.meaning.specs.Values.{bodyWidth, bodyWords, trailWords, valueWords};', 'ghost use Rattle.writer_items.specs.Tries.{mostBytes};']
+        text = {crate: '\n'.join(self.code[crate]) for crate in self.code}
 
         def lists(crate):
             return ', '.join(l for l in all_lists if self.crate_of(l.replace('-', '_')) == crate)
         made = '// Written by tools/write_chains.py from the rows of crate table.'
         self.files[f'{self.sample}/src/lib.rt'] = f'''// {said_sample}
 {made}
-ghost use Prim.Native.Nat.{{_≤_}};
-ghost use lib.ListN.{{length}};
-ghost use Rattle.layouts.specs.Lists.{{{lists(self.sample)}}};
+{uses(imports, text[self.sample])}ghost use Rattle.layouts.specs.Lists.{{{lists(self.sample)}}};
 {ghost}
 use meaning::Width;
 use write_fits::Walked;
 
-''' + '\n'.join(self.code[self.sample])
+''' + text[self.sample]
         self.files[f'{self.crate}/src/lib.rt'] = f'''// {said}
 {made}
-{path}ghost use Prim.Native.Nat.{{{plus}}};
-ghost use lib.ListN.{{length}};
-ghost use Rattle.meaning.specs.Schema.{{schema, trailer as trailerOf}};
-{counted}ghost use Rattle.layouts.specs.Lists.{{{lists(self.crate)}}};
+{uses(imports, text[self.crate])}ghost use Rattle.layouts.specs.Lists.{{{lists(self.crate)}}};
 {ghost}
+use layouts::types;
 use meaning::Attributes;
 use meaning::Width;
 use write_fits::Walked;
 
-''' + '\n'.join(self.code[self.crate]) + '\n'
+''' + text[self.crate] + '\n'
 
 
 fits = Chains('fit_chains', 'sample_fits', 'write_fits', False)
@@ -321,8 +323,8 @@ def own_end(t):
 
 fit_code += ["// The words before the end of a type's own; what stands after them is zero in every value.",
              'pub fn own_end(kind: u64, misc: u64, a: Attributes) -> usize',
-             '    ensures { λ r. ⌜ (r ≡ bodyWords + bodyWidth (schema kind misc a)) × (r ≤ 48) ⌝ }', '{', '    match kind {']
-fit_code += [f'        {t} => {own_end(t)},' for t in range(TYPES)] + [f'        _ => {BODY},', '    }', '}']
+             '    ensures { λ r. ⌜ (r ≡ bodyWords + bodyWidth (schema kind misc a)) × (r ≤ trailWords) ⌝ }', '{', '    match kind {']
+fit_code += [f'        {kind(t)} => {own_end(t)},' for t in range(TYPES)] + [f'        _ => {BODY},', '    }', '}']
 text, returns = '', []
 for t in range(TYPES + 1):
     n = f'-{t + 1}' if t else ''
@@ -342,7 +344,6 @@ use Rattle.meaning.specs.Schema.{{schema}}
 use Rattle.meaning.specs.Writing.{{named, ends}}
 use Rattle.meaning.specs.Values.{{tell, width, flagWords, bodyWidth, bodyWords}}
 use Rattle.layouts.specs.Types.{{no-type}}
-use borrow.Author.Needs.{{needs}}
 use Rattle.fit_chains.proofs.own_end.Statement.{{statement}}
 use Rattle.fit_chains.proofs.own_end.Tie as tie
 {text}

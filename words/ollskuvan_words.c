@@ -343,7 +343,6 @@ static int has_number(const struct ollskuvan_word *row, const struct ollskuvan_w
     switch (row->form) {
     case OLLSKUVAN_FORM_HEADER:
     case OLLSKUVAN_FORM_COUNT:
-    case OLLSKUVAN_FORM_KEPT:
     case OLLSKUVAN_FORM_FLAG:
         return 0;
     case OLLSKUVAN_FORM_USER_REGISTERS:

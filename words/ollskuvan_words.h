@@ -21,7 +21,6 @@ enum ollskuvan_form {
     /* told beside something else, or not at all */
     OLLSKUVAN_FORM_HEADER, /* in the record's first line */
     OLLSKUVAN_FORM_COUNT,  /* with its list */
-    OLLSKUVAN_FORM_KEPT,   /* kept free for a field that is still to come: always 0. No row has it since M-110 */
     /* the place of a list; its row names the word of its count */
     OLLSKUVAN_FORM_NAME,
     OLLSKUVAN_FORM_BYTES,

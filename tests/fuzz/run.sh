@@ -39,16 +39,34 @@ max_len=${MAX_LEN:-1200}
 rustc=${RUSTC:-rustc}
 
 stop() { echo "tests/fuzz/run.sh: $*" >&2; exit 1; }
+wrong() { echo "tests/fuzz/run.sh: $* (see the head of this file)" >&2; exit 2; }
+number() { # WHAT NUMBER MOST-DIGITS
+    case $2 in
+        '' | *[!0-9]*) wrong "$1: a number is wanted, not '$2'" ;;
+    esac
+    [ ${#2} -le "$3" ] || wrong "$1: $2 is too great"
+}
 skip() { echo "== fuzzing skipped: $*"; exit 0; }
 
-runs=${1:-200000}
+runs=${1-200000} seed=${2-1}
 case $runs in
-    faults) ;;
-    carry-teeth) [ -n "${CARRY:-}" ] || stop "carry-teeth needs CARRY=1" ;;
-    again) [ $# -eq 2 ] || stop "use: tests/fuzz/run.sh again FILE" ;;
-    *[!0-9]*) stop "RUNS is a number (see the head of this file)" ;;
+    faults) [ $# -eq 1 ] || wrong "nothing follows 'faults'"; number FIRST "${FIRST:-1}" 9 ;;
+    carry-teeth)
+        [ $# -eq 1 ] || wrong "nothing follows 'carry-teeth'"
+        [ -n "${CARRY:-}" ] || wrong "carry-teeth needs CARRY=1"
+        ;;
+    again)
+        [ $# -eq 2 ] || wrong "use: tests/fuzz/run.sh again FILE"
+        [ -r "$2" ] || wrong "no such file: $2"
+        ;;
+    *)
+        [ $# -le 2 ] || wrong "a seed is the last word, not '$3'"
+        number RUNS "$runs" 18
+        number SEED "$seed" 9 # libFuzzer has 32 bits for it
+        ;;
 esac
-seed=${2:-1}
+number MAX_LEN "$max_len" 9
+number SECONDS_AT_MOST "${SECONDS_AT_MOST:-0}" 9
 
 command -v clang >/dev/null || skip "clang is missing (Debian: apt-get install clang)"
 command -v "$rustc" >/dev/null || skip "$rustc is missing: the independent reader is written in Rust"
@@ -70,7 +88,8 @@ fi
 wrapped=
 carry=
 if [ -n "${CARRY:-}" ]; then
-    [ -n "${NATIVE:-}" ] || stop "CARRY=1 needs NATIVE=1: the other side is the archive for x86-64"
+    [ -n "${NATIVE:-}" ] || wrong "CARRY=1 needs NATIVE=1: the other side is the archive for x86-64"
+    number PLAYERS "${PLAYERS:-2}" 1
     out=$out-carry
     . tests/fuzz/carry.sh
 fi
@@ -83,9 +102,6 @@ clang $machine -fsanitize=$sanitizers -o "$out/probe" "$out/probe.c" 2>/dev/null
     skip "clang has no sanitizer libraries (Debian: apt-get install libclang-rt-$number-dev$of)"
 [ -f "$archive" ] || stop "$archive is missing: run 'make lib' (with NATIVE tools/native.sh) first"
 [ -f "$program" ] || stop "$program is missing: run 'rt check ringdump' first"
-
-without=
-nm "$archive" 2>/dev/null | grep -q ' T ollskuvan_read$' || without=-DWITHOUT_VALUES
 
 libraries="-lpthread -ldl -lm"
 build() {
@@ -114,7 +130,7 @@ newer "$out/target" tests/fuzz tests/reader include "$archive" "$program" || {
     $objcopy --redefine-sym main=ringdump_main --redefine-sym read=ringdump_read \
         --redefine-sym write=ringdump_write "$program" "$out/ringdump.o"
     # shellcheck disable=SC2086
-    build -o "$out/target" $without tests/fuzz/target.c $carry $wrapped "$out/ringdump.o" "$out/libindependent.a" \
+    build -o "$out/target" tests/fuzz/target.c $carry $wrapped "$out/ringdump.o" "$out/libindependent.a" \
         "$archive" $libraries
 }
 newer "$out/seeds/made-0" tests/reader rings || {
@@ -170,7 +186,6 @@ if [ "$runs" = faults ]; then
     exit 0
 fi
 [ "$runs" -gt 0 ] || exit 0
-[ -z "$without" ] || echo "== the archive has no read and write: they are left out"
 begun=$(date +%s)
 # libFuzzer counts the corpus it starts from as executions too.
 # shellcheck disable=SC2086

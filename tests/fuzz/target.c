@@ -310,7 +310,6 @@ static void copy_name(const uint8_t *record, size_t count, uint64_t place, uint6
     reach(COPY, 0, library);
 }
 
-#ifndef WITHOUT_VALUES
 /* Reads into so many words; the independent reader's words are left in `value`. */
 static uint32_t read_value(const uint8_t *record, size_t count, uint64_t *value, size_t words)
 {
@@ -392,7 +391,6 @@ static void writes_again(uint64_t *value, size_t count, size_t room)
     }
     reads_back(count);
 }
-#endif
 
 /* ---- The ring. ---- */
 
@@ -490,7 +488,6 @@ static struct ollskuvan_judged judged(const uint8_t *record, size_t count, size_
 
     same_judged("check", library, reader_check_events(record, count, in.events, in.event_count, in.edition), record, count);
     reach(TABLED_CHECK, type_of(record, count), library.answer);
-#ifndef WITHOUT_VALUES
     {
         uint64_t value[FIELDS + 4];
         uint8_t *lent_words;
@@ -506,15 +503,11 @@ static struct ollskuvan_judged judged(const uint8_t *record, size_t count, size_
         is_as(VALUE, lent_words, value, 8 * words, "read with a table: the words of the value");
         reach(TABLED_READ, type_of(record, count), read.answer);
     }
-#else
-    (void)words;
-#endif
     table_is_kept(table);
     is_kept(RECORD, lent, record, count);
     return library;
 }
 
-#ifndef WITHOUT_VALUES
 static void print_one(const char *who, const struct ollskuvan_one *one)
 {
     fprintf(stderr, "  %s: place %" PRIu64 "  size %" PRIu64 "  tail %#" PRIx64 "  in_scratch %" PRIu32 "  stop %" PRIu32
@@ -574,7 +567,6 @@ static struct ollskuvan_one read_one(const struct ring *ring, uint64_t tail, siz
         reach(ONE, library.in_scratch + 2u * (unsigned)in.tabled, library.answer);
     return library;
 }
-#endif
 
 /* The words that are lent for a value, by a byte of the control block. */
 static size_t some_words(uint8_t choice)
@@ -614,7 +606,6 @@ static void take_apart(const struct ring *ring, const uint8_t *journal, uint64_t
             print_hex("record", record, size);
             differs("check does not answer as the journal does: %" PRIu32, answer);
         }
-#ifndef WITHOUT_VALUES
         struct ollskuvan_one one = read_one(ring, tail, size, FIELDS);
         uint64_t value[FIELDS];
 
@@ -624,7 +615,6 @@ static void take_apart(const struct ring *ring, const uint8_t *journal, uint64_t
             differs("read one gives another record than the journal, whose answer is %" PRIu32, answer);
         if (answer == 0 && !in.tabled)
             read_value(record, size, value, FIELDS);
-#endif
     }
     records_seen += taken;
 }
@@ -741,10 +731,8 @@ static void try_drain(void)
     take_apart(&ring, journal, library.taken);
     walk_back(&ring, in.tail, budget, scratch_len, journal_len);
     walk_back(&ring, ring.head, budget, scratch_len, journal_len);
-#ifndef WITHOUT_VALUES
     read_one(&ring, in.tail, scratch_len, some_words(in.control[11]));
     read_one(&ring, library.tail, scratch_len, some_words(in.control[11]));
-#endif
 }
 
 /* ---- Replay: the bytes as a trace, and a trace that is made of the records that they are. ---- */
@@ -1122,7 +1110,6 @@ static void try_record(void)
         bytes = near(bytes, count);
     }
     copy_name(in.bytes, count, place, bytes, in.control[15]);
-#ifndef WITHOUT_VALUES
     {
         uint64_t value[FIELDS + 4];
         size_t room = count + (in.control[14] & 7);
@@ -1132,10 +1119,8 @@ static void try_record(void)
         if (read_value(in.bytes, count, value, FIELDS) == 0)
             writes_again(value, count, room);
     }
-#endif
 }
 
-#ifndef WITHOUT_VALUES
 static size_t buffer_room(uint64_t size)
 {
     size_t whole = size < LONGEST ? (size_t)size : LONGEST;
@@ -1182,7 +1167,6 @@ static void try_write(void)
     if (write_value(value, words, in.bytes, source, buffer_room(value[OLLSKUVAN_SIZE])) == 0)
         reads_back((size_t)value[OLLSKUVAN_SIZE]);
 }
-#endif
 
 /* ---- The store of settings. ---- */
 
@@ -1441,9 +1425,7 @@ int LLVMFuzzerTestOneInput(const uint8_t *data, size_t size)
     case 1: try_program(); break;
     case TABLED_CALL: try_events(); break;
     case STORE_CALL: try_store(); break;
-#ifndef WITHOUT_VALUES
     case 3: try_write(); break;
-#endif
     default: try_record(); break;
     }
     return 0;

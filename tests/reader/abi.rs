@@ -118,12 +118,10 @@ extern "C" {
     pub fn ollskuvan_check_events(
         record: *const u8, record_len: usize, events: *const Event, event_count: usize, edition: u32,
     ) -> CJudged;
-    #[cfg(not(without_values))]
     pub fn ollskuvan_read_events(
         record: *const u8, record_len: usize, events: *const Event, event_count: usize, edition: u32, fields: *mut u64,
         fields_len: usize,
     ) -> CJudged;
-    #[cfg(not(without_values))]
     pub fn ollskuvan_read_one_events(
         ring: *const u8, ring_len: usize, head: u64, tail: u64, events: *const Event, event_count: usize, edition: u32,
         scratch: *mut u8, scratch_len: usize, fields: *mut u64, fields_len: usize,
@@ -141,18 +139,15 @@ extern "C" {
     pub fn ollskuvan_copy_name(
         record: *const u8, record_len: usize, place: u64, count: u64, buffer: *mut u8, buffer_len: usize,
     ) -> u32;
-    #[cfg(not(without_values))]
     pub fn ollskuvan_read(
         record: *const u8, record_len: usize, sample_type: u64, read_format: u64, sample_id_all: u32,
         user_mask: u64, interrupt_mask: u64, branch_sample_type: u64, edition: u32, fields: *mut u64, fields_len: usize,
     ) -> u32;
-    #[cfg(not(without_values))]
     pub fn ollskuvan_read_one(
         ring: *const u8, ring_len: usize, head: u64, tail: u64, sample_type: u64, read_format: u64,
         sample_id_all: u32, user_mask: u64, interrupt_mask: u64, branch_sample_type: u64, edition: u32, scratch: *mut u8,
         scratch_len: usize, fields: *mut u64, fields_len: usize,
     ) -> One;
-    #[cfg(not(without_values))]
     pub fn ollskuvan_write(
         fields: *const u64, fields_len: usize, source: *const u8, source_len: usize, sample_type: u64,
         read_format: u64, sample_id_all: u32, user_mask: u64, interrupt_mask: u64, branch_sample_type: u64, edition: u32,
@@ -227,7 +222,6 @@ pub fn copy_name(record: &[u8], place: u64, count: u64, buffer: &mut [u8]) -> u3
     }
 }
 
-#[cfg(not(without_values))]
 pub fn read(record: &[u8], a: &Attributes, edition: u32, fields: &mut [u64]) -> u32 {
     unsafe {
         ollskuvan_read(
@@ -237,7 +231,6 @@ pub fn read(record: &[u8], a: &Attributes, edition: u32, fields: &mut [u64]) -> 
     }
 }
 
-#[cfg(not(without_values))]
 pub fn read_one(
     ring: &[u8], head: u64, tail: u64, a: &Attributes, edition: u32, scratch: &mut [u8], fields: &mut [u64],
 ) -> One {
@@ -287,7 +280,6 @@ pub fn check_events(record: &[u8], words: &[u64], edition: u32) -> Judged {
     Judged { answer: j.answer, inspected: j.inspected }
 }
 
-#[cfg(not(without_values))]
 pub fn read_events(record: &[u8], words: &[u64], edition: u32, fields: &mut [u64]) -> Judged {
     let j = unsafe {
         ollskuvan_read_events(
@@ -333,7 +325,6 @@ pub fn compare(
     Compared { records: c.records, what: c.what, field: c.field, stop: c.stop }
 }
 
-#[cfg(not(without_values))]
 pub fn read_one_events(
     ring: &[u8], head: u64, tail: u64, words: &[u64], edition: u32, scratch: &mut [u8], fields: &mut [u64],
 ) -> One {
@@ -345,7 +336,6 @@ pub fn read_one_events(
     }
 }
 
-#[cfg(not(without_values))]
 pub fn write(fields: &[u64], source: &[u8], a: &Attributes, edition: u32, buffer: &mut [u8]) -> u32 {
     unsafe {
         ollskuvan_write(
@@ -353,31 +343,4 @@ pub fn write(fields: &[u64], source: &[u8], a: &Attributes, edition: u32, buffer
             a.sample_id_all, a.user_mask, a.interrupt_mask, a.branch_sample_type, edition, buffer.as_mut_ptr(), buffer.len(),
         )
     }
-}
-
-// For an archive that has no read and write yet: tests/run.sh without-values.
-
-#[cfg(without_values)]
-pub fn read(_: &[u8], _: &Attributes, _: u32, _: &mut [u64]) -> u32 {
-    panic!("built without ollskuvan_read");
-}
-
-#[cfg(without_values)]
-pub fn read_one(_: &[u8], _: u64, _: u64, _: &Attributes, _: u32, _: &mut [u8], _: &mut [u64]) -> One {
-    panic!("built without ollskuvan_read_one");
-}
-
-#[cfg(without_values)]
-pub fn read_events(_: &[u8], _: &[u64], _: u32, _: &mut [u64]) -> Judged {
-    panic!("built without ollskuvan_read_events");
-}
-
-#[cfg(without_values)]
-pub fn read_one_events(_: &[u8], _: u64, _: u64, _: &[u64], _: u32, _: &mut [u8], _: &mut [u64]) -> One {
-    panic!("built without ollskuvan_read_one_events");
-}
-
-#[cfg(without_values)]
-pub fn write(_: &[u64], _: &[u8], _: &Attributes, _: u32, _: &mut [u8]) -> u32 {
-    panic!("built without ollskuvan_write");
 }

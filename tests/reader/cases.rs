@@ -153,13 +153,11 @@ fn run_record(lines: &Lines, tally: &mut Tally) -> Result<(), String> {
             expect(&word_name(ours[TYPE], word), ours[word], value[word])?;
         }
     }
-    if !cfg!(without_values) {
-        let value = values::compare_read(&record, &a, edition, FIELDS, &mut r, tally)?;
-        if due == 44 {
-            let value = value.map_err(|refusal| format!("read answers {refusal} where check answers 44"))?;
-            let (answer, _) = values::compare_write(&value, &record, &a, edition, record.len(), &mut r, tally)?;
-            expect("the writer's answer to a flag", answer, 43)?;
-        }
+    let value = values::compare_read(&record, &a, edition, FIELDS, &mut r, tally)?;
+    if due == 44 {
+        let value = value.map_err(|refusal| format!("read answers {refusal} where check answers 44"))?;
+        let (answer, _) = values::compare_write(&value, &record, &a, edition, record.len(), &mut r, tally)?;
+        expect("the writer's answer to a flag", answer, 43)?;
     }
     Ok(())
 }

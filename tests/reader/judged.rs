@@ -52,22 +52,20 @@ pub fn compare_judged(
     }
     tally.answer("check with a table", ours.answer);
     note(ours, tally);
-    if !cfg!(without_values) {
-        let mut due: Vec<u64> = (0..length).map(|_| r.next()).collect();
-        let mut fields = GuardedWords::new(&due);
-        let theirs = abi::read_events(lent.slice(), lent_table.slice(), edition, fields.slice_mut());
-        let ours = events::read(record, edition, table, &mut due);
-        if theirs != ours {
-            return Err(format!("read with a table: library {theirs:?}, independent {ours:?}\n{}", case()));
-        }
-        if let Some(word) = first_difference(fields.slice(), &due) {
-            return Err(format!("word {word}: library {:#x}, independent {:#x}\n{}", fields.slice()[word], due[word], case()));
-        }
-        if !fields.intact() {
-            return Err(format!("words beside the value were written to\n{}", case()));
-        }
-        tally.answer("read with a table", ours.answer);
+    let mut due: Vec<u64> = (0..length).map(|_| r.next()).collect();
+    let mut fields = GuardedWords::new(&due);
+    let their_read = abi::read_events(lent.slice(), lent_table.slice(), edition, fields.slice_mut());
+    let our_read = events::read(record, edition, table, &mut due);
+    if their_read != our_read {
+        return Err(format!("read with a table: library {their_read:?}, independent {our_read:?}\n{}", case()));
     }
+    if let Some(word) = first_difference(fields.slice(), &due) {
+        return Err(format!("word {word}: library {:#x}, independent {:#x}\n{}", fields.slice()[word], due[word], case()));
+    }
+    if !fields.intact() {
+        return Err(format!("words beside the value were written to\n{}", case()));
+    }
+    tally.answer("read with a table", our_read.answer);
     if lent.slice() != record || lent_table.slice() != words || !lent.intact() || !lent_table.intact() {
         return Err(format!("record, table, or what lies beside them, was written to\n{}", case()));
     }
@@ -107,9 +105,6 @@ fn beside(record: &[u8], table: &[Event], edition: u32, told: Judged, r: &mut Ra
 
 /// The reader of one record tells the same number of the record in a ring.
 fn number_in_a_ring(record: &[u8], table: &[Event], edition: u32, told: Judged, r: &mut Random) -> Result<(), Difference> {
-    if cfg!(without_values) {
-        return Ok(());
-    }
     let tail = 8 * r.below(1 << 20);
     let mut ring = vec![0; 64];
     crate::made::put(&mut ring, tail, record);
@@ -249,15 +244,13 @@ fn edges(r: &mut Random, tally: &mut Tally) -> Result<u64, Difference> {
         cases += due(record, table, edition, answer, inspected, r, tally)?;
     }
     // 40 for too few words: the number is told all the same
-    if !cfg!(without_values) {
-        for (length, answer) in [(0, 40), (FIELDS - 1, 40), (FIELDS, 0)] {
-            let mut fields = vec![7; length];
-            let told = abi::read_events(&dirty, &table_words(Some(two)), 4, &mut fields);
-            if told != (Judged { answer, inspected: 2 }) || (answer == 40 && fields.iter().any(|w| *w != 7)) {
-                return Err(format!("read with a table into {length} words: {told:?}"));
-            }
-            cases += 1;
+    for (length, answer) in [(0, 40), (FIELDS - 1, 40), (FIELDS, 0)] {
+        let mut fields = vec![7; length];
+        let told = abi::read_events(&dirty, &table_words(Some(two)), 4, &mut fields);
+        if told != (Judged { answer, inspected: 2 }) || (answer == 40 && fields.iter().any(|w| *w != 7)) {
+            return Err(format!("read with a table into {length} words: {told:?}"));
         }
+        cases += 1;
     }
     Ok(cases)
 }

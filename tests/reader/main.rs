@@ -171,7 +171,6 @@ fn run(command: &str, o: &Options) -> Result<(), String> {
         "salvages" => run_salvages(o),
         "compares" => run_compares(o),
         "meets" => run_meets(o),
-        "values" | "bits" | "ones" if cfg!(without_values) => Err("built without read and write".to_string()),
         "values" => run_values(o),
         "ones" => run_ones(o),
         "bits" => {
@@ -293,17 +292,14 @@ fn rings(folder: &Path) -> Result<(), String> {
         }
         drains::real_ring(&name, &image, &mut total)?;
         let count = kinds.values().sum::<u64>();
-        if !cfg!(without_values) {
-            values::real_ring(&name, &image, &mut total)?;
-            ones::real_ring(&name, &image, &mut total)?;
-        }
+        values::real_ring(&name, &image, &mut total)?;
+        ones::real_ring(&name, &image, &mut total)?;
         let text: Vec<String> = kinds.iter().map(|(k, n)| format!("{} {}", n, words::type_name(*k))).collect();
         println!("{name}: {count} records, all accepted: {}", text.join(", "));
         records += count;
     }
-    let done = if cfg!(without_values) { "drained" } else { "drained, read, written again" };
     println!(
-        "rings: {records} records of real rings accepted in editions 3 and 4, {dirty} with a dirty name, {done} and compared, {:.1} s",
+        "rings: {records} records of real rings accepted in editions 3 and 4, {dirty} with a dirty name, drained, read, written again and compared, {:.1} s",
         start.elapsed().as_secs_f64()
     );
     Ok(())

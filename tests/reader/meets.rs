@@ -132,11 +132,9 @@ fn every_branch_type(r: &mut Random, tally: &mut Tally) -> Result<u64, Differenc
         let case = ring_of(&[right.clone(), wrong.clone()], 4, r);
         let (done, journal) = compare_drain_with(&case, Some(&table), r, tally)?;
         due("both in a ring", answers(&journal, done.taken), vec![0, other.answer])?;
-        if !cfg!(without_values) {
-            let mut fields = [0; FIELDS];
-            abi::read_events(right, &table_words(Some(&table)), 4, &mut fields);
-            due("the hardware index", fields[sample::HW_INDEX], if i % 2 == 1 { 77 } else { 0 })?;
-        }
+        let mut fields = [0; FIELDS];
+        abi::read_events(right, &table_words(Some(&table)), 4, &mut fields);
+        due("the hardware index", fields[sample::HW_INDEX], if i % 2 == 1 { 77 } else { 0 })?;
     }
     Ok(tried.len() as u64)
 }

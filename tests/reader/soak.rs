@@ -69,9 +69,7 @@ pub fn damaged_case(
         at += record.len();
         if r.one_in(20) {
             compare_check(&record, &attributes, edition, &mut r, tally)?;
-            if !cfg!(without_values) {
-                let _value = values::compare_read(&record, &attributes, edition, FIELDS, &mut r, tally)?;
-            }
+            let _value = values::compare_read(&record, &attributes, edition, FIELDS, &mut r, tally)?;
         }
     }
     for _ in 0..r.below(4) {
@@ -92,9 +90,7 @@ pub fn damaged_case(
         damage_counts(&mut r, &mut case);
     }
     compare_drain(&case, &mut r, tally)?;
-    if !cfg!(without_values) {
-        ones::compare_one(&case, FIELDS, &mut r, tally)?;
-    }
+    ones::compare_one(&case, FIELDS, &mut r, tally)?;
     Ok(())
 }
 
@@ -164,12 +160,10 @@ pub fn run(
             caught(|| walks::one_case(seed, number, &mut tally)).map_err(|d| again("walks", seed, number, "", d))?;
         }
         done.walks += WALKS;
-        if !cfg!(without_values) {
-            for number in done.values..done.values + VALUES {
-                caught(|| values::one_case(seed, number, &mut tally)).map_err(|d| again("values", seed, number, "", d))?;
-            }
-            done.values += VALUES;
+        for number in done.values..done.values + VALUES {
+            caught(|| values::one_case(seed, number, &mut tally)).map_err(|d| again("values", seed, number, "", d))?;
         }
+        done.values += VALUES;
         for number in done.stores..done.stores + STORES {
             caught(|| stores::one_case(seed, number, &mut tally)).map_err(|d| again("stores", seed, number, "", d))?;
         }

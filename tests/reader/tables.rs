@@ -237,9 +237,6 @@ pub fn one_case(seed: u64, number: u64, tally: &mut Tally) -> Result<(), Differe
         one_event_alone(&case, &events[0], &journal[..16 * done.taken as usize], &mut r, tally)?;
     }
     find_events(&events, &mut r)?;
-    if cfg!(without_values) {
-        return Ok(());
-    }
     let at_stop = done.tail;
     for entry in journal.chunks(16).take(done.taken.min(6) as usize) {
         one_of_journal(&mut case, &events, entry, &mut r, tally)?;
@@ -499,9 +496,7 @@ fn damaged_ring(
         damage_counts(&mut r, &mut case);
     }
     compare_drain_with(&case, Some(&table), &mut r, tally)?;
-    if !cfg!(without_values) {
-        compare_one_with(&case, Some(&table), FIELDS, &mut r, tally)?;
-    }
+    compare_one_with(&case, Some(&table), FIELDS, &mut r, tally)?;
     Ok(())
 }
 

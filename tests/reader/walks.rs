@@ -269,11 +269,9 @@ fn all_of(walk: &WalkCase, r: &mut Random, tally: &mut Tally) -> Result<(), Diff
         return Err(format!("more than one length was walked: {done:?}\n{}", walk.words()));
     }
     beside_a_drain(walk, &done, r)?;
-    if !cfg!(without_values) {
-        let entries: Vec<&[u8]> = journal.chunks(16).take(done.taken as usize).collect();
-        for entry in entries.iter().take(3).chain(entries.iter().rev().take(2)) {
-            one_of_journal(walk, &done, entry, r)?;
-        }
+    let entries: Vec<&[u8]> = journal.chunks(16).take(done.taken as usize).collect();
+    for entry in entries.iter().take(3).chain(entries.iter().rev().take(2)) {
+        one_of_journal(walk, &done, entry, r)?;
     }
     if r.one_in(8) && walk.case.ring.len() <= 4096 {
         every_edition(walk, r, tally)?;

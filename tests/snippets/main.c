@@ -363,13 +363,6 @@ static bool open_live(const char *folder, int cpu, bool backward)
     return false;
 }
 
-static void close_live(void)
-{
-    for (size_t i = 0; i < EVENTS; i++)
-        close(ring.fds[i]);
-    munmap(ring.page, (size_t)sysconf(_SC_PAGESIZE) + RING);
-}
-
 static void must_be_sound(const char *what, const struct sums *s)
 {
     if (s->by_fault[NONE] != s->taken || s->gaps != 0 || s->by_event[EVENTS] != 0)
@@ -404,6 +397,29 @@ static void live_steps(void)
     printf("live: %" PRIu64 " records in %" PRIu64 " steps, %" PRIu64 " lost, none refused", s.taken, s.steps, s.lost);
 }
 
+/* Heats while there is something to take: the ring is written in the first step alone. */
+static bool heat(void)
+{
+    static unsigned steps;
+    if (steps++ == 0) {
+        work();
+        for (size_t i = 0; i < EVENTS; i++)
+            ioctl(ring.fds[i], PERF_EVENT_IOC_DISABLE, 0);
+    }
+    return ring.page->data_tail != ring.page->data_head;
+}
+
+static void live_attend(int cpu)
+{
+    uint8_t store[OLLSKUVAN_STORE_BYTES(EVENTS)];
+    struct sums s = { 0 };
+    size_t length = write_settings(store, RING, BUDGET);
+    if (!attend(&ring, store, length, cpu, heat, &s) || ring.page != NULL || ring.fds[0] != -1)
+        fail("live ring", "not attended, or left open");
+    must_be_sound("live ring", &s);
+    printf("; attended: %" PRIu64 " in %" PRIu64 " steps", s.taken, s.steps);
+}
+
 static void live_walk(void)
 {
     static uint8_t journal[2 * RING];
@@ -424,11 +440,12 @@ static void scene_live(const char *folder)
     if (!open_live(folder, cpu, false))
         return;
     live_steps();
-    close_live();
+    close_ring(&ring);
+    live_attend(cpu);
     if (!open_live(folder, cpu, true))
         fail("live", "a backward ring is not allowed");
     live_walk();
-    close_live();
+    close_ring(&ring);
 }
 
 int main(int argc, char **argv)

@@ -30,13 +30,13 @@ static size_t ring_length(size_t size)
     return length;
 }
 
-static uint64_t list_bytes(const struct image *of, const struct laid *l, const struct ollskuvan_word *row)
+static uint64_t list_bytes(const struct ring_attributes *of, const struct laid *l, const struct ollskuvan_word *row)
 {
-    const struct value value = { of, l->ring, l->fields, true };
+    const struct value value = { *of, l->ring, l->fields, true };
     return element_bytes(&value, row) * l->fields[row->count];
 }
 
-static int differs(const struct image *of, const struct laid *a, const struct laid *b, const struct ollskuvan_word *row)
+static int differs(const struct ring_attributes *of, const struct laid *a, const struct laid *b, const struct ollskuvan_word *row)
 {
     if (row->form < OLLSKUVAN_FORM_NAME)
         return a->fields[row->word] != b->fields[row->word];
@@ -44,14 +44,14 @@ static int differs(const struct image *of, const struct laid *a, const struct la
         memcmp(a->ring + a->fields[row->word], b->ring + b->fields[row->word], (size_t)list_bytes(of, a, row)) != 0;
 }
 
-static uint32_t read_laid(const struct image *image, const struct ollskuvan_event *v, struct laid *l)
+static uint32_t read_laid(const struct ring_attributes *of, const struct ollskuvan_event *v, struct laid *l)
 {
     return ollskuvan_read(l->ring, l->size, v->sample_type, v->read_format, v->sample_id_all != 0, v->user_mask,
-        v->interrupt_mask, v->branch_sample_type, image->edition, l->fields, OLLSKUVAN_FIELDS);
+        v->interrupt_mask, v->branch_sample_type, of->edition, l->fields, OLLSKUVAN_FIELDS);
 }
 
 /* Every number up to the one told, and, where they are equal, past the last. */
-static void check(const struct image *of, const struct ollskuvan_event *v, const struct laid *a, const struct laid *b,
+static void check(const struct ring_attributes *of, const struct ollskuvan_event *v, const struct laid *a, const struct laid *b,
     const struct ollskuvan_compared *told)
 {
     const struct ollskuvan_written written = { v->sample_type, v->read_format, v->branch_sample_type, 1, a->fields };
@@ -70,7 +70,7 @@ static void check(const struct image *of, const struct ollskuvan_event *v, const
 
 static struct laid left, right;
 
-static void change(const struct image *of, const struct ollskuvan_event *v, size_t at)
+static void change(const struct ring_attributes *of, const struct ollskuvan_event *v, size_t at)
 {
     static uint8_t none[1];
     memcpy(right.ring, left.ring, left.size);
@@ -99,7 +99,7 @@ static void try_record(const struct image *image, uint64_t tail)
     struct ollskuvan_one one = image_read_one(image, tail, left.fields, &record);
     if (one.answer != OLLSKUVAN_OK || one.stop != 0 || one.size > 4096)
         return;
-    struct image of = image_of_event(image, left.fields);
+    struct ring_attributes of = record_attributes(image, left.fields);
     const int sample = left.fields[OLLSKUVAN_TYPE] == OLLSKUVAN_TYPE_SAMPLE;
     struct ollskuvan_event v = { left.fields[sample ? OLLSKUVAN_SAMPLE_IDENTIFIER : OLLSKUVAN_TRAILER_IDENTIFIER],
         of.sample_type, of.read_format, of.user_mask, of.interrupt_mask, of.branch_sample_type, of.sample_id_all };

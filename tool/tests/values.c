@@ -45,14 +45,14 @@ static void is(const char *what, uint64_t type, const struct ollskuvan_word *row
 /* ---- a value, by the table and the header's rules ---- */
 
 struct made {
-    struct image image; /* the attributes alone */
+    struct ring_attributes of;
     uint64_t fields[OLLSKUVAN_FIELDS];
     bool plain; /* numbers that are easily read, instead of any that fit */
 };
 
 static struct value view(const struct made *made)
 {
-    const struct value value = { &made->image, record, made->fields, false };
+    const struct value value = { made->of, record, made->fields, false };
     return value;
 }
 
@@ -69,8 +69,7 @@ static bool is_list(const struct ollskuvan_word *row)
 
 static bool is_number(const struct ollskuvan_word *row)
 {
-    return row->width != 0 && row->form != OLLSKUVAN_FORM_COUNT && row->form != OLLSKUVAN_FORM_KEPT &&
-        row->form != OLLSKUVAN_FORM_HEADER;
+    return row->width != 0 && row->form != OLLSKUVAN_FORM_COUNT && row->form != OLLSKUVAN_FORM_HEADER;
 }
 
 static uint64_t greatest(const struct ollskuvan_word *row)
@@ -99,9 +98,9 @@ static uint64_t elements_of(const struct made *made, const struct ollskuvan_word
     uint64_t few = made->plain ? 5 : some(8);
     switch (list->form) {
     case OLLSKUVAN_FORM_USER_REGISTERS:
-        return made->fields[OLLSKUVAN_SAMPLE_USER_ABI] != 0 ? ones(made->image.user_mask) : 0;
+        return made->fields[OLLSKUVAN_SAMPLE_USER_ABI] != 0 ? ones(made->of.user_mask) : 0;
     case OLLSKUVAN_FORM_INTERRUPT_REGISTERS:
-        return made->fields[OLLSKUVAN_SAMPLE_INTERRUPT_ABI] != 0 ? ones(made->image.interrupt_mask) : 0;
+        return made->fields[OLLSKUVAN_SAMPLE_INTERRUPT_ABI] != 0 ? ones(made->of.interrupt_mask) : 0;
     case OLLSKUVAN_FORM_DIGITS:
         return list->type == OLLSKUVAN_TYPE_BPF_EVENT ? 8 : made->plain ? 20 : some(21);
     case OLLSKUVAN_FORM_NAME:
@@ -152,11 +151,10 @@ static void fill(struct made *made, uint64_t type, uint64_t misc)
 static uint64_t size_of(const struct made *made)
 {
     uint64_t body = 0, type = made->fields[OLLSKUVAN_TYPE];
-    uint64_t trailer = 8 * ones(made->image.sample_type & OLLSKUVAN_TRAILER_BITS);
+    uint64_t trailer = 8 * ones(made->of.sample_type & OLLSKUVAN_TRAILER_BITS);
     for (size_t i = 0; i < ollskuvan_words_count; i++) {
         const struct ollskuvan_word *row = &ollskuvan_words[i];
-        if (!here(made, row) || row->form == OLLSKUVAN_FORM_HEADER || row->form == OLLSKUVAN_FORM_KEPT ||
-            row->word >= OLLSKUVAN_TRAILER_PID)
+        if (!here(made, row) || row->form == OLLSKUVAN_FORM_HEADER || row->word >= OLLSKUVAN_TRAILER_PID)
             continue;
         if (row->form == OLLSKUVAN_FORM_DIGITS && row->type == OLLSKUVAN_TYPE_MMAP2)
             body += 23; /* a build id takes 24 with its size */
@@ -165,12 +163,12 @@ static uint64_t size_of(const struct made *made)
         else
             body += row->width + (type == OLLSKUVAN_TYPE_SAMPLE && row->word == OLLSKUVAN_SAMPLE_CPU ? 4u : 0u);
     }
-    return 8 + (body + 7) / 8 * 8 + (type != OLLSKUVAN_TYPE_SAMPLE && made->image.sample_id_all != 0 ? trailer : 0);
+    return 8 + (body + 7) / 8 * 8 + (type != OLLSKUVAN_TYPE_SAMPLE && made->of.sample_id_all != 0 ? trailer : 0);
 }
 
 static uint32_t write_to(const struct made *made, uint8_t *buffer, size_t room)
 {
-    const struct image *a = &made->image;
+    const struct ring_attributes *a = &made->of;
     return ollskuvan_write(made->fields, OLLSKUVAN_FIELDS, source, SOURCE, a->sample_type, a->read_format,
         a->sample_id_all, a->user_mask, a->interrupt_mask, a->branch_sample_type, a->edition,
         buffer, room);
@@ -183,7 +181,7 @@ static uint32_t write_made(const struct made *made)
 
 static uint32_t read_made(const struct made *made, uint64_t *fields)
 {
-    const struct image *a = &made->image;
+    const struct ring_attributes *a = &made->of;
     return ollskuvan_read(record, (size_t)made->fields[OLLSKUVAN_SIZE], a->sample_type, a->read_format,
         a->sample_id_all, a->user_mask, a->interrupt_mask, a->branch_sample_type, a->edition,
         fields, OLLSKUVAN_FIELDS);
@@ -261,7 +259,7 @@ static uint64_t ignored_bytes(const struct made *made)
 
 static uint32_t check_made(const struct made *made)
 {
-    const struct image *a = &made->image;
+    const struct ring_attributes *a = &made->of;
     return ollskuvan_check(record, (size_t)made->fields[OLLSKUVAN_SIZE], a->sample_type, a->read_format,
         a->sample_id_all, a->user_mask, a->interrupt_mask, a->branch_sample_type, a->edition);
 }
@@ -370,7 +368,7 @@ static void check_words(const struct made *made)
         const struct ollskuvan_word *row = &ollskuvan_words[i];
         if (!ollskuvan_word_is_of(row, made->fields[OLLSKUVAN_TYPE]) || row->form == OLLSKUVAN_FORM_HEADER)
             continue;
-        if (!here(made, row) || row->form == OLLSKUVAN_FORM_KEPT)
+        if (!here(made, row))
             check_unselected(made, row);
         else if (is_list(row))
             check_list(made, row);
@@ -390,26 +388,26 @@ static void check_header(const struct made *made)
     other.fields[OLLSKUVAN_TYPE] += UINT64_C(1) << 32;
     is("type above 2^32", type, NULL, write_made(&other), OLLSKUVAN_REFUSED_TYPE);
     other = *made;
-    other.image.edition = 2;
+    other.of.edition = 2;
     other.fields[OLLSKUVAN_MISC] = (UINT64_C(1) << 16) + OLLSKUVAN_MISC_MMAP_BUILD_ID;
-    if (type == OLLSKUVAN_TYPE_MMAP2 && made->image.sample_type >> 19 == 0)
+    if (type == OLLSKUVAN_TYPE_MMAP2 && made->of.sample_type >> 19 == 0)
         is("misc above 65,535 with bit 14, edition 2", type, NULL, write_made(&other), OLLSKUVAN_REFUSED_BUILD_ID);
 }
 
 static void check_type(uint64_t type)
 {
     struct made made = { .plain = false };
-    made.image.edition = 4;
-    made.image.sample_type = some(UINT64_C(1) << 25);
+    made.of.edition = 4;
+    made.of.sample_type = some(UINT64_C(1) << 25);
     if (some(2) == 0)
-        made.image.sample_type &= 0x7ffff;
-    if ((made.image.sample_type & OLLSKUVAN_BIT_WEIGHT_STRUCT) != 0)
-        made.image.sample_type &= ~OLLSKUVAN_BIT_WEIGHT;
-    made.image.read_format = some(32);
-    made.image.sample_id_all = (uint32_t)some(2);
-    made.image.user_mask = some(0) & some(0);
-    made.image.interrupt_mask = some(8) == 0 ? 0 : some(256);
-    made.image.branch_sample_type = some(UINT64_C(1) << 19);
+        made.of.sample_type &= 0x7ffff;
+    if ((made.of.sample_type & OLLSKUVAN_BIT_WEIGHT_STRUCT) != 0)
+        made.of.sample_type &= ~OLLSKUVAN_BIT_WEIGHT;
+    made.of.read_format = some(32);
+    made.of.sample_id_all = (uint32_t)some(2);
+    made.of.user_mask = some(0) & some(0);
+    made.of.interrupt_mask = some(8) == 0 ? 0 : some(256);
+    made.of.branch_sample_type = some(UINT64_C(1) << 19);
     fill(&made, type, some(65536));
     made.fields[OLLSKUVAN_SIZE] = size_of(&made);
     check_round_trip(&made);
@@ -435,23 +433,23 @@ static uint64_t misc_of(uint64_t type, bool second)
 /* Bytes after the zero of a name, before a trailer: the names of plain values leave three. */
 static void put_stale(const struct made *made)
 {
-    uint64_t end = made->fields[OLLSKUVAN_SIZE] - 8 * ones(made->image.sample_type & OLLSKUVAN_TRAILER_BITS);
+    uint64_t end = made->fields[OLLSKUVAN_SIZE] - 8 * ones(made->of.sample_type & OLLSKUVAN_TRAILER_BITS);
     for (uint64_t i = stale_room(made); i > 0; i--)
         record[end - i] = (uint8_t)(0x70 + i);
 }
 
 /* Types first to last one after the other, in a ring that starts near its end so that one record crosses it. Of stale
  * ones those alone that have a name. */
-static void write_image(const char *folder, const char *name, const struct image *a, bool second, uint64_t first,
+static void write_image(const char *folder, const char *name, const struct ring_attributes *a, bool second, uint64_t first,
     uint64_t last, bool stale)
 {
     enum { RING = 8192, START = RING - 200 };
     static uint8_t bytes[IMAGE_HEADER + RING + IMAGE_BRANCH];
     size_t length = sizeof bytes - (a->branch_sample_type == 0 ? IMAGE_BRANCH : 0);
-    struct made made = { .image = *a, .plain = true };
+    struct made made = { .of = *a, .plain = true };
     char path[4096];
     size_t at = START;
-    made.image.edition = 4;
+    made.of.edition = 4;
     memset(bytes, 0, sizeof bytes);
     for (uint64_t type = first; type <= last; type++) {
         fill(&made, type, misc_of(type, second));
@@ -483,7 +481,7 @@ static void write_image(const char *folder, const char *name, const struct image
 
 static void write_images(const char *folder)
 {
-    struct image a = { .sample_type = 0x1ffbfff, .read_format = 0x1f, .sample_id_all = 1, .user_mask = 0xff0fff,
+    struct ring_attributes a = { .sample_type = 0x1ffbfff, .read_format = 0x1f, .sample_id_all = 1, .user_mask = 0xff0fff,
         .interrupt_mask = 0x1c0, .edition = 4 };
     write_image(folder, "every-type", &a, true, 1, TYPES, false);
     a.edition = 3;
@@ -503,7 +501,7 @@ static void write_images(const char *folder)
 /* READ, a SAMPLE with the hardware index, MMAP2: in editions 3 and 2. */
 static void write_indexed(const char *folder)
 {
-    struct image a = { .sample_type = OLLSKUVAN_BIT_TIME | OLLSKUVAN_BIT_BRANCHES | OLLSKUVAN_BIT_WEIGHT, .sample_id_all = 1,
+    struct ring_attributes a = { .sample_type = OLLSKUVAN_BIT_TIME | OLLSKUVAN_BIT_BRANCHES | OLLSKUVAN_BIT_WEIGHT, .sample_id_all = 1,
         .branch_sample_type = OLLSKUVAN_BRANCH_HW_INDEX | 9, .edition = 3 };
     write_image(folder, "indexed", &a, false, OLLSKUVAN_TYPE_READ, OLLSKUVAN_TYPE_MMAP2, false);
     a.edition = 2;
@@ -516,7 +514,7 @@ static void write_indexed(const char *folder)
 /* The five types that have a name, before a trailer. */
 static void write_dirty(const char *folder)
 {
-    struct image a = { .sample_type = OLLSKUVAN_BIT_TIME | OLLSKUVAN_BIT_CPU, .sample_id_all = 1, .edition = 3 };
+    struct ring_attributes a = { .sample_type = OLLSKUVAN_BIT_TIME | OLLSKUVAN_BIT_CPU, .sample_id_all = 1, .edition = 3 };
     write_image(folder, "dirty-names", &a, true, 1, TYPES, true);
 }
 

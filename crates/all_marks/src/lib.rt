@@ -4,8 +4,8 @@ ghost use Prim.Native.Nat.{ℕ, _≤_, _<_};
 ghost use lib.ListN.{length, getD};
 ghost use Rattle.meaning.specs.Schema.{trailer};
 ghost use Rattle.meaning.specs.Records.{room};
-ghost use Rattle.sums.specs.Sums.{sumsOf};
-ghost use Rattle.marks.specs.Marks.{lastType, Marked, Marks};
+ghost use Rattle.sums.specs.Sums.{sumMost, sumsOf};
+ghost use Rattle.marks.specs.Marks.{lastType, markCount, Marked, Marks};
 ghost use Rattle.marks.specs.Bases.{basesWith, Filled};
 use meaning::Attributes;
 use meaning::Known;
@@ -16,49 +16,49 @@ const TYPES: usize = 22;
 // The marks of all types, under an edition that has them; READ (8) and SAMPLE (9) are set afterwards. As a literal it is 32 stores: an
 // array that is indexed by a variable would be copied at each use.
 fn bases(t: u64) -> [u64; 32]
-    requires { ⌜ t ≤ 512 ⌝ }
+    requires { ⌜ t ≤ sumMost ⌝ }
     ensures { λ r. ⌜ r ≡ basesWith t ⌝ }
 {
     [
-        131092,
-        65576,
+        marks::NO_TYPE,
+        marks::NAME_AT_40,
         24 + t,
-        65552,
+        marks::NAME_AT_16,
         32 + t,
         32 + t,
         32 + t,
         32 + t,
         8 + t,
         8 + t,
-        65608,
+        marks::NAME_AT_72,
         32 + t,
         16 + t,
         16 + t,
         8 + t,
         16 + t,
-        65536,
-        65560,
+        marks::OPEN,
+        marks::NAME_AT_24,
         24 + t,
-        65552,
-        65536,
+        marks::NAME_AT_16,
+        marks::OPEN,
         16 + t,
-        131092,
-        131092,
-        131092,
-        131092,
-        131092,
-        131092,
-        131092,
-        131092,
-        131092,
-        131092,
+        marks::NO_TYPE,
+        marks::NO_TYPE,
+        marks::NO_TYPE,
+        marks::NO_TYPE,
+        marks::NO_TYPE,
+        marks::NO_TYPE,
+        marks::NO_TYPE,
+        marks::NO_TYPE,
+        marks::NO_TYPE,
+        marks::NO_TYPE,
     ]
 }
 
 // One number at the places from `from` on, up to `to`.
 fn filled(p: [u64; 32], from: usize, to: usize, v: u64) -> [u64; 32]
-    requires { ⌜ to ≤ 32 ⌝ }
-    requires { ⌜ length p ≡ 32 ⌝ }
+    requires { ⌜ to ≤ markCount ⌝ }
+    requires { ⌜ length p ≡ markCount ⌝ }
     ensures { λ r. ⌜ Filled p from to v r ⌝ }
 {
     let mut q = p;
@@ -74,12 +74,12 @@ fn filled(p: [u64; 32], from: usize, to: usize, v: u64) -> [u64; 32]
 fn type_marks(known: Known, a: Attributes, trail: u64) -> [u64; 32]
     requires { ⌜ known .kinds ≤ lastType ⌝ }
     requires { ⌜ trail ≡ room (trailer 1 a) ⌝ }
-    requires { ⌜ trail ≤ 512 ⌝ }
-    ensures { λ r. ⌜ (length r ≡ 32) ⌝ }
-    ensures { λ r. ⌜ ((kind : ℕ) → kind < 32 → (kind ≡ 8 → ⊥) → (kind ≡ 9 → ⊥) → Marked known a kind (getD r kind 0)) ⌝ }
+    requires { ⌜ trail ≤ sumMost ⌝ }
+    ensures { λ r. ⌜ (length r ≡ markCount) ⌝ }
+    ensures { λ r. ⌜ ((kind : ℕ) → kind < markCount → (kind ≡ 8 → ⊥) → (kind ≡ 9 → ⊥) → Marked known a kind (getD r kind 0)) ⌝ }
 {
     let next = known.kinds as usize + 1;
-    let p = filled(bases(trail), next, TYPES, 131092);
+    let p = filled(bases(trail), next, TYPES, marks::NO_TYPE);
     let why = record::unreadable(known, a, 1, 0);
     if why != 0 {
         return filled(p, 1, next, marks::REFUSED + why as u64);

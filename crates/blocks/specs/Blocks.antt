@@ -18,12 +18,20 @@ use Rattle.meaning.specs.declared.Width.{Width}
 use Rattle.meaning.specs.declared.Width.the-variants.{W4, W8}
 use Rattle.meaning.specs.Bytes.{num, numberAt, ones}
 use Rattle.meaning.specs.Items.{cursor, bytes, span, rule, holds, counted, before, step, walk}
-use Rattle.meaning.specs.Schema.{item}
+use Rattle.meaning.specs.Schema.{item, u32, mmap2}
 use Rattle.laws.specs.Shapes.{shape-out, shape-bad, shape-in}
 use Rattle.blocks.specs.declared.Place.{Place}
 use Rattle.blocks.specs.Seen.{place, seal, Leaves, Ends, walk-append}
 use Rattle.laws.specs.Again.{stuck}
 use Rattle.blocks.specs.Steady.{oneWidth, widthOf, steady, total, steady-in, steady-out}
+
+-- ---- MMAP2 with a build id: the fields before it; protection and flags, which stand between it and the name
+
+abbrev pub buildFront : List Item
+buildFront = take 9 (mmap2 true)
+
+abbrev pub protFlags : List Item
+protFlags = u32 ∷ u32 ∷ []
 
 -- ---- one item that is on, from a cursor that was not refused
 

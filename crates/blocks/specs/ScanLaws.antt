@@ -1,6 +1,6 @@
 -- The first zero, k bytes at a time. Assumes nothing.
 use mathlib.Core.Path.{_≡_, refl, sym, ap, _∙_}
-use mathlib.Core.Bool.{Bool, true, false, _||_, true≢false}
+use mathlib.Core.Bool.{Bool, true, false, _||_, true≢false, or-false}
 use mathlib.Core.List.{List}
 use Prim.Native.Nat.{ℕ, zero, suc, _+_, _-_, _%_, _<_, _≤_}
 use native.Mathlib.Nat.{zero-add, add-zero, suc-add}
@@ -61,16 +61,12 @@ module _ (xs : List ℕ) (at : ℕ) where
   unfolding nameOk
   name-early h = let l : at + zeroIn (drop at xs) < length xs = omega arith in simp (lt-ltb _ _ l, lt-leb _ _ h)
 
-or-none : (a : Bool) → (a || false) ≡ a
-or-none true = refl
-or-none false = refl
-
 pub four : (xs : List ℕ) (at : ℕ) → (eqb (getD xs at 0) 0 || (eqb (getD xs (at + 1) 0) 0 || (eqb (getD xs (at + 2) 0) 0 || eqb (getD xs (at + 3) 0) 0))) ≡ hasZero 4 xs at
 unfolding hasZero
 four xs at =
     let e₂ : at + 1 + 1 ≡ at + 2 = omega arith in
     let e₃ : at + 2 + 1 ≡ at + 3 = omega arith in
-    rw (e₂, e₃, or-none (eqb (getD xs (at + 3) 0) 0))
+    rw (e₂, e₃, or-false (eqb (getD xs (at + 3) 0) 0))
 
 -- a scan that has come to i with no zero
 abbrev pub Scanned : List ℕ → ℕ → ℕ → Type 0

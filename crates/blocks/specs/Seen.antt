@@ -14,6 +14,10 @@ use Rattle.meaning.specs.Records.{closed}
 use Rattle.laws.specs.Again.{stuck}
 use Rattle.blocks.specs.declared.Place.{Place}
 
+-- every record is shorter: its size is a number of two bytes
+abbrev pub sizeBound : ℕ
+sizeBound = 65536
+
 abbrev pub place : ℕ → ℕ → Place
 place at why = record { at = at; why = why }
 

@@ -54,6 +54,11 @@ unfoldable pub total : List Item → ℕ
 total [] = 0
 total (i ∷ is) = one i + total is
 
+-- two items of four bytes are one word
+pub two-fours : (b : Bool) → cond b 4 0 + cond b 4 0 ≡ cond b 8 0
+two-fours true = refl
+two-fours false = refl
+
 -- a shape of one width: past it where its bytes are there, else 30
 shape-there : (sh : Shape) (xs : List ℕ) (at n old : ℕ) → oneWidth sh ≡ true → at + widthOf sh ≤ length xs
     → shapeStep sh (cursor at n old 0) (drop at xs) ≡ cursor (at + widthOf sh) n old 0

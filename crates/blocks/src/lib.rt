@@ -6,7 +6,7 @@ ghost use Prim.Native.Nat.{_+_, _*_, _≤_, _<_};
 ghost use lib.ListN.{length};
 ghost use Rattle.meaning.specs.declared.Item.{Item};
 ghost use Rattle.meaning.specs.Bytes.{numberAt, ones};
-ghost use Rattle.blocks.specs.Seen.{place, Leaves, Ends};
+ghost use Rattle.blocks.specs.Seen.{sizeBound, place, Leaves, Ends};
 ghost use Rattle.blocks.specs.Steady.{steady, total};
 ghost use Rattle.blocks.specs.Blocks.{countedList, countedPlace, branchList, rawBytes, auxBytes, registerList, stackBytes, filledAnswer};
 
@@ -40,9 +40,9 @@ pub fn sum(s: &[u8], at: usize, k: usize) -> Place
 // count is bounded before it is multiplied.
 pub fn elements(s: &[u8], at: usize, fixed: usize, unit: usize) -> Place
     requires { ⌜ at ≤ length (now s) ⌝ }
-    requires { ⌜ length (now s) < 65536 ⌝ }
+    requires { ⌜ length (now s) < sizeBound ⌝ }
     requires { ⌜ 8 ≤ fixed ⌝ }
-    requires { ⌜ fixed ≤ 65536 ⌝ }
+    requires { ⌜ fixed ≤ sizeBound ⌝ }
     requires { ⌜ 1 ≤ unit ⌝ }
     requires { ⌜ unit ≤ 24 ⌝ }
     ensures { λ r. ⌜ r ≡ countedPlace (now (s .entry)) at fixed unit ⌝ }
@@ -65,7 +65,7 @@ pub fn elements(s: &[u8], at: usize, fixed: usize, unit: usize) -> Place
 // The same where it is selected, with nothing between count and elements.
 pub fn counted(s: &[u8], at: usize, on: bool, unit: usize) -> Place
     requires { ⌜ at ≤ length (now s) ⌝ }
-    requires { ⌜ length (now s) < 65536 ⌝ }
+    requires { ⌜ length (now s) < sizeBound ⌝ }
     requires { ⌜ 1 ≤ unit ⌝ }
     requires { ⌜ unit ≤ 24 ⌝ }
     ensures { λ r. ⌜ Ends (now (s .entry)) (countedList on unit) at r ⌝ }
@@ -79,7 +79,7 @@ pub fn counted(s: &[u8], at: usize, on: bool, unit: usize) -> Place
 // Branches: a count, the hardware index if there is one, and so many entries of 24 bytes.
 pub fn branches(s: &[u8], at: usize, on: bool, index: bool) -> Place
     requires { ⌜ at ≤ length (now s) ⌝ }
-    requires { ⌜ length (now s) < 65536 ⌝ }
+    requires { ⌜ length (now s) < sizeBound ⌝ }
     ensures { λ r. ⌜ Ends (now (s .entry)) (branchList on index) at r ⌝ }
 {
     if !on {

@@ -2,16 +2,18 @@
 // Written by tools/chains.py from the rows of crate table.
 ghost use mathlib.Core.Path.{_≡_};
 ghost use Rattle.meaning.specs.Schema.{schema, trailer as trailerOf};
+ghost use Rattle.meaning.specs.Values.{bodyWords, trailWords};
 ghost use Rattle.layouts.specs.Lists.{mmap, lost, comm, exit, throttle, read-1, read-2, read, mmap2-1, mmap2-2, mmap2-3, mmap2, itrace-start, lost-samples, namespaces, ksymbol, bpf-event, cgroup, text-poke, trailer-1, trailer-2, trailer};
 ghost use Rattle.table.specs.Flags.{flagAt};
 ghost use Rattle.fills.specs.Chains.{Ready, Filling};
+use layouts::types;
 use meaning::Attributes;
 use meaning::Cursor;
 
 // 1 MMAP
 fn mmap(s: &[u8], c: Cursor, out: &mut [u64]) -> Cursor
-    requires { ⌜ Ready mmap (now s) c (now out) 3 ⌝ }
-    ensures { λ r. ⌜ Filling mmap (now (s .entry)) c (now (out .entry)) 3 (now (out .exit)) r ⌝ }
+    requires { ⌜ Ready mmap (now s) c (now out) bodyWords ⌝ }
+    ensures { λ r. ⌜ Filling mmap (now (s .entry)) c (now (out .entry)) bodyWords (now (out .exit)) r ⌝ }
 {
     let c0 = fills::number4(s, c, true, out, 3); // pid
     let c1 = fills::number4(s, c0, true, out, 4); // tid
@@ -23,8 +25,8 @@ fn mmap(s: &[u8], c: Cursor, out: &mut [u64]) -> Cursor
 
 // 2 LOST
 fn lost(s: &[u8], c: Cursor, out: &mut [u64]) -> Cursor
-    requires { ⌜ Ready lost (now s) c (now out) 3 ⌝ }
-    ensures { λ r. ⌜ Filling lost (now (s .entry)) c (now (out .entry)) 3 (now (out .exit)) r ⌝ }
+    requires { ⌜ Ready lost (now s) c (now out) bodyWords ⌝ }
+    ensures { λ r. ⌜ Filling lost (now (s .entry)) c (now (out .entry)) bodyWords (now (out .exit)) r ⌝ }
 {
     let c0 = fills::number8(s, c, true, out, 3); // id
     fills::number8(s, c0, true, out, 4) // lost
@@ -32,8 +34,8 @@ fn lost(s: &[u8], c: Cursor, out: &mut [u64]) -> Cursor
 
 // 3 COMM
 fn comm(s: &[u8], c: Cursor, out: &mut [u64]) -> Cursor
-    requires { ⌜ Ready comm (now s) c (now out) 3 ⌝ }
-    ensures { λ r. ⌜ Filling comm (now (s .entry)) c (now (out .entry)) 3 (now (out .exit)) r ⌝ }
+    requires { ⌜ Ready comm (now s) c (now out) bodyWords ⌝ }
+    ensures { λ r. ⌜ Filling comm (now (s .entry)) c (now (out .entry)) bodyWords (now (out .exit)) r ⌝ }
 {
     let c0 = fills::number4(s, c, true, out, 3); // pid
     let c1 = fills::number4(s, c0, true, out, 4); // tid
@@ -42,8 +44,8 @@ fn comm(s: &[u8], c: Cursor, out: &mut [u64]) -> Cursor
 
 // 4 EXIT
 fn exit(s: &[u8], c: Cursor, out: &mut [u64]) -> Cursor
-    requires { ⌜ Ready exit (now s) c (now out) 3 ⌝ }
-    ensures { λ r. ⌜ Filling exit (now (s .entry)) c (now (out .entry)) 3 (now (out .exit)) r ⌝ }
+    requires { ⌜ Ready exit (now s) c (now out) bodyWords ⌝ }
+    ensures { λ r. ⌜ Filling exit (now (s .entry)) c (now (out .entry)) bodyWords (now (out .exit)) r ⌝ }
 {
     let c0 = fills::number4(s, c, true, out, 3); // pid
     let c1 = fills::number4(s, c0, true, out, 4); // ppid
@@ -54,8 +56,8 @@ fn exit(s: &[u8], c: Cursor, out: &mut [u64]) -> Cursor
 
 // 5 THROTTLE
 fn throttle(s: &[u8], c: Cursor, out: &mut [u64]) -> Cursor
-    requires { ⌜ Ready throttle (now s) c (now out) 3 ⌝ }
-    ensures { λ r. ⌜ Filling throttle (now (s .entry)) c (now (out .entry)) 3 (now (out .exit)) r ⌝ }
+    requires { ⌜ Ready throttle (now s) c (now out) bodyWords ⌝ }
+    ensures { λ r. ⌜ Filling throttle (now (s .entry)) c (now (out .entry)) bodyWords (now (out .exit)) r ⌝ }
 {
     let c0 = fills::number8(s, c, true, out, 3); // time
     let c1 = fills::number8(s, c0, true, out, 4); // id
@@ -64,8 +66,8 @@ fn throttle(s: &[u8], c: Cursor, out: &mut [u64]) -> Cursor
 
 // 8 READ, part 1
 fn read_1(s: &[u8], f: u64, c: Cursor, out: &mut [u64]) -> Cursor
-    requires { ⌜ Ready (read-1 f) (now s) c (now out) 3 ⌝ }
-    ensures { λ r. ⌜ Filling (read-1 f) (now (s .entry)) c (now (out .entry)) 3 (now (out .exit)) r ⌝ }
+    requires { ⌜ Ready (read-1 f) (now s) c (now out) bodyWords ⌝ }
+    ensures { λ r. ⌜ Filling (read-1 f) (now (s .entry)) c (now (out .entry)) bodyWords (now (out .exit)) r ⌝ }
 {
     let c0 = fills::number4(s, c, true, out, 3); // pid
     let c1 = fills::number4(s, c0, true, out, 4); // tid
@@ -89,8 +91,8 @@ fn read_2(s: &[u8], f: u64, c: Cursor, out: &mut [u64]) -> Cursor
 
 // 8 READ
 fn read(s: &[u8], f: u64, c: Cursor, out: &mut [u64]) -> Cursor
-    requires { ⌜ Ready (read f) (now s) c (now out) 3 ⌝ }
-    ensures { λ r. ⌜ Filling (read f) (now (s .entry)) c (now (out .entry)) 3 (now (out .exit)) r ⌝ }
+    requires { ⌜ Ready (read f) (now s) c (now out) bodyWords ⌝ }
+    ensures { λ r. ⌜ Filling (read f) (now (s .entry)) c (now (out .entry)) bodyWords (now (out .exit)) r ⌝ }
 {
     let c0 = read_1(s, f, c, out);
     read_2(s, f, c0, out)
@@ -98,8 +100,8 @@ fn read(s: &[u8], f: u64, c: Cursor, out: &mut [u64]) -> Cursor
 
 // 10 MMAP2, part 1
 fn mmap2_1(s: &[u8], c: Cursor, out: &mut [u64]) -> Cursor
-    requires { ⌜ Ready mmap2-1 (now s) c (now out) 3 ⌝ }
-    ensures { λ r. ⌜ Filling mmap2-1 (now (s .entry)) c (now (out .entry)) 3 (now (out .exit)) r ⌝ }
+    requires { ⌜ Ready mmap2-1 (now s) c (now out) bodyWords ⌝ }
+    ensures { λ r. ⌜ Filling mmap2-1 (now (s .entry)) c (now (out .entry)) bodyWords (now (out .exit)) r ⌝ }
 {
     let c0 = fills::number4(s, c, true, out, 3); // pid
     let c1 = fills::number4(s, c0, true, out, 4); // tid
@@ -134,8 +136,8 @@ fn mmap2_3(s: &[u8], misc: u64, c: Cursor, out: &mut [u64]) -> Cursor
 
 // 10 MMAP2
 fn mmap2(s: &[u8], misc: u64, c: Cursor, out: &mut [u64]) -> Cursor
-    requires { ⌜ Ready (mmap2 misc) (now s) c (now out) 3 ⌝ }
-    ensures { λ r. ⌜ Filling (mmap2 misc) (now (s .entry)) c (now (out .entry)) 3 (now (out .exit)) r ⌝ }
+    requires { ⌜ Ready (mmap2 misc) (now s) c (now out) bodyWords ⌝ }
+    ensures { λ r. ⌜ Filling (mmap2 misc) (now (s .entry)) c (now (out .entry)) bodyWords (now (out .exit)) r ⌝ }
 {
     let c0 = mmap2_1(s, c, out);
     let c1 = mmap2_2(s, misc, c0, out);
@@ -144,8 +146,8 @@ fn mmap2(s: &[u8], misc: u64, c: Cursor, out: &mut [u64]) -> Cursor
 
 // 12 ITRACE_START
 fn itrace_start(s: &[u8], c: Cursor, out: &mut [u64]) -> Cursor
-    requires { ⌜ Ready itrace-start (now s) c (now out) 3 ⌝ }
-    ensures { λ r. ⌜ Filling itrace-start (now (s .entry)) c (now (out .entry)) 3 (now (out .exit)) r ⌝ }
+    requires { ⌜ Ready itrace-start (now s) c (now out) bodyWords ⌝ }
+    ensures { λ r. ⌜ Filling itrace-start (now (s .entry)) c (now (out .entry)) bodyWords (now (out .exit)) r ⌝ }
 {
     let c0 = fills::number4(s, c, true, out, 3); // pid
     fills::number4(s, c0, true, out, 4) // tid
@@ -153,16 +155,16 @@ fn itrace_start(s: &[u8], c: Cursor, out: &mut [u64]) -> Cursor
 
 // 13 LOST_SAMPLES
 fn lost_samples(s: &[u8], c: Cursor, out: &mut [u64]) -> Cursor
-    requires { ⌜ Ready lost-samples (now s) c (now out) 3 ⌝ }
-    ensures { λ r. ⌜ Filling lost-samples (now (s .entry)) c (now (out .entry)) 3 (now (out .exit)) r ⌝ }
+    requires { ⌜ Ready lost-samples (now s) c (now out) bodyWords ⌝ }
+    ensures { λ r. ⌜ Filling lost-samples (now (s .entry)) c (now (out .entry)) bodyWords (now (out .exit)) r ⌝ }
 {
     fills::number8(s, c, true, out, 3) // lost
 }
 
 // 16 NAMESPACES
 fn namespaces(s: &[u8], c: Cursor, out: &mut [u64]) -> Cursor
-    requires { ⌜ Ready namespaces (now s) c (now out) 3 ⌝ }
-    ensures { λ r. ⌜ Filling namespaces (now (s .entry)) c (now (out .entry)) 3 (now (out .exit)) r ⌝ }
+    requires { ⌜ Ready namespaces (now s) c (now out) bodyWords ⌝ }
+    ensures { λ r. ⌜ Filling namespaces (now (s .entry)) c (now (out .entry)) bodyWords (now (out .exit)) r ⌝ }
 {
     let c0 = fills::number4(s, c, true, out, 3); // pid
     let c1 = fills::number4(s, c0, true, out, 4); // tid
@@ -172,8 +174,8 @@ fn namespaces(s: &[u8], c: Cursor, out: &mut [u64]) -> Cursor
 
 // 17 KSYMBOL
 fn ksymbol(s: &[u8], c: Cursor, out: &mut [u64]) -> Cursor
-    requires { ⌜ Ready ksymbol (now s) c (now out) 3 ⌝ }
-    ensures { λ r. ⌜ Filling ksymbol (now (s .entry)) c (now (out .entry)) 3 (now (out .exit)) r ⌝ }
+    requires { ⌜ Ready ksymbol (now s) c (now out) bodyWords ⌝ }
+    ensures { λ r. ⌜ Filling ksymbol (now (s .entry)) c (now (out .entry)) bodyWords (now (out .exit)) r ⌝ }
 {
     let c0 = fills::number8(s, c, true, out, 3); // addr
     let c1 = fills::number4(s, c0, true, out, 4); // len
@@ -184,8 +186,8 @@ fn ksymbol(s: &[u8], c: Cursor, out: &mut [u64]) -> Cursor
 
 // 18 BPF_EVENT
 fn bpf_event(s: &[u8], c: Cursor, out: &mut [u64]) -> Cursor
-    requires { ⌜ Ready bpf-event (now s) c (now out) 3 ⌝ }
-    ensures { λ r. ⌜ Filling bpf-event (now (s .entry)) c (now (out .entry)) 3 (now (out .exit)) r ⌝ }
+    requires { ⌜ Ready bpf-event (now s) c (now out) bodyWords ⌝ }
+    ensures { λ r. ⌜ Filling bpf-event (now (s .entry)) c (now (out .entry)) bodyWords (now (out .exit)) r ⌝ }
 {
     let c0 = fills::number2(s, c, true, out, 3); // type
     let c1 = fills::number2(s, c0, true, out, 4); // flags
@@ -195,8 +197,8 @@ fn bpf_event(s: &[u8], c: Cursor, out: &mut [u64]) -> Cursor
 
 // 19 CGROUP
 fn cgroup(s: &[u8], c: Cursor, out: &mut [u64]) -> Cursor
-    requires { ⌜ Ready cgroup (now s) c (now out) 3 ⌝ }
-    ensures { λ r. ⌜ Filling cgroup (now (s .entry)) c (now (out .entry)) 3 (now (out .exit)) r ⌝ }
+    requires { ⌜ Ready cgroup (now s) c (now out) bodyWords ⌝ }
+    ensures { λ r. ⌜ Filling cgroup (now (s .entry)) c (now (out .entry)) bodyWords (now (out .exit)) r ⌝ }
 {
     let c0 = fills::number8(s, c, true, out, 3); // id
     fills::name(s, c0, true, out, 4) // name
@@ -204,8 +206,8 @@ fn cgroup(s: &[u8], c: Cursor, out: &mut [u64]) -> Cursor
 
 // 20 TEXT_POKE
 fn text_poke(s: &[u8], c: Cursor, out: &mut [u64]) -> Cursor
-    requires { ⌜ Ready text-poke (now s) c (now out) 3 ⌝ }
-    ensures { λ r. ⌜ Filling text-poke (now (s .entry)) c (now (out .entry)) 3 (now (out .exit)) r ⌝ }
+    requires { ⌜ Ready text-poke (now s) c (now out) bodyWords ⌝ }
+    ensures { λ r. ⌜ Filling text-poke (now (s .entry)) c (now (out .entry)) bodyWords (now (out .exit)) r ⌝ }
 {
     let c0 = fills::number8(s, c, true, out, 3); // addr
     let c1 = fills::count2(s, c0, true, out, 4); // old length
@@ -217,8 +219,8 @@ fn text_poke(s: &[u8], c: Cursor, out: &mut [u64]) -> Cursor
 
 // the trailer, part 1
 fn trailer_1(s: &[u8], x: u64, c: Cursor, out: &mut [u64]) -> Cursor
-    requires { ⌜ Ready (trailer-1 x) (now s) c (now out) 48 ⌝ }
-    ensures { λ r. ⌜ Filling (trailer-1 x) (now (s .entry)) c (now (out .entry)) 48 (now (out .exit)) r ⌝ }
+    requires { ⌜ Ready (trailer-1 x) (now s) c (now out) trailWords ⌝ }
+    ensures { λ r. ⌜ Filling (trailer-1 x) (now (s .entry)) c (now (out .entry)) trailWords (now (out .exit)) r ⌝ }
 {
     let c0 = fills::number4(s, c, wire::has_bit(x, 1), out, 48); // pid
     let c1 = fills::number4(s, c0, wire::has_bit(x, 1), out, 49); // tid
@@ -239,8 +241,8 @@ fn trailer_2(s: &[u8], x: u64, c: Cursor, out: &mut [u64]) -> Cursor
 
 // the trailer
 fn trailer(s: &[u8], x: u64, c: Cursor, out: &mut [u64]) -> Cursor
-    requires { ⌜ Ready (trailer x) (now s) c (now out) 48 ⌝ }
-    ensures { λ r. ⌜ Filling (trailer x) (now (s .entry)) c (now (out .entry)) 48 (now (out .exit)) r ⌝ }
+    requires { ⌜ Ready (trailer x) (now s) c (now out) trailWords ⌝ }
+    ensures { λ r. ⌜ Filling (trailer x) (now (s .entry)) c (now (out .entry)) trailWords (now (out .exit)) r ⌝ }
 {
     let c0 = trailer_1(s, x, c, out);
     trailer_2(s, x, c0, out)
@@ -248,8 +250,8 @@ fn trailer(s: &[u8], x: u64, c: Cursor, out: &mut [u64]) -> Cursor
 
 // The fields of a type; a type that has none, or that the table does not have, changes nothing.
 pub fn fields(s: &[u8], kind: u64, misc: u64, a: Attributes, c: Cursor, out: &mut [u64]) -> Cursor
-    requires { ⌜ Ready (schema kind misc a) (now s) c (now out) 3 ⌝ }
-    ensures { λ r. ⌜ Filling (schema kind misc a) (now (s .entry)) c (now (out .entry)) 3 (now (out .exit)) r ⌝ }
+    requires { ⌜ Ready (schema kind misc a) (now s) c (now out) bodyWords ⌝ }
+    ensures { λ r. ⌜ Filling (schema kind misc a) (now (s .entry)) c (now (out .entry)) bodyWords (now (out .exit)) r ⌝ }
 {
     let x = a.sample;
     let f = a.format;
@@ -258,27 +260,27 @@ pub fn fields(s: &[u8], kind: u64, misc: u64, a: Attributes, c: Cursor, out: &mu
     let interrupt = a.interrupt;
     match kind {
         0 => c,
-        1 => mmap(s, c, out),
-        2 => lost(s, c, out),
-        3 => comm(s, c, out),
-        4 => exit(s, c, out),
-        5 => throttle(s, c, out),
-        6 => throttle(s, c, out),
-        7 => exit(s, c, out),
-        8 => read(s, f, c, out),
-        9 => sample_fills::sample(s, x, f, b, user, interrupt, c, out),
-        10 => mmap2(s, misc, c, out),
-        11 => throttle(s, c, out),
-        12 => itrace_start(s, c, out),
-        13 => lost_samples(s, c, out),
-        14 => c,
-        15 => itrace_start(s, c, out),
-        16 => namespaces(s, c, out),
-        17 => ksymbol(s, c, out),
-        18 => bpf_event(s, c, out),
-        19 => cgroup(s, c, out),
-        20 => text_poke(s, c, out),
-        21 => lost_samples(s, c, out),
+        types::MMAP => mmap(s, c, out),
+        types::LOST => lost(s, c, out),
+        types::COMM => comm(s, c, out),
+        types::EXIT => exit(s, c, out),
+        types::THROTTLE => throttle(s, c, out),
+        types::UNTHROTTLE => throttle(s, c, out),
+        types::FORK => exit(s, c, out),
+        types::READ => read(s, f, c, out),
+        types::SAMPLE => sample_fills::sample(s, x, f, b, user, interrupt, c, out),
+        types::MMAP2 => mmap2(s, misc, c, out),
+        types::AUX => throttle(s, c, out),
+        types::ITRACE_START => itrace_start(s, c, out),
+        types::LOST_SAMPLES => lost_samples(s, c, out),
+        types::SWITCH => c,
+        types::SWITCH_CPU_WIDE => itrace_start(s, c, out),
+        types::NAMESPACES => namespaces(s, c, out),
+        types::KSYMBOL => ksymbol(s, c, out),
+        types::BPF_EVENT => bpf_event(s, c, out),
+        types::CGROUP => cgroup(s, c, out),
+        types::TEXT_POKE => text_poke(s, c, out),
+        types::AUX_OUTPUT_HW_ID => lost_samples(s, c, out),
         _ => c,
     }
 }
@@ -289,35 +291,35 @@ pub fn flag_at(kind: u64) -> usize
 {
     match kind {
         0 => 0,
-        1 => 10,
-        2 => 0,
-        3 => 7,
-        4 => 0,
-        5 => 0,
-        6 => 0,
-        7 => 0,
-        8 => 0,
-        9 => 0,
-        10 => 18,
-        11 => 0,
-        12 => 0,
-        13 => 0,
-        14 => 0,
-        15 => 0,
-        16 => 0,
-        17 => 9,
-        18 => 0,
-        19 => 6,
-        20 => 0,
-        21 => 0,
+        types::MMAP => 10,
+        types::LOST => 0,
+        types::COMM => 7,
+        types::EXIT => 0,
+        types::THROTTLE => 0,
+        types::UNTHROTTLE => 0,
+        types::FORK => 0,
+        types::READ => 0,
+        types::SAMPLE => 0,
+        types::MMAP2 => 18,
+        types::AUX => 0,
+        types::ITRACE_START => 0,
+        types::LOST_SAMPLES => 0,
+        types::SWITCH => 0,
+        types::SWITCH_CPU_WIDE => 0,
+        types::NAMESPACES => 0,
+        types::KSYMBOL => 9,
+        types::BPF_EVENT => 0,
+        types::CGROUP => 6,
+        types::TEXT_POKE => 0,
+        types::AUX_OUTPUT_HW_ID => 0,
         _ => 0,
     }
 }
 
 // The trailer of a record of this type, the cursor at its start.
 pub fn trail(s: &[u8], kind: u64, a: Attributes, c: Cursor, out: &mut [u64]) -> Cursor
-    requires { ⌜ Ready (trailerOf kind a) (now s) c (now out) 48 ⌝ }
-    ensures { λ r. ⌜ Filling (trailerOf kind a) (now (s .entry)) c (now (out .entry)) 48 (now (out .exit)) r ⌝ }
+    requires { ⌜ Ready (trailerOf kind a) (now s) c (now out) trailWords ⌝ }
+    ensures { λ r. ⌜ Filling (trailerOf kind a) (now (s .entry)) c (now (out .entry)) trailWords (now (out .exit)) r ⌝ }
 {
     trailer(s, layouts::trailer_bits(kind, a), c, out)
 }

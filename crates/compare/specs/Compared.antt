@@ -12,17 +12,12 @@ use Rattle.meaning.specs.declared.Known.{Known}
 use Rattle.meaning.specs.Items.{Con}
 use Rattle.meaning.specs.Ring.{Asked, frame}
 use Rattle.meaning.specs.Events.{attributesOf, eventAt, identifiers, indexOf, judgeEvents}
+unfoldable pub use Rattle.laws.specs.Bytes.{sameBytes}
 use Rattle.runs.specs.Cutting.{Cut, Cuts, begin, cutBy}
 use Rattle.compare.specs.declared.Compared.{Compared}
 use Rattle.compare.specs.Fields.{Reads, fields}
 
 -- ---- two records
-
-unfoldable pub sameBytes : List ℕ → List ℕ → Bool
-sameBytes [] [] = true
-sameBytes [] (y ∷ ys) = false
-sameBytes (x ∷ xs) [] = false
-sameBytes (x ∷ xs) (y ∷ ys) = eqb x y && sameBytes xs ys
 
 unfoldable pub same : Con → Con → Bool
 same u v = eqb (u .num) (v .num) && sameBytes (u .list) (v .list)

@@ -9,7 +9,7 @@ use mathlib.Core.List.{List, [], _∷_, map}
 use mathlib.Core.Logic.{_⊎_, ⊎-elim}
 use lib.ListN.{length}
 use lib.Dec.{eqb}
-use borrow.Author.Tests.{eqb-true, eqb-false, eq-eqb, ne-eqb}
+use borrow.Author.Tests.{eq-eqb}
 use Rattle.meaning.specs.declared.Attributes.{Attributes}
 use Rattle.meaning.specs.declared.Event.{Event}
 use Rattle.meaning.specs.declared.Known.{Known}
@@ -19,6 +19,7 @@ use Rattle.meaning.specs.Records.{Layout, Value, layout, kindOf, miscOf, sizeOf
 use Rattle.meaning.specs.Events.{identifierOf, judgeEvents}
 use Rattle.laws.specs.Whole.{Decodes, record-again, record-there, flag-unwritten}
 use Rattle.laws.specs.Every.{sound}
+use Rattle.laws.specs.Lookup.{eqb-turn}
 use Rattle.runs.specs.Cutting.{Cut, Cuts, All, recordOf}
 use Rattle.compare.specs.declared.Compared.{Compared}
 use Rattle.compare.specs.Fields.{Reads, fields, accepted, otherFields, bodyFields, tailFields, flagField}
@@ -107,23 +108,16 @@ ignored-alike k a xs ys sx sy cx cy e f =
 
 -- ---- the two sides exchanged
 
-eqb-turned : (a b : ℕ) → eqb a b ≡ eqb b a
-eqb-turned a b = by (eqb a b) refl
-  where
-    by : (t : Bool) → eqb a b ≡ t → t ≡ eqb b a
-    by true e = sym (eq-eqb b a (sym (eqb-true a b e)))
-    by false e = sym (ne-eqb b a (λ z. eqb-false a b e (sym z)))
-
 bytes-turned : (xs ys : List ℕ) → sameBytes xs ys ≡ sameBytes ys xs
 unfolding sameBytes
 bytes-turned [] [] = refl
 bytes-turned [] (y ∷ ys) = refl
 bytes-turned (x ∷ xs) [] = refl
-bytes-turned (x ∷ xs) (y ∷ ys) = ap₂ (λ (a b : Bool). a && b) (eqb-turned x y) (bytes-turned xs ys)
+bytes-turned (x ∷ xs) (y ∷ ys) = ap₂ (λ (a b : Bool). a && b) (eqb-turn x y) (bytes-turned xs ys)
 
 same-turned : (u v : Con) → same u v ≡ same v u
 unfolding same
-same-turned u v = ap₂ (λ (a b : Bool). a && b) (eqb-turned (u .num) (v .num)) (bytes-turned (u .list) (v .list))
+same-turned u v = ap₂ (λ (a b : Bool). a && b) (eqb-turn (u .num) (v .num)) (bytes-turned (u .list) (v .list))
 
 alike-turned : (us vs : List Con) → alike us vs ≡ alike vs us
 unfolding alike

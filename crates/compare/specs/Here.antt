@@ -13,7 +13,7 @@ use Rattle.compare.specs.declared.Compared.{Compared}
 use Rattle.compare.specs.Fields.{Reads, fields}
 use Rattle.compare.specs.Compared.{alike, agree, report, Side, sideOf, compared, scratchThen}
 use Rattle.compare.specs.Sides.{framed-side}
-use Rattle.compare.specs.Turns.{endOf, Holds, holds-start, ends-any, pair}
+use Rattle.compare.specs.Turns.{endOf, ComparedHolds, holds-start, ends-any, pair}
 
 abbrev spot : ℕ → ℕ → List ℕ → Spot
 spot tail bytes scratch = record { tail = tail; bytes = bytes; room = 0; scratch = scratch }
@@ -29,7 +29,7 @@ module _ (R : Reads) (asked : Asked) (x y : List ℕ) (hl hr tl tr : ℕ) (ul ur
   pub record Here (n t s : ℕ) (u v : List ℕ) : Type 0 where
     pub b : ℕ
     pub c : ℕ
-    pub holds : Holds R L Q hl hr n (spot t b u) (spot s c v)
+    pub holds : ComparedHolds R L Q hl hr n (spot t b u) (spot s c v)
     pub u-long : length u ≡ length ul
     pub v-long : length v ≡ length ur
 

@@ -17,13 +17,12 @@ use Rattle.meaning.specs.declared.Shape.the-variants.{Number}
 use Rattle.meaning.specs.declared.Width.the-variants.{W8}
 use Rattle.meaning.specs.Bytes.{num, numberAt, bit}
 use Rattle.meaning.specs.Items.{Con, con, span, holds, part, step, walk, content, contents}
-use Rattle.meaning.specs.Schema.{sample, schema, trails, trailer}
+use Rattle.meaning.specs.Schema.{item, sample, schema, trails, trailer}
 use Rattle.meaning.specs.Records.{layout, fixedShape, fixed, roomShape, room, kindOf, miscOf, origin, fieldsOf, fieldsAnswer, checkBy, bodyOf, tailOf, value}
-use Rattle.laws.specs.There.{item}
 use Rattle.laws.specs.Again.{fine, stepped, item-passed}
 use Rattle.laws.specs.Answers.{fields-zero, check-zero}
 use Rattle.laws.specs.Fixed.{fixed-run}
-use Rattle.laws.specs.Words.{front}
+use Rattle.laws.specs.Put.{take-within}
 use Rattle.meaning.specs.Events.{identifierOf}
 use Rattle.compare.specs.Fields.{one}
 
@@ -76,7 +75,7 @@ module _ (k : Known) (a : Attributes) (xs : List ℕ) (h : checkBy (layout k a) 
       let w = word-there F (drop 1 (sample a)) (origin 8) refl (ap (λ (l : List Item). walk F l (origin 8) .why) (sym s) ∙ z .1) in
       let d = length-drop 8 F in
       let l : length F ≡ n = length-take-le n xs (omega arith) in
-      let q : take 8 (drop 8 F) ≡ take 8 (drop 8 xs) = front 8 8 n xs (omega (arith, w, d, l)) in
+      let q : take 8 (drop 8 F) ≡ take 8 (drop 8 xs) = take-within 8 8 n xs (omega (arith, w, d, l)) in
       ap (λ (l : List Item). take 1 (contents F l (origin 8))) s
       ∙ ap (λ (v : Con). v ∷ []) (word F (origin 8) true refl ∙ ap (λ (l : List ℕ). one (num l)) q)
       ∙ ap (λ (b : Bool). one (cond b (numberAt 8 xs 8) (numberAt 8 xs (length xs - 8))) ∷ []) (sym (eq-eqb (kindOf xs) 9 e))

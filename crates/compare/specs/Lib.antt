@@ -10,7 +10,6 @@ pub mod Meeting
 pub mod Sides
 pub mod Turns
 pub mod Here
-pub mod Slices
 pub mod Inner
 pub mod Others
 pub mod Facts

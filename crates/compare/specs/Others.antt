@@ -16,11 +16,10 @@ use Rattle.meaning.specs.declared.Shape.the-variants.{Number}
 use Rattle.meaning.specs.declared.Width.the-variants.{W8}
 use Rattle.meaning.specs.Bytes.{bit}
 use Rattle.meaning.specs.Items.{Con, con, span, holds, counted, before, past, part, step, walk, content, contents}
-use Rattle.meaning.specs.Schema.{sample, schema, trailer}
+use Rattle.meaning.specs.Schema.{item, sample, schema, trailer}
 use Rattle.meaning.specs.Records.{layout, fixedShape, fixed, room, kindOf, miscOf, sizeOf, origin, fieldsOf, fieldsAnswer, bodyOf, tailOf, flagBy, flagOf, value}
 use Rattle.meaning.specs.Writing.{named}
 use Rattle.meaning.specs.Events.{identifierOf}
-use Rattle.laws.specs.There.{item}
 use Rattle.laws.specs.Again.{fine, stepped, item-passed}
 use Rattle.laws.specs.Answers.{fields-zero}
 use Rattle.laws.specs.Fixed.{fixed-run}

@@ -37,7 +37,7 @@ pub record First (us vs : List Con) (k : ℕ) : Type 0 where
   pub before : take k us ≡ take k vs
   pub here : getD us k (con 0 []) ≡ getD vs k (con 0 []) → ⊥
 
--- what is told of two rings that are cut, each case with what it says. No case but one holds
+-- what is told of two rings that are cut, each case with what it says
 pub data Says (R : Reads) (l r : Cuts) : Compared → Type 0 where
   all-alike : {n : ℕ} → length (l .records) ≡ n → length (r .records) ≡ n → l .stop ≡ 0 → r .stop ≡ 0 → Says R l r (allAlike n)
   field-differs : {n k : ℕ} → n < length (l .records) → n < length (r .records) → First (fields R (recordOf l n)) (fields R (recordOf r n)) k → Says R l r (differs n k)
@@ -46,7 +46,7 @@ pub data Says (R : Reads) (l r : Cuts) : Compared → Type 0 where
   left-stopped : {n : ℕ} → length (l .records) ≡ n → (l .stop ≡ 0 → ⊥) → n ≤ length (r .records) → Says R l r (stops 4 (l .stop) n)
   right-stopped : {n : ℕ} → length (r .records) ≡ n → (r .stop ≡ 0 → ⊥) → n ≤ length (l .records) → (length (l .records) ≡ n → l .stop ≡ 0) → Says R l r (stops 5 (r .stop) n)
 
--- and every pair before is equal
+-- and every pair before is equal. With that no case but one holds (Meeting, `only`)
 pub record TrueReport (R : Reads) (l r : Cuts) (c : Compared) : Type 0 where
   pub says : Says R l r c
   pub before : (i : ℕ) → i < c .records → Same R (recordOf l i) (recordOf r i)

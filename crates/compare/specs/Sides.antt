@@ -10,7 +10,7 @@ use Rattle.meaning.specs.declared.Frame.{Frame}
 use Rattle.meaning.specs.Bytes.{small}
 use Rattle.meaning.specs.Ring.{Asked, distance, recordAt, stopAt, frame}
 use Rattle.laws.specs.Bytes.{small-append, small-take, small-drop}
-use Rattle.laws.specs.Rings.{frame-stop, distance-step, scratch-length}
+use Rattle.laws.specs.Rings.{frame-stop, distance-on, scratch-length}
 use Rattle.runs.specs.Cutting.{Cut, Spot, Cuts, begin, add, cutAt, spotAfter, halt, cutBy, All}
 use Rattle.runs.specs.Forward.{frame-going, going-framed}
 use Rattle.runs.specs.Runs.{cut-go, cut-stop}
@@ -130,7 +130,7 @@ module _ (s : Side) (head : ℕ) (f : Framed s head) where
       go n p g r d t =
           let a = f .low (p .tail) (length (p .scratch)) g in
           let b = f .near (p .tail) (length (p .scratch)) g in
-          let e = distance-step head (p .tail) (at p .size) hd t b in
+          let e = distance-on head (p .tail) (at p .size) t b in
           r (λ q. omega (arith, a, d, e)) (mod-lt (p .tail + at p .size) {m = 2 ^ 64} (omega arith))
 
   pub side-ends : head < 2 ^ 64 → s .tail < 2 ^ 64 → s .frame (cuttingAll s .last .tail) (length (cuttingAll s .last .scratch)) ≡ stopAt (cuttingAll s .stop)

@@ -9,8 +9,7 @@ use Rattle.meaning.specs.declared.Item.{Item}
 use Rattle.meaning.specs.declared.Shape.the-variants.{Number, Ignored, Count, Size, Times, Registers, Filled, Abi}
 use Rattle.meaning.specs.declared.Width.{Width}
 use Rattle.meaning.specs.Bytes.{bit}
-use Rattle.meaning.specs.Schema.{sample, sampleLists, sampleLast, readValues, mmap2, schema, schemas, trailer}
-use Rattle.laws.specs.There.{item}
+use Rattle.meaning.specs.Schema.{item, sample, sampleLists, sampleLast, readValues, mmap2, schema, schemas, trailer}
 use Rattle.compare.specs.Numbered.{owed, paid, may, owes, tells}
 
 -- the items tell every count, the last one's being owed or not: shut, so that `_` is found

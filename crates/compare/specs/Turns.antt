@@ -12,7 +12,7 @@ use borrow.Author.Tests.{ne-eqb, eq-eqb, eqb-true, eqb-false}
 use Rattle.meaning.specs.declared.Frame.{Frame}
 use Rattle.meaning.specs.Ring.{distance, recordAt}
 use Rattle.laws.specs.Bytes.{apart}
-use Rattle.laws.specs.Rings.{distance-step}
+use Rattle.laws.specs.Rings.{distance-on}
 use Rattle.runs.specs.Cutting.{Cut, Spot, Cuts, begin, cutAt, spotAfter, halt, cutBy}
 use Rattle.runs.specs.Runs.{cut-go, cut-stop}
 use Rattle.compare.specs.declared.Compared.{Compared}
@@ -61,29 +61,29 @@ unfolding cutBy
 one-go s p g = ap (λ (w : Cuts). w .last) (cut-go (λ t k room m. s .frame t m) (s .ring) 0 p g)
 
 -- where a side stands after n records: j more are enough
-pub record Stands (s : Side) (head n j : ℕ) (p : Spot) : Type 0 where
+pub record SideStands (s : Side) (head n j : ℕ) (p : Spot) : Type 0 where
   pub here : cutting s n .last ≡ p
   pub enough : frameAt s p .go ≡ true → distance head (p .tail) ≤ j
   pub tail : p .tail < 2 ^ 64
 
-pub stands-start : (s : Side) (head : ℕ) → Framed s head → s .tail < 2 ^ 64 → Stands s head 0 (length (s .ring)) (begin (s .tail) 0 (s .scratch))
+pub stands-start : (s : Side) (head : ℕ) → Framed s head → s .tail < 2 ^ 64 → SideStands s head 0 (length (s .ring)) (begin (s .tail) 0 (s .scratch))
 unfolding cutBy
 stands-start s head f t = record { here = refl; enough = λ g. f .far (s .tail) (length (s .scratch)) g; tail = t }
 
 -- nothing is left where nothing is enough
-some-left : (s : Side) (head n j : ℕ) (p : Spot) → Framed s head → Stands s head n j p → frameAt s p .go ≡ true → 8 ≤ j
+some-left : (s : Side) (head n j : ℕ) (p : Spot) → Framed s head → SideStands s head n j p → frameAt s p .go ≡ true → 8 ≤ j
 some-left s head n j p f h g =
     let a = f .low (p .tail) (length (p .scratch)) g in
     let b = f .near (p .tail) (length (p .scratch)) g in
     let c = h .enough g in
     omega (arith, a, b, c)
 
-pub stands-next : (s : Side) (head n j : ℕ) (p : Spot) → head < 2 ^ 64 → Framed s head → Stands s head n (suc j) p → frameAt s p .go ≡ true → Stands s head (suc n) j (placeAfter s p)
+pub stands-next : (s : Side) (head n j : ℕ) (p : Spot) → head < 2 ^ 64 → Framed s head → SideStands s head n (suc j) p → frameAt s p .go ≡ true → SideStands s head (suc n) j (placeAfter s p)
 stands-next s head n j p hd f h g =
     let a = f .low (p .tail) (length (p .scratch)) g in
     let b = f .near (p .tail) (length (p .scratch)) g in
     let c = h .enough g in
-    let d = distance-step head (p .tail) (frameAt s p .size) hd (h .tail) b in
+    let d = distance-on head (p .tail) (frameAt s p .size) (h .tail) b in
     record {
       here = more-by s n (begin (s .tail) 0 (s .scratch)) ∙ ap (λ (q : Spot). cutFrom s 1 q .last) (h .here) ∙ one-go s p g;
       enough = λ q. omega (arith, a, c, d);
@@ -91,17 +91,17 @@ stands-next s head n j p hd f h g =
     }
 
 -- where the comparison stands: n pairs are equal, and what is still to come is the whole
-pub record Holds (R : Reads) (l r : Side) (hl hr n : ℕ) (p q : Spot) : Type 0 where
+pub record ComparedHolds (R : Reads) (l r : Side) (hl hr n : ℕ) (p q : Spot) : Type 0 where
   pub j : ℕ
   pub k : ℕ
-  pub left : Stands l hl n j p
-  pub right : Stands r hr n k q
+  pub left : SideStands l hl n j p
+  pub right : SideStands r hr n k q
   pub whole : meet R (cutFrom l j p .stop) (cutFrom r k q .stop) n (cutFrom l j p .records) (cutFrom r k q .records) ≡ compared R l r
   -- the count has room: a record has 8 bytes
   pub count : n + j ≤ length (l .ring)
 
 module _ (R : Reads) (l r : Side) (hl hr : ℕ) (fl : Framed l hl) (fr : Framed r hr) where
-  pub holds-start : l .tail < 2 ^ 64 → r .tail < 2 ^ 64 → Holds R l r hl hr 0 (begin (l .tail) 0 (l .scratch)) (begin (r .tail) 0 (r .scratch))
+  pub holds-start : l .tail < 2 ^ 64 → r .tail < 2 ^ 64 → ComparedHolds R l r hl hr 0 (begin (l .tail) 0 (l .scratch)) (begin (r .tail) 0 (r .scratch))
   unfolding compared
   holds-start a b = record {
     j = length (l .ring);
@@ -118,7 +118,7 @@ module _ (R : Reads) (l r : Side) (hl hr : ℕ) (fl : Framed l hl) (fr : Framed 
     pub left : scratchThen c l ≡ p .scratch
     pub right : scratchThen c r ≡ q .scratch
 
-  ends-at : (n : ℕ) (p q : Spot) (c : Compared) → Holds R l r hl hr n p q → c ≡ compared R l r → pairs c ≡ n → Ends n p q c
+  ends-at : (n : ℕ) (p q : Spot) (c : Compared) → ComparedHolds R l r hl hr n p q → c ≡ compared R l r → pairs c ≡ n → Ends n p q c
   ends-at n p q c h e m = record {
     told = e;
     left = ap (λ (i : ℕ). cutting l i .last .scratch) m ∙ ap (λ (x : Spot). x .scratch) (h .left .here);
@@ -160,7 +160,7 @@ module _ (R : Reads) (l r : Side) (hl hr : ℕ) (fl : Framed l hl) (fr : Framed 
   other-met n s t x y xs ys e = rw e
 
   -- the left side stops
-  pub left-stops : (n : ℕ) (p q : Spot) → Holds R l r hl hr n p q → frameAt l p .go ≡ false → (frameAt l p .stop ≡ 0 → ⊥) → Ends n p q (stops 4 (frameAt l p .stop) n)
+  pub left-stops : (n : ℕ) (p q : Spot) → ComparedHolds R l r hl hr n p q → frameAt l p .go ≡ false → (frameAt l p .stop ≡ 0 → ⊥) → Ends n p q (stops 4 (frameAt l p .stop) n)
   left-stops n p q h g e =
       let w = h .whole in
       let a = stop-left (h .j) p g in
@@ -170,7 +170,7 @@ module _ (R : Reads) (l r : Side) (hl hr : ℕ) (fl : Framed l hl) (fr : Framed 
       (add-zero n)
 
   -- the left side has ended or goes on, and the right side stops
-  pub right-stops : (n : ℕ) (p q : Spot) → Holds R l r hl hr n p q → (frameAt l p .go ≡ false → frameAt l p .stop ≡ 0) → frameAt r q .go ≡ false
+  pub right-stops : (n : ℕ) (p q : Spot) → ComparedHolds R l r hl hr n p q → (frameAt l p .go ≡ false → frameAt l p .stop ≡ 0) → frameAt r q .go ≡ false
       → (frameAt r q .stop ≡ 0 → ⊥) → Ends n p q (stops 5 (frameAt r q .stop) n)
   unfolding cutBy
   right-stops n p q h z g e =
@@ -181,18 +181,18 @@ module _ (R : Reads) (l r : Side) (hl hr : ℕ) (fl : Framed l hl) (fr : Framed 
       (add-zero n)
     where
       -- a side that shows no record more has ended
-      by : (j : ℕ) (b : Bool) → frameAt l p .go ≡ b → Stands l hl n j p → cutFrom l j p .records ≡ [] → cutFrom l j p .stop ≡ 0
+      by : (j : ℕ) (b : Bool) → frameAt l p .go ≡ b → SideStands l hl n j p → cutFrom l j p .records ≡ [] → cutFrom l j p .stop ≡ 0
       by j false g h e = ap (λ (x : Cuts). x .stop) (stop-left j p g) ∙ z g
       by zero true g h e = absurd (let a = some-left l hl n 0 p fl h g in omega (arith, a))
       by (suc j) true g h e =
           let c = ap (λ (x : Cuts). x .records) (cut-go (λ t k room m. l .frame t m) (l .ring) j p g) in
           absurd (let a : _≡_ {A = ℕ} (suc (length (cutFrom l j (placeAfter l p) .records))) 0 = ap length (sym c ∙ e) in omega (arith, a))
 
-      ended : (j : ℕ) → Stands l hl n j p → cutFrom l j p .records ≡ [] → cutFrom l j p .stop ≡ 0
+      ended : (j : ℕ) → SideStands l hl n j p → cutFrom l j p .records ≡ [] → cutFrom l j p .stop ≡ 0
       ended j h e = by j (frameAt l p .go) refl h e
 
   -- both have ended
-  pub both-ended : (n : ℕ) (p q : Spot) → Holds R l r hl hr n p q → frameAt l p .go ≡ false → frameAt l p .stop ≡ 0 → frameAt r q .go ≡ false → frameAt r q .stop ≡ 0
+  pub both-ended : (n : ℕ) (p q : Spot) → ComparedHolds R l r hl hr n p q → frameAt l p .go ≡ false → frameAt l p .stop ≡ 0 → frameAt r q .go ≡ false → frameAt r q .stop ≡ 0
       → Ends n p q (allAlike n)
   unfolding meet
   both-ended n p q h g y g₁ z =
@@ -204,20 +204,20 @@ module _ (R : Reads) (l r : Side) (hl hr : ℕ) (fl : Framed l hl) (fr : Framed 
       (add-zero n)
 
   -- one has ended, and the other goes on
-  pub left-ends : (n : ℕ) (p q : Spot) → Holds R l r hl hr n p q → frameAt l p .go ≡ false → frameAt l p .stop ≡ 0 → frameAt r q .go ≡ true → Ends n p q (endsFirst 2 n)
+  pub left-ends : (n : ℕ) (p q : Spot) → ComparedHolds R l r hl hr n p q → frameAt l p .go ≡ false → frameAt l p .stop ≡ 0 → frameAt r q .go ≡ true → Ends n p q (endsFirst 2 n)
   left-ends n p q h g z g₁ = ends-at n p q (endsFirst 2 n) h (by (h .k) (h .right) (h .whole)) (add-zero n)
     where
-      by : (k : ℕ) → Stands r hr n k q → meet R (cutFrom l (h .j) p .stop) (cutFrom r k q .stop) n (cutFrom l (h .j) p .records) (cutFrom r k q .records) ≡ compared R l r
+      by : (k : ℕ) → SideStands r hr n k q → meet R (cutFrom l (h .j) p .stop) (cutFrom r k q .stop) n (cutFrom l (h .j) p .records) (cutFrom r k q .records) ≡ compared R l r
           → endsFirst 2 n ≡ compared R l r
       by zero s w = absurd (let a = some-left r hr n 0 q fr s g₁ in omega (arith, a))
       by (suc k) s w =
           sym (left-met n (frameAt l p .stop) (cutFrom r k (placeAfter r q) .stop) (cutAt (r .ring) q (frameAt r q)) (cutFrom r k (placeAfter r q) .records) z)
           ∙ ap₂ (λ (x y : Cuts). meet R (x .stop) (y .stop) n (x .records) (y .records)) (sym (stop-left (h .j) p g)) (sym (cut-go (λ t i room m. r .frame t m) (r .ring) k q g₁)) ∙ w
 
-  pub right-ends : (n : ℕ) (p q : Spot) → Holds R l r hl hr n p q → frameAt l p .go ≡ true → frameAt r q .go ≡ false → frameAt r q .stop ≡ 0 → Ends n p q (endsFirst 3 n)
+  pub right-ends : (n : ℕ) (p q : Spot) → ComparedHolds R l r hl hr n p q → frameAt l p .go ≡ true → frameAt r q .go ≡ false → frameAt r q .stop ≡ 0 → Ends n p q (endsFirst 3 n)
   right-ends n p q h g₁ g z = ends-at n p q (endsFirst 3 n) h (by (h .j) (h .left) (h .whole)) (add-zero n)
     where
-      by : (j : ℕ) → Stands l hl n j p → meet R (cutFrom l j p .stop) (cutFrom r (h .k) q .stop) n (cutFrom l j p .records) (cutFrom r (h .k) q .records) ≡ compared R l r
+      by : (j : ℕ) → SideStands l hl n j p → meet R (cutFrom l j p .stop) (cutFrom r (h .k) q .stop) n (cutFrom l j p .records) (cutFrom r (h .k) q .records) ≡ compared R l r
           → endsFirst 3 n ≡ compared R l r
       by zero s w = absurd (let a = some-left l hl n 0 p fl s g₁ in omega (arith, a))
       by (suc j) s w =
@@ -227,15 +227,15 @@ module _ (R : Reads) (l r : Side) (hl hr : ℕ) (fl : Framed l hl) (fr : Framed 
   -- ---- one pair: equal, and on; or not, and the end
 
   pub record Pair (n : ℕ) (p q : Spot) : Type 0 where
-    pub again : alike (fields R (shownAt l p)) (fields R (shownAt r q)) ≡ true → Holds R l r hl hr (suc n) (placeAfter l p) (placeAfter r q)
+    pub again : alike (fields R (shownAt l p)) (fields R (shownAt r q)) ≡ true → ComparedHolds R l r hl hr (suc n) (placeAfter l p) (placeAfter r q)
     pub differ : alike (fields R (shownAt l p)) (fields R (shownAt r q)) ≡ false
         → Ends (suc n) (placeAfter l p) (placeAfter r q) (differs n (agree (fields R (shownAt l p)) (fields R (shownAt r q))))
     pub count : n < length (l .ring)
 
-  pub pair : hl < 2 ^ 64 → hr < 2 ^ 64 → (n : ℕ) (p q : Spot) → Holds R l r hl hr n p q → frameAt l p .go ≡ true → frameAt r q .go ≡ true → Pair n p q
+  pub pair : hl < 2 ^ 64 → hr < 2 ^ 64 → (n : ℕ) (p q : Spot) → ComparedHolds R l r hl hr n p q → frameAt l p .go ≡ true → frameAt r q .go ≡ true → Pair n p q
   pair dl dr n p q h g₁ g₂ = by (h .j) (h .k) (h .left) (h .right) (h .whole) (h .count)
     where
-      by : (j k : ℕ) → Stands l hl n j p → Stands r hr n k q
+      by : (j k : ℕ) → SideStands l hl n j p → SideStands r hr n k q
           → meet R (cutFrom l j p .stop) (cutFrom r k q .stop) n (cutFrom l j p .records) (cutFrom r k q .records) ≡ compared R l r → n + j ≤ length (l .ring) → Pair n p q
       by zero k s t w m = absurd (let a = some-left l hl n 0 p fl s g₁ in omega (arith, a))
       by (suc j) zero s t w m = absurd (let a = some-left r hr n 0 q fr t g₂ in omega (arith, a))
@@ -265,7 +265,7 @@ module _ (R : Reads) (l r : Side) (hl hr : ℕ) (fl : Framed l hl) (fr : Framed 
 
   -- ---- any end: left is asked first
 
-  pub ends-any : (n : ℕ) (p q : Spot) → Holds R l r hl hr n p q → frameAt l p .go && frameAt r q .go ≡ false → Ends n p q (endOf (frameAt l p) (frameAt r q) n)
+  pub ends-any : (n : ℕ) (p q : Spot) → ComparedHolds R l r hl hr n p q → frameAt l p .go && frameAt r q .go ≡ false → Ends n p q (endOf (frameAt l p) (frameAt r q) n)
   unfolding endOf
   ends-any n p q h g = by (frameAt l p .go) (frameAt r q .go) (eqb (frameAt l p .stop) 0) (eqb (frameAt r q .stop) 0) refl refl refl refl g
     where

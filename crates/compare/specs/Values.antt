@@ -16,10 +16,10 @@ use Rattle.meaning.specs.declared.Width.the-variants.{W8}
 use Rattle.meaning.specs.Bytes.{bit, spell}
 use Rattle.meaning.specs.Items.{Con, con, counted, before, past}
 use Rattle.meaning.specs.Writing.{emit, blank, fitShape, next, fit, named}
-use Rattle.meaning.specs.Schema.{sample, schema, trailer}
+use Rattle.meaning.specs.Schema.{item, sample, schema, trailer}
 use Rattle.meaning.specs.Records.{Layout, Value, layout, fixedShape, fixed, origin, unflagged, fieldBytes, fitsBy, fits}
+use Rattle.laws.specs.Every.{trailer-fixed}
 use Rattle.laws.specs.Bytes.{apart, and-true, true-and}
-use Rattle.laws.specs.There.{item}
 use Rattle.compare.specs.Fields.{numbered, first, one, bodyFields, tailFields, flagField, otherFields}
 use Rattle.compare.specs.Numbered.{paid, numbered-back, level-start, same-top, same-rest}
 use Rattle.compare.specs.Told.{schema-tells, sample-tells, trailer-tells}
@@ -100,17 +100,13 @@ body-by a true kind misc us vs P Q z m f g e h =
     (ap (λ (l : List Item). numbered l (drop 1 us) 0 (origin 16) ++ P) (sym d) ∙ h ∙ ap (λ (l : List Item). numbered l (drop 1 vs) 0 (origin 16) ++ Q) d) in
     (sym (take-append-drop 1 us) ∙ ap₂ (λ (x y : List Con). x ++ y) e (b .contents) ∙ take-append-drop 1 vs, b .rest)
 
-trailer-plain : (kind : ℕ) (a : Attributes) → fixed (trailer kind a) ≡ true
-unfolding fixed fixedShape
-trailer-plain kind a = refl
-
 tail-by : (a : Attributes) (kind : ℕ) (us vs P Q : List Con) (c d : Cursor) → fit (trailer kind a) us c ≡ true → fit (trailer kind a) vs d ≡ true
     → drop 7 us ≡ drop 7 vs
     → numbered (take 7 (trailer kind a)) (take 7 us) 0 (origin 0) ++ P ≡ numbered (take 7 (trailer kind a)) (take 7 vs) 0 (origin 0) ++ Q
     → (us ≡ vs) × (P ≡ Q)
 tail-by a kind us vs P Q c d f g e h =
     let b = numbered-back (take 7 (trailer kind a)) (take 7 us) (take 7 vs) 0 0 (origin 0) (origin 0) P Q paid level-start (trailer-tells kind a)
-    (first-fit 7 (trailer kind a) us c (origin 0) (trailer-plain kind a) f) (first-fit 7 (trailer kind a) vs d (origin 0) (trailer-plain kind a) g) h in
+    (first-fit 7 (trailer kind a) us c (origin 0) (trailer-fixed kind a) f) (first-fit 7 (trailer kind a) vs d (origin 0) (trailer-fixed kind a) g) h in
     (sym (take-append-drop 7 us) ∙ ap₂ (λ (x y : List Con). x ++ y) (b .contents) e ∙ take-append-drop 7 vs, b .rest)
 
 -- ---- values

@@ -13,7 +13,8 @@ use Rattle.meaning.specs.Editions.{known, allowed}
 use Rattle.meaning.specs.Ring.{Asked, askingWith, frame, stopAt}
 use Rattle.meaning.specs.Events.{allMarked, sound, askedEvents, judgeEvents}
 use Rattle.laws.specs.Bytes.{apart}
-use Rattle.laws.specs.Rings.{frame-stop, frame-reason}
+use Rattle.laws.specs.Rows.{before, passed-by}
+use Rattle.laws.specs.Rings.{stopRows, frame-stop, frame-reason}
 use Rattle.laws.specs.Matched.{carried, sound-marked, frame-refused}
 use Rattle.runs.specs.Cutting.{Cut, Cuts, halt, begin, All}
 use Rattle.runs.specs.Runs.{cut-stop}
@@ -53,8 +54,8 @@ refused-stop : (asked : Asked) → asked .table ≡ false → (ring : List ℕ) 
 refused-stop asked h ring head tail m z =
     let g = frame-refused asked h ring head tail 1 16 m in
     let e : frame asked ring head tail 1 16 m ≡ stopAt 0 = frame-stop asked ring head tail 1 16 m g ∙ ap stopAt z in
-    let p = frame-reason asked ring head tail 1 16 m 0 e .1 .1 .1 .1 .1 .1 .0 in
-    still (asked .table) h p
+    let p = passed-by (before 0 (stopRows asked ring head tail 1 16 m)) (frame-reason asked ring head tail 1 16 m 0 e .1) in
+    still (asked .table) h (p 11)
   where
     still : (t : Bool) → t ≡ false → not t ≡ false → ⊥
     still true a b = apart (sym a)

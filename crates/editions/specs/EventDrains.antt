@@ -2,19 +2,17 @@
 -- a table of one event beside the call with one attribute set. Assumes nothing.
 use mathlib.Core.Path.{_≡_, refl, sym, ap, _∙_}
 use mathlib.Core.List.{List, [], _∷_}
-use mathlib.Core.Bool.{Bool, true, false, _&&_}
-use Prim.Native.Nat.{ℕ, _+_, _-_, _*_, _^_, _<_, _≤_}
-use lib.Dec.{leb, eqb}
+use mathlib.Core.Bool.{Bool, true, false}
+use Prim.Native.Nat.{ℕ, _-_, _*_, _^_, _<_, _≤_}
 use lib.ListN.{length}
 use borrow.Author.Tests.{le-leb, eq-eqb}
 use Rattle.meaning.specs.declared.Event.{Event}
-use Rattle.meaning.specs.declared.Frame.{Frame}
 use Rattle.meaning.specs.declared.Known.{Known}
 use Rattle.meaning.specs.Editions.{allowed, known, outside, isIn}
 use Rattle.meaning.specs.Records.{layout, judge}
 use Rattle.meaning.specs.Ring.{Asked, askingWith, askedOf, frame}
 use Rattle.meaning.specs.Drain.{start, ended, run, drain}
-use Rattle.meaning.specs.Events.{attributesOf, identifiers, identifierOf, indexOf, eventFor, hasEvent, sound, askedEvents, judgeEvents, eventDepends, drainEvents}
+use Rattle.meaning.specs.Events.{attributesOf, identifierOf, indexOf, eventFor, hasEvent, sound, askedEvents, judgeEvents, eventDepends, drainEvents}
 use Rattle.laws.specs.Bytes.{true-and}
 use Rattle.laws.specs.Rings.{run-stop}
 use Rattle.laws.specs.Matched.{judge-found, sound-marked, asked-sound, frame-refused}
@@ -22,7 +20,7 @@ use Rattle.runs.specs.Cutting.{Cut, cutting, cuttingBy, recordOf, All}
 use Rattle.runs.specs.Runs.{runs-beside, run-in}
 use Rattle.runs.specs.Entries.{all-of, all-map, runs-same}
 use Rattle.runs.specs.Forward.{Counted, frame-roomy, run-counted}
-use Rattle.editions.specs.Fairness.{rising, Fair}
+use Rattle.editions.specs.Fairness.{rising}
 use Rattle.editions.specs.Numbers.{tableStopNumbers}
 use Rattle.editions.specs.InTable.{table-frame-in}
 use Rattle.editions.specs.Promise.{EntryFair}

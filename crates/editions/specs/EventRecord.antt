@@ -8,7 +8,7 @@ use lib.ListN.{length}
 use borrow.Author.Tests.{ltb-true}
 use Rattle.meaning.specs.declared.Known.{Known}
 use Rattle.meaning.specs.Refusals.{refusal, first}
-use Rattle.meaning.specs.Editions.{allowed, known, Thing, kind, sampleBit, knows, when, outside, depends, isIn, isUnknown}
+use Rattle.meaning.specs.Editions.{allowed, known, Thing, kind, sampleBit, knows, outside, depends, isIn, isUnknown}
 use Rattle.meaning.specs.Records.{kindOf, miscOf, judge}
 use Rattle.editions.specs.Fairness.{rising, Fair}
 use Rattle.editions.specs.Outside.{outside-when, outside-less, known-within}

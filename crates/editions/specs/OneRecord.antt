@@ -17,7 +17,7 @@ use Rattle.meaning.specs.Records.{layout, kindOf, miscOf, sizeOf, room, fieldsA
 use Rattle.laws.specs.Bytes.{apart, and-true}
 use Rattle.editions.specs.Fairness.{within, rising, Words, dependsOf, Fair}
 use Rattle.runs.specs.Cutting.{framed}
-use Rattle.laws.specs.Rows.{or-false}
+use Rattle.laws.specs.Rows.{or-false, noZero}
 use Rattle.editions.specs.Outside.{outside-append, outside-when, bits-outside, branch-outside, outside-less, known-within}
 use Rattle.editions.specs.InTable.{fields-known}
 
@@ -26,7 +26,7 @@ abbrev pub anyHolds : List Refusal → Bool
 anyHolds [] = false
 anyHolds (r ∷ rs) = r .holds || anyHolds rs
 
--- every number of the rows says "unknown"; none does; none is 0
+-- every number of the rows says "unknown"; none does
 abbrev pub allUnknown : List Refusal → Bool
 allUnknown [] = true
 allUnknown (r ∷ rs) = isUnknown (r .number) && allUnknown rs
@@ -34,10 +34,6 @@ allUnknown (r ∷ rs) = isUnknown (r .number) && allUnknown rs
 abbrev pub noneUnknown : List Refusal → Bool
 noneUnknown [] = true
 noneUnknown (r ∷ rs) = not (isUnknown (r .number)) && noneUnknown rs
-
-abbrev pub noneZero : List Refusal → Bool
-noneZero [] = true
-noneZero (r ∷ rs) = not (eqb (r .number) 0) && noneZero rs
 
 -- the answer says "unknown" exactly where a row holds, or where the rest says so
 pub first-unknown : (rs : List Refusal) (rest : ℕ) → allUnknown rs ≡ true → isUnknown (first rs rest) ≡ (anyHolds rs || isUnknown rest)
@@ -73,11 +69,11 @@ first-none (r ∷ rs) rest e =
     rw (s .0) (first-none rs rest (s .1))
 
 -- 0 is none of their numbers, so "the first, else the body" is one chain
-pub first-else : (rs : List Refusal) (rest body : ℕ) → noneZero rs ≡ true → orElse (first rs rest) body ≡ first rs (orElse rest body)
+pub first-else : (rs : List Refusal) (rest body : ℕ) → noZero rs ≡ true → orElse (first rs rest) body ≡ first rs (orElse rest body)
 unfolding first
 first-else [] rest body z = refl
 first-else (r ∷ rs) rest body z =
-    let s = and-true (not (eqb (r .number) 0)) (noneZero rs) z in
+    let s = and-true (not (eqb (r .number) 0)) (noZero rs) z in
     by (r .holds) (s .0) (first-else rs rest body (s .1))
   where
     kept : (n : ℕ) (b : Bool) → eqb n 0 ≡ b → not b ≡ true → cond b body n ≡ n

@@ -1,20 +1,20 @@
 -- Where a record's event stands, or why it has none: a definition, and laws of it. Assumes nothing.
 use mathlib.Core.Path.{_≡_, refl, ap, ap₂, sym, _∙_, subst}
-use Prim.Native.Nat.{ℕ, _+_, _<_, _≤_}
+use Prim.Native.Nat.{ℕ, _+_, _<_}
 use native.Mathlib.Omega.{arith}
 use mathlib.Core.Bool.{Bool, true, false, cond, not, _&&_, _||_}
 use mathlib.Core.List.{List}
 use lib.Dec.{leb, ltb, eqb}
 use lib.ListN.{length}
-use borrow.Author.Tests.{eq-eqb, ne-eqb, eqb-true}
+use borrow.Author.Tests.{eq-eqb, ne-eqb}
 use Rattle.meaning.specs.declared.Attributes.{Attributes}
 use Rattle.meaning.specs.declared.Event.{Event}
 use Rattle.meaning.specs.declared.Known.{Known}
-use Rattle.meaning.specs.Refusals.{first, orElse}
+use Rattle.meaning.specs.Refusals.{first}
 use Rattle.meaning.specs.Editions.{knows, sampleBit, isIn}
 use Rattle.meaning.specs.Records.{layout, kindOf, judge}
 use Rattle.meaning.specs.Events.{attributesOf, eventAt, identifiers, identifierOf, indexFor, hasEvent, layoutFor, unmatched, judgeEvents, inspected}
-use Rattle.laws.specs.Bytes.{apart, and-true}
+use Rattle.laws.specs.Bytes.{and-true}
 use Rattle.laws.specs.Lookup.{identifiers-length, index-in}
 use Rattle.laws.specs.Matched.{judge-matched}
 use Rattle.laws.specs.Inspected.{inspected-is}

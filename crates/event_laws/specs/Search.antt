@@ -19,16 +19,16 @@ use Rattle.event_laws.specs.Marks.{next-of}
 -- ---- the lookup
 
 -- what is still to come is the whole
-abbrev pub Holds : ℕ → List ℕ → ℕ → ℕ → Type 0
-Holds x l from i = i + indexOf x (drop i l) ≡ from + indexOf x (drop from l)
+abbrev pub LookupHolds : ℕ → List ℕ → ℕ → ℕ → Type 0
+LookupHolds x l from i = i + indexOf x (drop i l) ≡ from + indexOf x (drop from l)
 
-pub found : (x : ℕ) (l : List ℕ) (from i : ℕ) → Holds x l from i → i < length l → getD l i 0 ≡ x → i ≡ from + indexOf x (drop from l)
+pub found : (x : ℕ) (l : List ℕ) (from i : ℕ) → LookupHolds x l from i → i < length l → getD l i 0 ≡ x → i ≡ from + indexOf x (drop from l)
 found x l from i h g e = omega (arith, index-here x l i g e)
 
-pub goes-on : (x : ℕ) (l : List ℕ) (from i : ℕ) → Holds x l from i → i < length l → (getD l i 0 ≡ x → ⊥) → Holds x l from (i + 1)
+pub goes-on : (x : ℕ) (l : List ℕ) (from i : ℕ) → LookupHolds x l from i → i < length l → (getD l i 0 ≡ x → ⊥) → LookupHolds x l from (i + 1)
 goes-on x l from i h g e = omega (arith, index-next x l i g e)
 
-pub none : (x : ℕ) (l : List ℕ) (from i : ℕ) → Holds x l from i → length l ≤ i → i ≡ from + indexOf x (drop from l)
+pub none : (x : ℕ) (l : List ℕ) (from i : ℕ) → LookupHolds x l from i → length l ≤ i → i ≡ from + indexOf x (drop from l)
 none x l from i h g = omega (arith, index-end x l i g)
 
 -- ---- rows

@@ -1,9 +1,10 @@
 -- The laws of the lookup as a walk cites them: the tests as they are in the program logic. Assumes nothing.
 use mathlib.Core.Path.{_≡_, refl, sym, ap, _∙_}
 use mathlib.Core.Bool.{Bool, true, false, not, cond}
-use mathlib.Core.List.{List, [], _∷_}
-use Prim.Native.Nat.{ℕ, suc, _+_, _≤_, _<_}
+use mathlib.Core.List.{List}
+use Prim.Native.Nat.{ℕ, suc, _+_, _*_, _^_, _<_}
 use native.Mathlib.Numerals.{add-one}
+use native.Mathlib.Omega.{arith}
 use lib.Dec.{T, eqb}
 use lib.ListN.{length, getD, drop}
 use lib.Seq.{drop-cons}
@@ -27,3 +28,7 @@ unfolding indexOf
 index-next x l i h e =
     ap (indexOf x) (drop-cons l i 0 h) ∙ ap (λ (t : Bool). cond t 0 (suc (indexOf x (drop (suc i) l)))) (is-false (eqb (getD l i 0) x) e)
     ∙ ap (λ (k : ℕ). suc (indexOf x (drop k l))) (sym (add-one i))
+
+-- where a row lies, in bytes: no machine number is passed
+pub scaled : (i n : ℕ) → i < n → n * 56 < 2 ^ 63 → i * 56 < 2 ^ 64
+scaled i n l g = omega arith

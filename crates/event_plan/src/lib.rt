@@ -6,6 +6,7 @@ ghost use Prim.Native.Nat.{_%_, _≤_, _<_};
 ghost use lib.ListN.{length, getD};
 ghost use Rattle.meaning.specs.Records.{kindOf, layout, judge};
 ghost use Rattle.meaning.specs.Events.{eventsOf, identifierOf, judgeEvents};
+ghost use Rattle.blocks.specs.Seen.{sizeBound};
 ghost use Rattle.marks.specs.Marks.{lastType, Marked};
 ghost use Rattle.slots.specs.Slots.{unpacked, Filled, Memo, attributesFor};
 use meaning::Known;
@@ -15,14 +16,14 @@ fn unpacked(x: u64, y: u64) -> [u64; 8]
     ensures { λ r. ⌜ r ≡ unpacked x y ⌝ }
 {
     [
-        x % 65536,
-        x / 65536 % 65536,
-        x / 4294967296 % 65536,
-        x / 281474976710656,
-        y % 65536,
-        y / 65536 % 65536,
-        y / 4294967296 % 65536,
-        y / 281474976710656,
+        x % slots::QUARTER,
+        x / slots::QUARTER % slots::QUARTER,
+        x / slots::HALF % slots::QUARTER,
+        x / slots::THREE_QUARTERS,
+        y % slots::QUARTER,
+        y / slots::QUARTER % slots::QUARTER,
+        y / slots::HALF % slots::QUARTER,
+        y / slots::THREE_QUARTERS,
     ]
 }
 
@@ -42,13 +43,13 @@ fn mark_of(known: Known, rows: &[[u64; 7]], kind: u64, slot: &[u64; 8], id: u64)
         return slot[4];
     }
     let a = events::attributes_at(rows, slot[5] as usize);
-    marks::type_mark(known, a, kind, slot[2] as u16, slot[6] % 65536)
+    marks::type_mark(known, a, kind, slot[2] as u16, slot[6] % slots::QUARTER)
 }
 
 // A record whose event is in the table, by the event's slot.
 fn found(r: &[u8], kind: u64, known: Known, rows: &[[u64; 7]], slot: &[u64; 8], id: u64) -> u16
     requires { ⌜ 8 ≤ length (now r) ⌝ }
-    requires { ⌜ length (now r) < 65536 ⌝ }
+    requires { ⌜ length (now r) < sizeBound ⌝ }
     requires { ⌜ length (now r) % 8 ≡ 0 ⌝ }
     requires { ⌜ kind ≡ kindOf (now r) ⌝ }
     requires { ⌜ known .kinds ≤ lastType ⌝ }
@@ -68,7 +69,7 @@ fn found(r: &[u8], kind: u64, known: Known, rows: &[[u64; 7]], slot: &[u64; 8], 
 }
 
 // A record by the slot at h, which is its identifier's: what the slot says, or its event's own answer.
-fn told(
+fn slot_answer(
     r: &[u8],
     kind: u64,
     known: Known,
@@ -78,7 +79,7 @@ fn told(
     id: u64,
 ) -> u16
     requires { ⌜ 16 ≤ length (now r) ⌝ }
-    requires { ⌜ length (now r) < 65536 ⌝ }
+    requires { ⌜ length (now r) < sizeBound ⌝ }
     requires { ⌜ length (now r) % 8 ≡ 0 ⌝ }
     requires { ⌜ kind ≡ kindOf (now r) ⌝ }
     requires { ⌜ known .kinds ≤ lastType ⌝ }
@@ -99,7 +100,7 @@ fn told(
 // A record of a type that the edition has, long enough for an identifier: 21 where the edition does not know bit 16; 26; else the event's own answer.
 pub fn judge(r: &[u8], kind: u64, known: Known, rows: &[[u64; 7]], memo: &mut [[u64; 8]]) -> u16
     requires { ⌜ 16 ≤ length (now r) ⌝ }
-    requires { ⌜ length (now r) < 65536 ⌝ }
+    requires { ⌜ length (now r) < sizeBound ⌝ }
     requires { ⌜ length (now r) % 8 ≡ 0 ⌝ }
     requires { ⌜ kind ≡ kindOf (now r) ⌝ }
     requires { ⌜ known .kinds ≤ lastType ⌝ }
@@ -114,5 +115,5 @@ pub fn judge(r: &[u8], kind: u64, known: Known, rows: &[[u64; 7]], memo: &mut [[
     let id = event_judge::identifier_of(r, kind);
     let h = (id & (memo.len() as u64 - 1)) as usize;
     held_slots::hold(known, rows, id, memo, h);
-    told(r, kind, known, rows, memo, h, id)
+    slot_answer(r, kind, known, rows, memo, h, id)
 }

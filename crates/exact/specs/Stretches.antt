@@ -14,7 +14,8 @@ use Rattle.meaning.specs.Bytes.{bit, ones}
 use Rattle.meaning.specs.Items.{span}
 use Rattle.meaning.specs.Schema.{item, selected, groupBytes, sampleFirst, readValues, sampleLast, trailer}
 use Rattle.meaning.specs.Records.{room}
-use Rattle.laws.specs.Bytes.{apart, and-true}
+use Rattle.laws.specs.Bytes.{and-true}
+use Rattle.laws.specs.Rows.{or-false}
 use Rattle.blocks.specs.declared.Place.{Place}
 use Rattle.blocks.specs.Seen.{Ends, Closes, one-refuses, both-end}
 use Rattle.blocks.specs.Steady.{oneWidth, widthOf, steady, total, sizes, steady-closes}
@@ -160,12 +161,11 @@ module _ (xs : List ℕ) (a : Attributes) (k : ℕ) (e : k ≡ firstSum a) (p : 
 -- ---- the last ones
 
 pub or-no : (x y : Bool) → (x || y) ≡ false → (x ≡ false) × (y ≡ false)
-or-no true y e = absurd (apart (sym e))
-or-no false y e = (refl, e)
+or-no x y e = or-false x y e
 
 pub last-steady : (a : Attributes) → late a ≡ false → steady (sampleLast a) ≡ true
 unfolding steady oneWidth
-last-steady a e = let s = or-no (bit (a .sample) 18) (bit (a .sample) 20) e in rw (s .0, s .1)
+last-steady a e = let s = or-false (bit (a .sample) 18) (bit (a .sample) 20) e in rw (s .0, s .1)
 
 pub early-steady : (a : Attributes) → steady (early a) ≡ true
 unfolding steady oneWidth

@@ -13,7 +13,7 @@ use Rattle.laws.specs.Bytes.{le-or-lt}
 use Rattle.meaning.specs.declared.Cursor.{Cursor}
 use Rattle.meaning.specs.declared.Item.{Item}
 use Rattle.meaning.specs.declared.Shape.the-variants.{Number, Ignored, Count, Times, Earlier, Limit, Listed, Pad, Name}
-use Rattle.meaning.specs.declared.Width.the-variants.{W2, W4, W8}
+use Rattle.meaning.specs.declared.Width.the-variants.{W2, W8}
 use Rattle.meaning.specs.Bytes.{numberAt, zeroIn}
 use Rattle.meaning.specs.Items.{cursor, span, rule, holds, counted, before, shapeStep, step, walk}
 use Rattle.meaning.specs.Schema.{item, always, u32, u64, groupBytes, mmap2}
@@ -22,7 +22,7 @@ use Rattle.laws.specs.Shapes.{shape-out, shape-bad, shape-in, name-in, name-non
 use Rattle.blocks.specs.declared.Place.{Place}
 use Rattle.blocks.specs.Seen.{place, Leaves, Closes, closedAt, walk-append, closes-then, closes-stuck, closes-end}
 use Rattle.blocks.specs.Steady.{oneWidth, widthOf, steady, total, steady-in, steady-leaves, steady-refused}
-use Rattle.blocks.specs.Blocks.{countedWith, countedPlace, counted-leaves, count-in, count-out, times-in, times-out, goes, halts}
+use Rattle.blocks.specs.Blocks.{buildFront, protFlags, countedWith, countedPlace, counted-leaves, count-in, count-out, times-in, times-out, goes, halts}
 use Rattle.blocks.specs.Scan.{nameOk}
 use Rattle.exact.specs.Stretches.{groupTimes, groupFixed, groupList}
 
@@ -81,18 +81,9 @@ named-closes F is at from f e l =
 
 -- ---- the build-id form of MMAP2
 
--- before its build id, and after the size of it up to the name
-abbrev buildFront : List Item
-buildFront =
-    u32 ∷ u32 ∷ u64 ∷ u64 ∷ u64
-    ∷ item false (Number W4)
-    ∷ item false (Number W4)
-    ∷ item false (Number W8)
-    ∷ item false (Number W8)
-    ∷ []
-
+-- after the size of its build id, up to the name
 abbrev buildBack : List Item
-buildBack = always (Ignored 3) ∷ always (Listed 20) ∷ u32 ∷ u32 ∷ []
+buildBack = always (Ignored 3) ∷ always (Listed 20) ∷ protFlags
 
 -- "build id size at most 20", alone
 abbrev size20 : List Item

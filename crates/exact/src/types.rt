@@ -5,7 +5,7 @@ ghost use mathlib.Core.Bool.{true};
 ghost use Prim.Native.Nat.{_-_, _%_, _≤_, _<_};
 ghost use lib.ListN.{length};
 ghost use Rattle.meaning.specs.Schema.{mmap2};
-ghost use Rattle.blocks.specs.Seen.{Closes};
+ghost use Rattle.blocks.specs.Seen.{sizeBound, Closes};
 ghost use Rattle.exact.specs.Types.{nameAnswer, namespaces, groupRead, textPoke};
 ghost use Rattle.exact.specs.Stretches.{groupFixed};
 
@@ -43,7 +43,7 @@ pub fn built(f: &[u8]) -> u16
 // NAMESPACES: entries of 16 bytes, counted at 16.
 pub fn namespaces(f: &[u8]) -> u16
     requires { ⌜ 8 ≤ length (now f) ⌝ }
-    requires { ⌜ length (now f) < 65536 ⌝ }
+    requires { ⌜ length (now f) < sizeBound ⌝ }
     ensures { λ r. ⌜ Closes (now (f .entry)) namespaces 8 r ⌝ }
 {
     if f.len() < 16 {
@@ -55,7 +55,7 @@ pub fn namespaces(f: &[u8]) -> u16
 // READ of a group: entries of 8, 16 or 24 bytes, counted at 16; the times stand between.
 pub fn group_read(f: &[u8], format: u64, fixed: usize) -> u16
     requires { ⌜ 8 ≤ length (now f) ⌝ }
-    requires { ⌜ length (now f) < 65536 ⌝ }
+    requires { ⌜ length (now f) < sizeBound ⌝ }
     requires { ⌜ fixed ≡ groupFixed format ⌝ }
     ensures { λ r. ⌜ Closes (now (f .entry)) (groupRead format) 8 r ⌝ }
 {

@@ -5,7 +5,7 @@ ghost use Prim.Native.Nat.{_*_, _≤_, _<_};
 ghost use lib.ListN.{length};
 ghost use Rattle.meaning.specs.Bytes.{bit, ones};
 ghost use Rattle.meaning.specs.Schema.{sample, sampleLast};
-ghost use Rattle.blocks.specs.Seen.{Ends, Closes};
+ghost use Rattle.blocks.specs.Seen.{sizeBound, Ends, Closes};
 ghost use Rattle.exact.specs.Stretches.{front, lists, state, weighed, paged, weights, Sums};
 use blocks::Place;
 use meaning::Attributes;
@@ -13,7 +13,7 @@ use meaning::Attributes;
 // The first fields; the read values of a group.
 fn front(s: &[u8], a: Attributes, sums: &[u64; 8]) -> Place
     requires { ⌜ 8 ≤ length (now s) ⌝ }
-    requires { ⌜ length (now s) < 65536 ⌝ }
+    requires { ⌜ length (now s) < sizeBound ⌝ }
     requires { ⌜ Sums a (now sums) ⌝ }
     ensures { λ r. ⌜ Ends (now (s .entry)) (front a) 8 r ⌝ }
 {
@@ -34,7 +34,7 @@ fn front(s: &[u8], a: Attributes, sums: &[u64; 8]) -> Place
 // Callchain, raw, branches with the hardware index.
 fn lists(s: &[u8], at: usize, a: Attributes) -> Place
     requires { ⌜ at ≤ length (now s) ⌝ }
-    requires { ⌜ length (now s) < 65536 ⌝ }
+    requires { ⌜ length (now s) < sizeBound ⌝ }
     ensures { λ r. ⌜ Ends (now (s .entry)) (lists a) at r ⌝ }
 {
     let x = a.sample;
@@ -124,7 +124,7 @@ fn rest(s: &[u8], at: usize, a: Attributes, sums: &[u64; 8]) -> u16
 // The answer for a SAMPLE's bytes: it has no trailer, and two weights are refused before (24).
 pub fn sample(s: &[u8], a: Attributes, sums: &[u64; 8]) -> u16
     requires { ⌜ 8 ≤ length (now s) ⌝ }
-    requires { ⌜ length (now s) < 65536 ⌝ }
+    requires { ⌜ length (now s) < sizeBound ⌝ }
     requires { ⌜ Sums a (now sums) ⌝ }
     requires { ⌜ weights a ≡ false ⌝ }
     ensures { λ r. ⌜ Closes (now (s .entry)) (sample a) 8 r ⌝ }

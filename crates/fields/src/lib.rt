@@ -15,6 +15,15 @@ use meaning::Shape;
 pub use shapes::zero_from;
 pub use spans::width_of;
 
+// The words of a value: type, misc, size; the fields' from 3 on; the trailer's from 48 on, and the last one is free.
+pub const BODY_WORDS: usize = 3;
+
+pub const TRAIL_WORDS: usize = 48;
+
+pub const FREE_WORD: usize = 55;
+
+pub const VALUE_WORDS: usize = 56;
+
 // ---- the step
 
 // An item that is not selected, or comes after a refusal, changes nothing.

@@ -3,7 +3,7 @@
 use mathlib.Core.Path.{_≡_, refl, sym, ap, ap₂, _∙_}
 use mathlib.Core.Bool.{Bool, true, false, cond}
 use mathlib.Core.List.{List, [], _∷_, _++_, append-nil, append-assoc}
-use Prim.Native.Nat.{ℕ, zero, suc, _+_, _-_, _≤_, _<_}
+use Prim.Native.Nat.{ℕ, zero, suc, _+_, _-_, _≤_}
 use native.Mathlib.Nat.{add-zero}
 use native.Mathlib.Omega.{arith}
 use lib.ListN.{length, take, drop, set, length-drop, length-replicate, take-append-drop}
@@ -11,17 +11,16 @@ use lib.Seq.{drop-drop, take-length}
 use lib.Dec.{eqb, leb, ltb}
 use borrow.Author.Tests.{eq-eqb, leb-true, ltb-true}
 use Rattle.meaning.specs.declared.Cursor.{Cursor}
-use Rattle.meaning.specs.declared.Item.{Item}
 use Rattle.meaning.specs.declared.Shape.{Shape}
 use Rattle.meaning.specs.declared.Shape.the-variants.{Number, Ignored, Count, Size, Times, Earlier, Registers, Filled, Abi, Limit, Listed, Bytes, Pad, Name}
 use Rattle.meaning.specs.Bytes.{num, zeroIn, put, zeros}
-use Rattle.meaning.specs.Items.{cursor, span, rule, holds, counted, before, past, part, step, walk}
+use Rattle.meaning.specs.Items.{cursor, span, rule, holds, counted, before, past, part, walk}
 use Rattle.meaning.specs.Schema.{item}
 use Rattle.meaning.specs.Values.{slot, slotShape, tell, wordsOf, width, words}
 use Rattle.laws.specs.Again.{ItemPassed, fine₁}
 use Rattle.laws.specs.Bytes.{and-true, unbroken}
 use Rattle.laws.specs.Put.{put-nil, put-one, put-two, put-fits}
-use Rattle.laws.specs.Told.{take-zeros, drop-zeros}
+use Rattle.laws.specs.Told.{take-zeros}
 use Rattle.laws.specs.Walks.{step-off, step-on, step-taken}
 use Rattle.fills.specs.Chains as chains
 use Rattle.fills.specs.Chains.{Ready}

@@ -56,7 +56,7 @@ words-append xs (i ∷ is) js c =
     ap (λ (l : List ℕ). tell (i .shape) (slotItem xs i c) ++ l) (words-append xs is js (step xs i c))
     ∙ sym (append-assoc (tell (i .shape) (slotItem xs i c)) (words xs is (step xs i c)) (words xs js (walk xs is (step xs i c))))
 
-width-append : (is js : List Item) → width (is ++ js) ≡ width is + width js
+pub width-append : (is js : List Item) → width (is ++ js) ≡ width is + width js
 unfolding width
 width-append [] js = omega arith
 width-append (i ∷ is) js = let h = width-append is js in omega (arith, h)

@@ -4,17 +4,19 @@ ghost use mathlib.Core.Path.{_≡_};
 ghost use Prim.Native.Nat.{_+_, _≤_};
 ghost use lib.ListN.{length};
 ghost use Rattle.meaning.specs.Schema.{schema, trailer as trailerOf};
-ghost use Rattle.meaning.specs.Values.{bodyWidth, bodyWords};
+ghost use Rattle.meaning.specs.Values.{bodyWidth, bodyWords, trailWords, valueWords};
+ghost use Rattle.writer_items.specs.Tries.{mostBytes};
 ghost use Rattle.layouts.specs.Lists.{mmap, lost, comm, exit, throttle, read-1, read-2, read, mmap2-1, mmap2-2, mmap2-3, mmap2, itrace-start, lost-samples, namespaces, ksymbol, bpf-event, cgroup, text-poke, trailer-1, trailer-2, trailer};
 ghost use Rattle.write_fits.specs.Steps.{Tried};
+use layouts::types;
 use meaning::Attributes;
 use meaning::Width;
 use write_fits::Walked;
 
 // 1 MMAP
 fn mmap(ws: &[u64], source: &[u8], c: Walked) -> Walked
-    requires { ⌜ (c .at ≤ 65535) × (56 ≤ length (now ws)) ⌝ }
-    ensures { λ r. ⌜ Tried mmap (now (source .entry)) (now (ws .entry)) 3 c r ⌝ }
+    requires { ⌜ (c .at ≤ mostBytes) × (valueWords ≤ length (now ws)) ⌝ }
+    ensures { λ r. ⌜ Tried mmap (now (source .entry)) (now (ws .entry)) bodyWords c r ⌝ }
 {
     let c0 = write_fits::number(ws, source, c, true, 3, Width::W4); // pid
     let c1 = write_fits::number(ws, source, c0, true, 4, Width::W4); // tid
@@ -26,8 +28,8 @@ fn mmap(ws: &[u64], source: &[u8], c: Walked) -> Walked
 
 // 2 LOST
 fn lost(ws: &[u64], source: &[u8], c: Walked) -> Walked
-    requires { ⌜ (c .at ≤ 65535) × (56 ≤ length (now ws)) ⌝ }
-    ensures { λ r. ⌜ Tried lost (now (source .entry)) (now (ws .entry)) 3 c r ⌝ }
+    requires { ⌜ (c .at ≤ mostBytes) × (valueWords ≤ length (now ws)) ⌝ }
+    ensures { λ r. ⌜ Tried lost (now (source .entry)) (now (ws .entry)) bodyWords c r ⌝ }
 {
     let c0 = write_fits::number(ws, source, c, true, 3, Width::W8); // id
     write_fits::number(ws, source, c0, true, 4, Width::W8) // lost
@@ -35,8 +37,8 @@ fn lost(ws: &[u64], source: &[u8], c: Walked) -> Walked
 
 // 3 COMM
 fn comm(ws: &[u64], source: &[u8], c: Walked) -> Walked
-    requires { ⌜ (c .at ≤ 65535) × (56 ≤ length (now ws)) ⌝ }
-    ensures { λ r. ⌜ Tried comm (now (source .entry)) (now (ws .entry)) 3 c r ⌝ }
+    requires { ⌜ (c .at ≤ mostBytes) × (valueWords ≤ length (now ws)) ⌝ }
+    ensures { λ r. ⌜ Tried comm (now (source .entry)) (now (ws .entry)) bodyWords c r ⌝ }
 {
     let c0 = write_fits::number(ws, source, c, true, 3, Width::W4); // pid
     let c1 = write_fits::number(ws, source, c0, true, 4, Width::W4); // tid
@@ -45,8 +47,8 @@ fn comm(ws: &[u64], source: &[u8], c: Walked) -> Walked
 
 // 4 EXIT
 fn exit(ws: &[u64], source: &[u8], c: Walked) -> Walked
-    requires { ⌜ (c .at ≤ 65535) × (56 ≤ length (now ws)) ⌝ }
-    ensures { λ r. ⌜ Tried exit (now (source .entry)) (now (ws .entry)) 3 c r ⌝ }
+    requires { ⌜ (c .at ≤ mostBytes) × (valueWords ≤ length (now ws)) ⌝ }
+    ensures { λ r. ⌜ Tried exit (now (source .entry)) (now (ws .entry)) bodyWords c r ⌝ }
 {
     let c0 = write_fits::number(ws, source, c, true, 3, Width::W4); // pid
     let c1 = write_fits::number(ws, source, c0, true, 4, Width::W4); // ppid
@@ -57,8 +59,8 @@ fn exit(ws: &[u64], source: &[u8], c: Walked) -> Walked
 
 // 5 THROTTLE
 fn throttle(ws: &[u64], source: &[u8], c: Walked) -> Walked
-    requires { ⌜ (c .at ≤ 65535) × (56 ≤ length (now ws)) ⌝ }
-    ensures { λ r. ⌜ Tried throttle (now (source .entry)) (now (ws .entry)) 3 c r ⌝ }
+    requires { ⌜ (c .at ≤ mostBytes) × (valueWords ≤ length (now ws)) ⌝ }
+    ensures { λ r. ⌜ Tried throttle (now (source .entry)) (now (ws .entry)) bodyWords c r ⌝ }
 {
     let c0 = write_fits::number(ws, source, c, true, 3, Width::W8); // time
     let c1 = write_fits::number(ws, source, c0, true, 4, Width::W8); // id
@@ -67,8 +69,8 @@ fn throttle(ws: &[u64], source: &[u8], c: Walked) -> Walked
 
 // 8 READ, part 1
 fn read_1(ws: &[u64], source: &[u8], f: u64, c: Walked) -> Walked
-    requires { ⌜ (c .at ≤ 65535) × (56 ≤ length (now ws)) ⌝ }
-    ensures { λ r. ⌜ Tried (read-1 f) (now (source .entry)) (now (ws .entry)) 3 c r ⌝ }
+    requires { ⌜ (c .at ≤ mostBytes) × (valueWords ≤ length (now ws)) ⌝ }
+    ensures { λ r. ⌜ Tried (read-1 f) (now (source .entry)) (now (ws .entry)) bodyWords c r ⌝ }
 {
     let c0 = write_fits::number(ws, source, c, true, 3, Width::W4); // pid
     let c1 = write_fits::number(ws, source, c0, true, 4, Width::W4); // tid
@@ -79,7 +81,7 @@ fn read_1(ws: &[u64], source: &[u8], f: u64, c: Walked) -> Walked
 
 // 8 READ, part 2
 fn read_2(ws: &[u64], source: &[u8], f: u64, c: Walked) -> Walked
-    requires { ⌜ (c .at ≤ 65535) × (56 ≤ length (now ws)) ⌝ }
+    requires { ⌜ (c .at ≤ mostBytes) × (valueWords ≤ length (now ws)) ⌝ }
     ensures { λ r. ⌜ Tried (read-2 f) (now (source .entry)) (now (ws .entry)) 8 c r ⌝ }
 {
     let c0 = write_fits::number(ws, source, c, wire::has_bit(f, 1), 8, Width::W8); // time running
@@ -92,8 +94,8 @@ fn read_2(ws: &[u64], source: &[u8], f: u64, c: Walked) -> Walked
 
 // 8 READ
 fn read(ws: &[u64], source: &[u8], f: u64, c: Walked) -> Walked
-    requires { ⌜ (c .at ≤ 65535) × (56 ≤ length (now ws)) ⌝ }
-    ensures { λ r. ⌜ Tried (read f) (now (source .entry)) (now (ws .entry)) 3 c r ⌝ }
+    requires { ⌜ (c .at ≤ mostBytes) × (valueWords ≤ length (now ws)) ⌝ }
+    ensures { λ r. ⌜ Tried (read f) (now (source .entry)) (now (ws .entry)) bodyWords c r ⌝ }
 {
     let c0 = read_1(ws, source, f, c);
     read_2(ws, source, f, c0)
@@ -101,8 +103,8 @@ fn read(ws: &[u64], source: &[u8], f: u64, c: Walked) -> Walked
 
 // 10 MMAP2, part 1
 fn mmap2_1(ws: &[u64], source: &[u8], c: Walked) -> Walked
-    requires { ⌜ (c .at ≤ 65535) × (56 ≤ length (now ws)) ⌝ }
-    ensures { λ r. ⌜ Tried mmap2-1 (now (source .entry)) (now (ws .entry)) 3 c r ⌝ }
+    requires { ⌜ (c .at ≤ mostBytes) × (valueWords ≤ length (now ws)) ⌝ }
+    ensures { λ r. ⌜ Tried mmap2-1 (now (source .entry)) (now (ws .entry)) bodyWords c r ⌝ }
 {
     let c0 = write_fits::number(ws, source, c, true, 3, Width::W4); // pid
     let c1 = write_fits::number(ws, source, c0, true, 4, Width::W4); // tid
@@ -113,7 +115,7 @@ fn mmap2_1(ws: &[u64], source: &[u8], c: Walked) -> Walked
 
 // 10 MMAP2, part 2
 fn mmap2_2(ws: &[u64], source: &[u8], misc: u64, c: Walked) -> Walked
-    requires { ⌜ (c .at ≤ 65535) × (56 ≤ length (now ws)) ⌝ }
+    requires { ⌜ (c .at ≤ mostBytes) × (valueWords ≤ length (now ws)) ⌝ }
     ensures { λ r. ⌜ Tried (mmap2-2 misc) (now (source .entry)) (now (ws .entry)) 8 c r ⌝ }
 {
     let c0 = write_fits::number(ws, source, c, !wire::has_bit(misc, 14), 8, Width::W4); // maj
@@ -125,7 +127,7 @@ fn mmap2_2(ws: &[u64], source: &[u8], misc: u64, c: Walked) -> Walked
 
 // 10 MMAP2, part 3
 fn mmap2_3(ws: &[u64], source: &[u8], misc: u64, c: Walked) -> Walked
-    requires { ⌜ (c .at ≤ 65535) × (56 ≤ length (now ws)) ⌝ }
+    requires { ⌜ (c .at ≤ mostBytes) × (valueWords ≤ length (now ws)) ⌝ }
     ensures { λ r. ⌜ Tried (mmap2-3 misc) (now (source .entry)) (now (ws .entry)) 13 c r ⌝ }
 {
     let c0 = write_fits::ignored(ws, source, c, wire::has_bit(misc, 14), 13, 3); // reserved
@@ -137,8 +139,8 @@ fn mmap2_3(ws: &[u64], source: &[u8], misc: u64, c: Walked) -> Walked
 
 // 10 MMAP2
 fn mmap2(ws: &[u64], source: &[u8], misc: u64, c: Walked) -> Walked
-    requires { ⌜ (c .at ≤ 65535) × (56 ≤ length (now ws)) ⌝ }
-    ensures { λ r. ⌜ Tried (mmap2 misc) (now (source .entry)) (now (ws .entry)) 3 c r ⌝ }
+    requires { ⌜ (c .at ≤ mostBytes) × (valueWords ≤ length (now ws)) ⌝ }
+    ensures { λ r. ⌜ Tried (mmap2 misc) (now (source .entry)) (now (ws .entry)) bodyWords c r ⌝ }
 {
     let c0 = mmap2_1(ws, source, c);
     let c1 = mmap2_2(ws, source, misc, c0);
@@ -147,8 +149,8 @@ fn mmap2(ws: &[u64], source: &[u8], misc: u64, c: Walked) -> Walked
 
 // 12 ITRACE_START
 fn itrace_start(ws: &[u64], source: &[u8], c: Walked) -> Walked
-    requires { ⌜ (c .at ≤ 65535) × (56 ≤ length (now ws)) ⌝ }
-    ensures { λ r. ⌜ Tried itrace-start (now (source .entry)) (now (ws .entry)) 3 c r ⌝ }
+    requires { ⌜ (c .at ≤ mostBytes) × (valueWords ≤ length (now ws)) ⌝ }
+    ensures { λ r. ⌜ Tried itrace-start (now (source .entry)) (now (ws .entry)) bodyWords c r ⌝ }
 {
     let c0 = write_fits::number(ws, source, c, true, 3, Width::W4); // pid
     write_fits::number(ws, source, c0, true, 4, Width::W4) // tid
@@ -156,16 +158,16 @@ fn itrace_start(ws: &[u64], source: &[u8], c: Walked) -> Walked
 
 // 13 LOST_SAMPLES
 fn lost_samples(ws: &[u64], source: &[u8], c: Walked) -> Walked
-    requires { ⌜ (c .at ≤ 65535) × (56 ≤ length (now ws)) ⌝ }
-    ensures { λ r. ⌜ Tried lost-samples (now (source .entry)) (now (ws .entry)) 3 c r ⌝ }
+    requires { ⌜ (c .at ≤ mostBytes) × (valueWords ≤ length (now ws)) ⌝ }
+    ensures { λ r. ⌜ Tried lost-samples (now (source .entry)) (now (ws .entry)) bodyWords c r ⌝ }
 {
     write_fits::number(ws, source, c, true, 3, Width::W8) // lost
 }
 
 // 16 NAMESPACES
 fn namespaces(ws: &[u64], source: &[u8], c: Walked) -> Walked
-    requires { ⌜ (c .at ≤ 65535) × (56 ≤ length (now ws)) ⌝ }
-    ensures { λ r. ⌜ Tried namespaces (now (source .entry)) (now (ws .entry)) 3 c r ⌝ }
+    requires { ⌜ (c .at ≤ mostBytes) × (valueWords ≤ length (now ws)) ⌝ }
+    ensures { λ r. ⌜ Tried namespaces (now (source .entry)) (now (ws .entry)) bodyWords c r ⌝ }
 {
     let c0 = write_fits::number(ws, source, c, true, 3, Width::W4); // pid
     let c1 = write_fits::number(ws, source, c0, true, 4, Width::W4); // tid
@@ -175,8 +177,8 @@ fn namespaces(ws: &[u64], source: &[u8], c: Walked) -> Walked
 
 // 17 KSYMBOL
 fn ksymbol(ws: &[u64], source: &[u8], c: Walked) -> Walked
-    requires { ⌜ (c .at ≤ 65535) × (56 ≤ length (now ws)) ⌝ }
-    ensures { λ r. ⌜ Tried ksymbol (now (source .entry)) (now (ws .entry)) 3 c r ⌝ }
+    requires { ⌜ (c .at ≤ mostBytes) × (valueWords ≤ length (now ws)) ⌝ }
+    ensures { λ r. ⌜ Tried ksymbol (now (source .entry)) (now (ws .entry)) bodyWords c r ⌝ }
 {
     let c0 = write_fits::number(ws, source, c, true, 3, Width::W8); // addr
     let c1 = write_fits::number(ws, source, c0, true, 4, Width::W4); // len
@@ -187,8 +189,8 @@ fn ksymbol(ws: &[u64], source: &[u8], c: Walked) -> Walked
 
 // 18 BPF_EVENT
 fn bpf_event(ws: &[u64], source: &[u8], c: Walked) -> Walked
-    requires { ⌜ (c .at ≤ 65535) × (56 ≤ length (now ws)) ⌝ }
-    ensures { λ r. ⌜ Tried bpf-event (now (source .entry)) (now (ws .entry)) 3 c r ⌝ }
+    requires { ⌜ (c .at ≤ mostBytes) × (valueWords ≤ length (now ws)) ⌝ }
+    ensures { λ r. ⌜ Tried bpf-event (now (source .entry)) (now (ws .entry)) bodyWords c r ⌝ }
 {
     let c0 = write_fits::number(ws, source, c, true, 3, Width::W2); // type
     let c1 = write_fits::number(ws, source, c0, true, 4, Width::W2); // flags
@@ -198,8 +200,8 @@ fn bpf_event(ws: &[u64], source: &[u8], c: Walked) -> Walked
 
 // 19 CGROUP
 fn cgroup(ws: &[u64], source: &[u8], c: Walked) -> Walked
-    requires { ⌜ (c .at ≤ 65535) × (56 ≤ length (now ws)) ⌝ }
-    ensures { λ r. ⌜ Tried cgroup (now (source .entry)) (now (ws .entry)) 3 c r ⌝ }
+    requires { ⌜ (c .at ≤ mostBytes) × (valueWords ≤ length (now ws)) ⌝ }
+    ensures { λ r. ⌜ Tried cgroup (now (source .entry)) (now (ws .entry)) bodyWords c r ⌝ }
 {
     let c0 = write_fits::number(ws, source, c, true, 3, Width::W8); // id
     write_fits::name(ws, source, c0, true, 4) // name
@@ -207,8 +209,8 @@ fn cgroup(ws: &[u64], source: &[u8], c: Walked) -> Walked
 
 // 20 TEXT_POKE
 fn text_poke(ws: &[u64], source: &[u8], c: Walked) -> Walked
-    requires { ⌜ (c .at ≤ 65535) × (56 ≤ length (now ws)) ⌝ }
-    ensures { λ r. ⌜ Tried text-poke (now (source .entry)) (now (ws .entry)) 3 c r ⌝ }
+    requires { ⌜ (c .at ≤ mostBytes) × (valueWords ≤ length (now ws)) ⌝ }
+    ensures { λ r. ⌜ Tried text-poke (now (source .entry)) (now (ws .entry)) bodyWords c r ⌝ }
 {
     let c0 = write_fits::number(ws, source, c, true, 3, Width::W8); // addr
     let c1 = write_fits::count(ws, source, c0, true, 4, Width::W2); // old length
@@ -220,8 +222,8 @@ fn text_poke(ws: &[u64], source: &[u8], c: Walked) -> Walked
 
 // the trailer, part 1
 fn trailer_1(ws: &[u64], source: &[u8], x: u64, c: Walked) -> Walked
-    requires { ⌜ (c .at ≤ 65535) × (56 ≤ length (now ws)) ⌝ }
-    ensures { λ r. ⌜ Tried (trailer-1 x) (now (source .entry)) (now (ws .entry)) 48 c r ⌝ }
+    requires { ⌜ (c .at ≤ mostBytes) × (valueWords ≤ length (now ws)) ⌝ }
+    ensures { λ r. ⌜ Tried (trailer-1 x) (now (source .entry)) (now (ws .entry)) trailWords c r ⌝ }
 {
     let c0 = write_fits::number(ws, source, c, wire::has_bit(x, 1), 48, Width::W4); // pid
     let c1 = write_fits::number(ws, source, c0, wire::has_bit(x, 1), 49, Width::W4); // tid
@@ -231,7 +233,7 @@ fn trailer_1(ws: &[u64], source: &[u8], x: u64, c: Walked) -> Walked
 
 // the trailer, part 2
 fn trailer_2(ws: &[u64], source: &[u8], x: u64, c: Walked) -> Walked
-    requires { ⌜ (c .at ≤ 65535) × (56 ≤ length (now ws)) ⌝ }
+    requires { ⌜ (c .at ≤ mostBytes) × (valueWords ≤ length (now ws)) ⌝ }
     ensures { λ r. ⌜ Tried (trailer-2 x) (now (source .entry)) (now (ws .entry)) 52 c r ⌝ }
 {
     let c0 = write_fits::number(ws, source, c, wire::has_bit(x, 9), 52, Width::W8); // stream id
@@ -242,8 +244,8 @@ fn trailer_2(ws: &[u64], source: &[u8], x: u64, c: Walked) -> Walked
 
 // the trailer
 fn trailer(ws: &[u64], source: &[u8], x: u64, c: Walked) -> Walked
-    requires { ⌜ (c .at ≤ 65535) × (56 ≤ length (now ws)) ⌝ }
-    ensures { λ r. ⌜ Tried (trailer x) (now (source .entry)) (now (ws .entry)) 48 c r ⌝ }
+    requires { ⌜ (c .at ≤ mostBytes) × (valueWords ≤ length (now ws)) ⌝ }
+    ensures { λ r. ⌜ Tried (trailer x) (now (source .entry)) (now (ws .entry)) trailWords c r ⌝ }
 {
     let c0 = trailer_1(ws, source, x, c);
     trailer_2(ws, source, x, c0)
@@ -251,8 +253,8 @@ fn trailer(ws: &[u64], source: &[u8], x: u64, c: Walked) -> Walked
 
 // The fields of a type; a type that has none, or that the table does not have, has nothing to say.
 pub fn fields(ws: &[u64], source: &[u8], kind: u64, misc: u64, a: Attributes, c: Walked) -> Walked
-    requires { ⌜ (c .at ≤ 65535) × (56 ≤ length (now ws)) ⌝ }
-    ensures { λ r. ⌜ Tried (schema kind misc a) (now (source .entry)) (now (ws .entry)) 3 c r ⌝ }
+    requires { ⌜ (c .at ≤ mostBytes) × (valueWords ≤ length (now ws)) ⌝ }
+    ensures { λ r. ⌜ Tried (schema kind misc a) (now (source .entry)) (now (ws .entry)) bodyWords c r ⌝ }
 {
     let x = a.sample;
     let f = a.format;
@@ -261,66 +263,66 @@ pub fn fields(ws: &[u64], source: &[u8], kind: u64, misc: u64, a: Attributes, c:
     let interrupt = a.interrupt;
     match kind {
         0 => c,
-        1 => mmap(ws, source, c),
-        2 => lost(ws, source, c),
-        3 => comm(ws, source, c),
-        4 => exit(ws, source, c),
-        5 => throttle(ws, source, c),
-        6 => throttle(ws, source, c),
-        7 => exit(ws, source, c),
-        8 => read(ws, source, f, c),
-        9 => sample_fits::sample(ws, source, x, f, b, user, interrupt, c),
-        10 => mmap2(ws, source, misc, c),
-        11 => throttle(ws, source, c),
-        12 => itrace_start(ws, source, c),
-        13 => lost_samples(ws, source, c),
-        14 => c,
-        15 => itrace_start(ws, source, c),
-        16 => namespaces(ws, source, c),
-        17 => ksymbol(ws, source, c),
-        18 => bpf_event(ws, source, c),
-        19 => cgroup(ws, source, c),
-        20 => text_poke(ws, source, c),
-        21 => lost_samples(ws, source, c),
+        types::MMAP => mmap(ws, source, c),
+        types::LOST => lost(ws, source, c),
+        types::COMM => comm(ws, source, c),
+        types::EXIT => exit(ws, source, c),
+        types::THROTTLE => throttle(ws, source, c),
+        types::UNTHROTTLE => throttle(ws, source, c),
+        types::FORK => exit(ws, source, c),
+        types::READ => read(ws, source, f, c),
+        types::SAMPLE => sample_fits::sample(ws, source, x, f, b, user, interrupt, c),
+        types::MMAP2 => mmap2(ws, source, misc, c),
+        types::AUX => throttle(ws, source, c),
+        types::ITRACE_START => itrace_start(ws, source, c),
+        types::LOST_SAMPLES => lost_samples(ws, source, c),
+        types::SWITCH => c,
+        types::SWITCH_CPU_WIDE => itrace_start(ws, source, c),
+        types::NAMESPACES => namespaces(ws, source, c),
+        types::KSYMBOL => ksymbol(ws, source, c),
+        types::BPF_EVENT => bpf_event(ws, source, c),
+        types::CGROUP => cgroup(ws, source, c),
+        types::TEXT_POKE => text_poke(ws, source, c),
+        types::AUX_OUTPUT_HW_ID => lost_samples(ws, source, c),
         _ => c,
     }
 }
 
 // The trailer of a record of this type.
 pub fn trail(ws: &[u64], source: &[u8], kind: u64, a: Attributes, c: Walked) -> Walked
-    requires { ⌜ (c .at ≤ 65535) × (56 ≤ length (now ws)) ⌝ }
-    ensures { λ r. ⌜ Tried (trailerOf kind a) (now (source .entry)) (now (ws .entry)) 48 c r ⌝ }
+    requires { ⌜ (c .at ≤ mostBytes) × (valueWords ≤ length (now ws)) ⌝ }
+    ensures { λ r. ⌜ Tried (trailerOf kind a) (now (source .entry)) (now (ws .entry)) trailWords c r ⌝ }
 {
     trailer(ws, source, layouts::trailer_bits(kind, a), c)
 }
 
 // The words before the end of a type's own; what stands after them is zero in every value.
 pub fn own_end(kind: u64, misc: u64, a: Attributes) -> usize
-    ensures { λ r. ⌜ (r ≡ bodyWords + bodyWidth (schema kind misc a)) × (r ≤ 48) ⌝ }
+    ensures { λ r. ⌜ (r ≡ bodyWords + bodyWidth (schema kind misc a)) × (r ≤ trailWords) ⌝ }
 {
     match kind {
         0 => 3,
-        1 => 11,
-        2 => 5,
-        3 => 8,
-        4 => 8,
-        5 => 6,
-        6 => 6,
-        7 => 8,
-        8 => 12,
-        9 => 45,
-        10 => 19,
-        11 => 6,
-        12 => 5,
-        13 => 4,
-        14 => 3,
-        15 => 5,
-        16 => 7,
-        17 => 10,
-        18 => 8,
-        19 => 7,
-        20 => 8,
-        21 => 4,
+        types::MMAP => 11,
+        types::LOST => 5,
+        types::COMM => 8,
+        types::EXIT => 8,
+        types::THROTTLE => 6,
+        types::UNTHROTTLE => 6,
+        types::FORK => 8,
+        types::READ => 12,
+        types::SAMPLE => 45,
+        types::MMAP2 => 19,
+        types::AUX => 6,
+        types::ITRACE_START => 5,
+        types::LOST_SAMPLES => 4,
+        types::SWITCH => 3,
+        types::SWITCH_CPU_WIDE => 5,
+        types::NAMESPACES => 7,
+        types::KSYMBOL => 10,
+        types::BPF_EVENT => 8,
+        types::CGROUP => 7,
+        types::TEXT_POKE => 8,
+        types::AUX_OUTPUT_HW_ID => 4,
         _ => 3,
     }
 }

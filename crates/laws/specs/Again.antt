@@ -16,11 +16,12 @@ use Rattle.meaning.specs.declared.Item.{Item}
 use Rattle.meaning.specs.declared.Shape.{Shape}
 use Rattle.meaning.specs.declared.Shape.the-variants.{Number, Ignored, Count, Size, Times, Earlier, Registers, Filled, Abi, Limit, Listed, Bytes, Pad, Name}
 use Rattle.meaning.specs.Bytes.{small, keep}
+use Rattle.meaning.specs.Schema.{item}
 use Rattle.meaning.specs.Items.{Con, refuse, span, rule, holds, past, part, settle, shapeStep, step, walk, content, contents}
 use Rattle.meaning.specs.Writing.{emit, blank, fitShape, next, fit, write, kept, cleaned, ends}
 use Rattle.laws.specs.Bytes.{apart, true-and, small-take, small-drop, length-keep}
 use Rattle.laws.specs.Items.{Back, back}
-use Rattle.laws.specs.There.{item, next-at}
+use Rattle.laws.specs.There.{next-at}
 
 -- after a refusal nothing changes, so a walk that ends without one met none
 pub stuck : (xs : List ℕ) (is : List Item) (c : Cursor) → (c .why ≡ 0 → ⊥) → walk xs is c ≡ c

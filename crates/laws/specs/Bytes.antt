@@ -23,6 +23,13 @@ and-true false b h = absurd (apart h)
 pub true-and : (a b : Bool) → a ≡ true → b ≡ true → a && b ≡ true
 true-and a b p q = rw (p, q)
 
+-- are two lists of numbers the same? The contract of a comparison uses this definition (M-108), and examples do
+unfoldable pub sameBytes : List ℕ → List ℕ → Bool
+sameBytes [] [] = true
+sameBytes [] (y ∷ ys) = false
+sameBytes (x ∷ xs) [] = false
+sameBytes (x ∷ xs) (y ∷ ys) = eqb x y && sameBytes xs ys
+
 pub con-of : (v : Con) (a : ℕ) (l : List ℕ) → a ≡ v .num → l ≡ v .list → con a l ≡ v
 con-of v a l p q = λ j. record { num = p j; list = q j }
 

@@ -1,4 +1,4 @@
--- The layouts of every edition and all attributes are sound, so both round trips and the exact 42 hold of them. Assumes nothing.
+-- The layouts of every edition and all attributes are sound: with it both round trips and the exact 42 (Whole) hold of them. Assumes nothing.
 use mathlib.Core.Path.{_≡_, refl}
 use Prim.Native.Nat.{ℕ, zero, suc, _+_, _%_}
 use native.Mathlib.Omega.{arith}
@@ -9,13 +9,12 @@ use lib.Dec.{eqb}
 use Rattle.meaning.specs.Bytes.{bit}
 use Rattle.meaning.specs.declared.Attributes.{Attributes}
 use Rattle.meaning.specs.declared.Item.{Item}
-use Rattle.meaning.specs.Bytes.{small}
 use Rattle.meaning.specs.Writing.{ends, endsLast}
-use Rattle.meaning.specs.Records.{layout, Value, fixedShape, fixed, roomShape, room, checkBy, value, unflagged, writeRecord, fits, cleanedRecord}
+use Rattle.meaning.specs.Records.{layout, fixedShape, fixed, roomShape, room}
 use Rattle.meaning.specs.declared.Known.{Known}
 use Rattle.meaning.specs.Schema.{schemas, trailer}
 use Rattle.laws.specs.Bytes.{and-true}
-use Rattle.laws.specs.Whole.{Sound, Decodes, record-there, record-again, unfit-iff-none}
+use Rattle.laws.specs.Whole.{SoundLayout}
 
 every : List (List Item) → Bool
 every [] = true
@@ -64,20 +63,6 @@ trailer-eights kind a = six (on 1) (on 2) (on 6) (on 9) (on 7) (on 16)
     on : ℕ → Bool
     on b = a .all && not (eqb kind 9) && bit (a .sample) b
 
-pub sound : (k : Known) (a : Attributes) → Sound (layout k a)
+pub sound : (k : Known) (a : Attributes) → SoundLayout (layout k a)
 unfolding layout
 sound k a = record { last = λ kind misc. one-of (schemas misc a) kind (names-last misc a); plain = λ kind. trailer-fixed kind a; whole = λ kind. trailer-eights kind a }
-
--- the writer's bytes read back as the same record
-pub reads-back : (k : Known) (a : Attributes) (v : Value) → fits (layout k a) v ≡ true → Decodes (layout k a) (writeRecord (layout k a) v) v
-reads-back k a v f = record-there (layout k a) v (sound k a) f
-
--- a decoded record written again has the same bytes, the ignored ones as zero
-pub writes-again : (k : Known) (a : Attributes) (xs : List ℕ) → small xs ≡ true → checkBy (layout k a) xs ≡ 0
-    → (fits (layout k a) (unflagged (value (layout k a) xs)) ≡ true) × (writeRecord (layout k a) (value (layout k a) xs) ≡ cleanedRecord (layout k a) xs)
-writes-again k a xs s h = record-again (layout k a) xs (sound k a) s h
-
--- 42
-pub unfit : (k : Known) (a : Attributes) (v : Value) → v .flag ≡ 0
-    → (fits (layout k a) v ≡ false → (xs : List ℕ) → Decodes (layout k a) xs v → ⊥) × (((xs : List ℕ) → Decodes (layout k a) xs v → ⊥) → fits (layout k a) v ≡ false)
-unfit k a v n = unfit-iff-none (layout k a) v (sound k a) n

@@ -15,12 +15,11 @@ use Rattle.meaning.specs.declared.Known.{Known}
 use Rattle.meaning.specs.declared.Shape.{Shape}
 use Rattle.meaning.specs.Items.{Con, span, rule, holds, past, part, settle, shapeStep, step, walk}
 use Rattle.meaning.specs.Editions.{known, allowed}
-use Rattle.meaning.specs.Schema.{trailer}
+use Rattle.meaning.specs.Schema.{item, trailer}
 use Rattle.meaning.specs.Records.{Layout, layout, room, kindOf, miscOf, sizeOf, origin, fieldsOf, checkBy, check}
-use Rattle.laws.specs.There.{item}
 use Rattle.laws.specs.Again.{fine, fine₁, stepped, item-passed}
 use Rattle.laws.specs.Answers.{fields-zero, fields-pass, check-zero, check-pass}
-use Rattle.laws.specs.Words.{front}
+use Rattle.laws.specs.Put.{take-within}
 use Rattle.laws.specs.Answer42.{check-of, of-check}
 
 -- the bytes ys are laid out by the items: each selected item in turn has as many bytes as it takes, they break no rule of its own, and nothing is
@@ -45,7 +44,7 @@ past-why : (sh : Shape) (v : Con) (k : ℕ) (c : Cursor) → past sh v k c .why 
 unfolding past
 past-why sh v k c = refl
 
-past-place : (sh : Shape) (v : Con) (k : ℕ) (c : Cursor) → past sh v k c .at ≡ c .at + k
+pub past-place : (sh : Shape) (v : Con) (k : ℕ) (c : Cursor) → past sh v k c .at ≡ c .at + k
 unfolding past
 past-place sh v k c = refl
 
@@ -121,7 +120,7 @@ before-trailer t xs fields tail least e l =
     let lF : length F ≡ n = length-take-le n xs (omega arith) in
     let dF = length-drop 8 F in (
       omega (arith, d, s, l, least),
-      sym (take-all (n - 8) (drop 8 F) (omega (arith, dF, lF))) ∙ front 8 (n - 8) n xs (omega (arith, d, s, l, least))
+      sym (take-all (n - 8) (drop 8 F) (omega (arith, dF, lF))) ∙ take-within (n - 8) 8 n xs (omega (arith, d, s, l, least))
           ∙ ap (λ (m : List ℕ). take (n - 8) m) e ∙ take-at fields tail (n - 8) (omega (arith, d, s, l, least)),
       lF,
     )

@@ -12,12 +12,12 @@ use Rattle.meaning.specs.declared.Cursor.{Cursor}
 use Rattle.meaning.specs.declared.Item.{Item}
 use Rattle.meaning.specs.declared.Shape.{Shape}
 use Rattle.meaning.specs.declared.Shape.the-variants.{Number, Ignored, Count, Size, Times, Earlier, Registers, Filled, Abi, Limit, Listed, Bytes, Pad, Name}
+use Rattle.meaning.specs.Schema.{item}
 use Rattle.meaning.specs.Items.{Con, cursor, span, rule, past, part, settle, shapeStep, step, walk}
 use Rattle.meaning.specs.Writing.{emit, blank, fitShape, next, fit, write, ends, endsLast}
 use Rattle.meaning.specs.Records.{fixedShape, fixed, roomShape, room}
 use Rattle.laws.specs.Bytes.{apart, and-true}
 use Rattle.laws.specs.Items.{Wrote, wrote}
-use Rattle.laws.specs.There.{item}
 
 fixed-shape : (sh : Shape) (c : Cursor) (r : ℕ) (ys : List ℕ) → fixedShape sh ≡ true → (span sh c r ≡ roomShape sh) × (rule sh c ys ≡ 0) × (ends sh ≡ false)
 unfolding fixedShape span rule roomShape ends

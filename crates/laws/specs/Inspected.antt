@@ -1,15 +1,15 @@
 -- The number inspected (M-112), by why a record has no event; and record check with a table, by what comes before the lookup. Assumes nothing.
-use mathlib.Core.Path.{_≡_, refl, sym, ap, _∙_, subst}
+use mathlib.Core.Path.{_≡_, refl, sym, ap, _∙_}
 use mathlib.Core.Bool.{Bool, true, false, cond, not, _&&_, _||_}
 use mathlib.Core.List.{List}
-use Prim.Native.Nat.{ℕ, _+_, _%_, _<_, _≤_}
+use Prim.Native.Nat.{ℕ, _+_, _%_, _≤_}
 use native.Mathlib.Omega.{arith}
 use lib.Dec.{leb, ltb, eqb}
 use lib.ListN.{length}
 use borrow.Author.Tests.{eqb-true, leb-true, eq-eqb, ne-eqb}
 use Rattle.meaning.specs.declared.Event.{Event}
 use Rattle.meaning.specs.declared.Known.{Known}
-use Rattle.meaning.specs.Refusals.{first, orElse}
+use Rattle.meaning.specs.Refusals.{first}
 use Rattle.meaning.specs.Editions.{known, allowed, knows, sampleBit, isIn}
 use Rattle.meaning.specs.Records.{kindOf, sizeOf}
 use Rattle.meaning.specs.Events.{identifiers, identifierOf, indexFor, sound, seen, unmatched, judgeEvents, inspected, unasked, checkEvents, checkInspected}

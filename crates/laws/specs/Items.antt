@@ -25,7 +25,7 @@ Wrote sh c v =
     × (holds sh c (emit sh c v) ≡ v)
     × (ends sh && stale (emit sh c v) ≡ false)
 
-number-nil : (k : ℕ) (v : Con) → number k v ≡ true → (v .num < 256 ^ k) × ([] ≡ v .list)
+pub number-nil : (k : ℕ) (v : Con) → number k v ≡ true → (v .num < 256 ^ k) × ([] ≡ v .list)
 unfolding number
 number-nil k v h =
     let s = and-true (ltb (v .num) (256 ^ k)) (eqb (length (v .list)) 0) h in
@@ -37,7 +37,7 @@ blank-is v h =
     let s = and-true (eqb (v .num) 0) (eqb (length (v .list)) 0) h in
     con-of v 0 [] (sym (eqb-true _ _ (s .0))) (nil-of (v .list) (eqb-true _ _ (s .1)))
 
-listed-is : (k : ℕ) (v : Con) → listed k v ≡ true → (0 ≡ v .num) × (length (v .list) ≡ k) × (small (v .list) ≡ true)
+pub listed-is : (k : ℕ) (v : Con) → listed k v ≡ true → (0 ≡ v .num) × (length (v .list) ≡ k) × (small (v .list) ≡ true)
 unfolding listed
 listed-is k v h =
     let s = and-true (eqb (v .num) 0) (eqb (length (v .list)) k && small (v .list)) h in

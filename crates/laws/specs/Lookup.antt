@@ -1,18 +1,18 @@
 -- Laws of the lookup in a table of events: over a place in the list, as a loop goes; where identifiers are distinct; rows as events. Assumes nothing.
 use mathlib.Core.Path.{_≡_, refl, sym, ap, _∙_}
-use mathlib.Core.Bool.{Bool, true, false, cond, not, _&&_, _||_}
-use mathlib.Core.List.{List, [], _∷_, map}
+use mathlib.Core.Bool.{Bool, true, false, cond, not, _||_}
+use mathlib.Core.List.{List, [], _∷_}
 use Prim.Native.Nat.{ℕ, zero, suc, _+_, _<_, _≤_}
 use native.Mathlib.Numerals.{add-one}
 use native.Mathlib.Omega.{arith}
-use lib.Dec.{leb, ltb, eqb}
+use lib.Dec.{ltb, eqb}
 use lib.ListN.{length, getD, drop, drop-of-length-le}
 use lib.Seq.{drop-cons}
 use borrow.Author.Tests.{eq-eqb, ne-eqb, eqb-true, eqb-false, lt-ltb, le-ltb, ltb-true, ltb-false, not-true}
 use Rattle.meaning.specs.Editions.{isIn}
 use Rattle.laws.specs.Bytes.{apart, and-true}
 use Rattle.meaning.specs.declared.Event.{Event}
-use Rattle.meaning.specs.Events.{noEvent, eventAt, eventOf, eventsOf, identifiers, distinct, marked, allMarked, indexOf, seen}
+use Rattle.meaning.specs.Events.{eventAt, eventOf, eventsOf, identifiers, distinct, marked, allMarked, indexOf, seen}
 
 -- ---- over a place in the list
 pub index-end : (x : ℕ) (l : List ℕ) (i : ℕ) → length l ≤ i → indexOf x (drop i l) ≡ 0
@@ -39,7 +39,8 @@ index-most x (y ∷ ys) = by (eqb y x) (index-most x ys)
     by true h = omega arith
     by false h = omega arith
 
-eqb-turn : (x y : ℕ) → eqb x y ≡ eqb y x
+-- an equality, turned round
+pub eqb-turn : (x y : ℕ) → eqb x y ≡ eqb y x
 eqb-turn x y = by (eqb x y) refl
   where
     by : (b : Bool) → eqb x y ≡ b → b ≡ eqb y x

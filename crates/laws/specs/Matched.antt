@@ -1,7 +1,7 @@
 -- The answer of a record that has an event is that of its event's attributes; and what row 11 does to a frame. Assumes nothing.
 use mathlib.Core.Path.{_≡_, refl, sym, ap, _∙_, subst}
 use mathlib.Core.Bool.{Bool, true, false, cond, not, _&&_, _||_}
-use mathlib.Core.List.{List, [], _∷_}
+use mathlib.Core.List.{List}
 use Prim.Native.Nat.{ℕ, _/_, _%_, _^_, _<_, _≤_}
 use native.Mathlib.Omega.{arith}
 use lib.Dec.{leb, ltb, eqb}
@@ -10,14 +10,13 @@ use lib.Pow.{pow-mono}
 use borrow.Author.Tests.{eqb-true, ltb-false, le-leb, not-false}
 use Rattle.meaning.specs.declared.Attributes.{Attributes}
 use Rattle.meaning.specs.declared.Event.{Event}
-use Rattle.meaning.specs.declared.Frame.{Frame}
 use Rattle.meaning.specs.declared.Known.{Known}
 use Rattle.meaning.specs.Bytes.{bit}
 use Rattle.meaning.specs.Refusals.{first, orElse}
 use Rattle.meaning.specs.Editions.{allowed, knows, sampleBit, unknowns, clashes, unreadable, isIn}
 use Rattle.meaning.specs.Records.{layout, kindOf, miscOf, judge}
 use Rattle.meaning.specs.Ring.{Asked, askingWith, askedOf, frame}
-use Rattle.meaning.specs.Events.{attributesOf, identifiers, distinct, marked, allMarked, sound, askedEvents, identifierOf, indexFor, eventFor, hasEvent, gate, eventless, layoutFor, unmatched, judgeEvents}
+use Rattle.meaning.specs.Events.{attributesOf, identifiers, distinct, allMarked, sound, askedEvents, identifierOf, indexFor, eventFor, hasEvent, gate, eventless, layoutFor, unmatched, judgeEvents}
 use Rattle.laws.specs.Bytes.{apart, and-true}
 use Rattle.laws.specs.Rings.{frame-going}
 use Rattle.laws.specs.Lookup.{identifiers-length, marked-at, index-in}

@@ -18,7 +18,7 @@ use Rattle.meaning.specs.Records.{Layout, Value, origin, checkBy, value, unflag
 use Rattle.laws.specs.Bytes.{and-true}
 use Rattle.laws.specs.There.{next-at}
 use Rattle.laws.specs.Answers.{check-zero}
-use Rattle.laws.specs.Whole.{Sound, Decodes, flag-unwritten, header-length, record-there, record-again}
+use Rattle.laws.specs.Whole.{SoundLayout, Decodes, flag-unwritten, header-length, record-there, record-again}
 
 -- the size that is held is the length, a multiple of 8 and at most 65,528
 pub size-bound : (lay : Layout) (v : Value) → fits lay v ≡ true → (v .size ≡ length (writeRecord lay v)) × (v .size % 8 ≡ 0) × (v .size ≤ 65528)
@@ -38,13 +38,13 @@ size-bound lay v f =
     (eqb-true _ _ (u .0), m, omega (arith, b, m))
 
 -- what is written has zero wherever bytes are ignored
-pub written-clean : (lay : Layout) (v : Value) → Sound lay → fits lay v ≡ true → cleanedRecord lay (writeRecord lay v) ≡ writeRecord lay v
+pub written-clean : (lay : Layout) (v : Value) → SoundLayout lay → fits lay v ≡ true → cleanedRecord lay (writeRecord lay v) ≡ writeRecord lay v
 unfolding Decodes
 written-clean lay v sound f =
     let d = record-there lay v sound f in
     sym (record-again lay (writeRecord lay v) sound (d .0) (d .1) .1) ∙ ap (λ (w : Value). writeRecord lay w) (d .2)
 
-pub cleaned-length : (lay : Layout) (xs : List ℕ) → Sound lay → small xs ≡ true → checkBy lay xs ≡ 0 → length (cleanedRecord lay xs) ≡ length xs
+pub cleaned-length : (lay : Layout) (xs : List ℕ) → SoundLayout lay → small xs ≡ true → checkBy lay xs ≡ 0 → length (cleanedRecord lay xs) ≡ length xs
 unfolding value unflagged
 cleaned-length lay xs sound s h =
     let r = record-again lay xs sound s h in

@@ -1,13 +1,13 @@
 -- There are as many names as words, for every type and all attributes: by one computation over the whole table. Assumes nothing.
 use mathlib.Core.Path.{_≡_, refl}
-use mathlib.Core.List.{List, [], _∷_, map}
+use mathlib.Core.List.{[], _∷_, map}
 use Prim.Native.Nat.{ℕ}
 use lib.ListN.{length}
 use Rattle.meaning.specs.declared.Attributes.{Attributes}
 use Rattle.meaning.specs.Schema.{schemas, trailer}
 use Rattle.meaning.specs.Writing.{ends, named}
 use Rattle.meaning.specs.Values.{tell, width, flagWords, bodyWidth}
-use Rattle.meaning.specs.WordNames.{Word, pid, ppid, tid, prot, flags, nameFlag, identifier, wordNames, trailerNames, nameOf}
+use Rattle.meaning.specs.WordNames.{pid, ppid, tid, prot, flags, nameFlag, identifier, wordNames, trailerNames, nameOf}
 
 -- kept: a row of names that is longer or shorter than the words of its type is refused here
 pub names-wide : (misc : ℕ) (a : Attributes) → map length wordNames ≡ map bodyWidth (schemas misc a)

@@ -1,5 +1,6 @@
--- A number of bytes by its halves, and its bound: over the width and the place. Assumes nothing.
-use mathlib.Core.Path.{_≡_, sym, ap, _∙_, subst}
+-- A number of bytes by its halves, and its bound: over the width and the place; a header's numbers by their names; a lent slice's bytes are bytes. Assumes nothing.
+use mathlib.Core.Path.{_≡_, refl, sym, ap, _∙_, subst}
+use mathlib.Core.Bool.{true}
 use mathlib.Core.List.{List, [], _∷_}
 use Prim.Native.Nat.{ℕ, zero, suc, _+_, _*_, _^_, _<_}
 use native.Mathlib.Nat.{zero-add, suc-add, pow-succ', mul-assoc}
@@ -8,7 +9,11 @@ use mir.Val.{Fits}
 use mir.Syntax.{w8}
 use lib.ListN.{getD, take, drop}
 use lib.Seq.{take-nil, getD-drop, drop-drop}
-use Rattle.meaning.specs.Bytes.{num, numberAt}
+use lib.Dec.{ltb}
+use borrow.Author.Tests.{lt-ltb}
+use Rattle.meaning.specs.Bytes.{num, numberAt, small}
+use Rattle.meaning.specs.Records.{kindOf, miscOf, sizeOf}
+use Rattle.laws.specs.Bytes.{true-and}
 
 -- a wider number is its lower part and its upper part
 pub num-split : (a b : ℕ) (l : List ℕ) → num (take (a + b) l) ≡ num (take a l) + 256 ^ a * num (take b (drop a l))
@@ -36,3 +41,22 @@ num-bound (suc k) (x ∷ xs) h =
 -- a number of k bytes is below 256 ^ k
 pub number-bound : (k : ℕ) (l : List ℕ) (at : ℕ) → ((i : ℕ) → Fits w8 (getD l i 0)) → numberAt k l at < 256 ^ k
 number-bound k l at h = num-bound k (drop at l) (λ i. subst (λ (n : ℕ). Fits w8 n) (sym (getD-drop at l i 0)) (h (at + i)))
+
+-- the numbers of a header
+pub kind-is : (xs : List ℕ) → numberAt 4 xs 0 ≡ kindOf xs
+unfolding kindOf
+kind-is xs = refl
+
+pub misc-is : (xs : List ℕ) → numberAt 2 xs 4 ≡ miscOf xs
+unfolding miscOf
+misc-is xs = refl
+
+pub size-is : (xs : List ℕ) → numberAt 2 xs 6 ≡ sizeOf xs
+unfolding sizeOf
+size-is xs = refl
+
+-- what is lent as bytes is bytes
+pub small-of : (xs : List ℕ) → ((i : ℕ) → Fits w8 (getD xs i 0)) → small xs ≡ true
+unfolding small
+small-of [] h = refl
+small-of (x ∷ xs) h = true-and (ltb x 256) (small xs) (lt-ltb x 256 (h 0 .fits)) (small-of xs (λ i. h (suc i)))

@@ -271,14 +271,19 @@ pub first-none : (rest : ℕ) → first [] rest ≡ rest
 unfolding first
 first-none rest = refl
 
-pub first-passed : (rs : List Refusal) → noZero rs ≡ true → first rs 0 ≡ 0 → Passed rs
+-- an answer of 0: no row holds, and what follows them is 0
+pub first-through : (rs : List Refusal) (rest : ℕ) → noZero rs ≡ true → first rs rest ≡ 0 → Passed rs × (rest ≡ 0)
 unfolding first
-first-passed [] n e = tt
-first-passed (r ∷ rs) n e = let s = and-true (not (eqb (r .number) 0)) (noZero rs) n in by (r .holds) refl e (first-passed rs (s .1)) (s .0)
+first-through [] rest n e = (tt, e)
+first-through (r ∷ rs) rest n e = let s = and-true (not (eqb (r .number) 0)) (noZero rs) n in by (r .holds) refl e (first-through rs rest (s .1)) (s .0)
   where
-    by : (b : Bool) → r .holds ≡ b → cond b (r .number) (first rs 0) ≡ 0 → (first rs 0 ≡ 0 → Passed rs) → not (eqb (r .number) 0) ≡ true → Passed (r ∷ rs)
+    by : (b : Bool) → r .holds ≡ b → cond b (r .number) (first rs rest) ≡ 0 → (first rs rest ≡ 0 → Passed rs × (rest ≡ 0)) → not (eqb (r .number) 0) ≡ true
+        → Passed (r ∷ rs) × (rest ≡ 0)
     by true h e next z = absurd (zero-not (r .number) z e)
-    by false h e next z = (h, next e)
+    by false h e next z = let w = next e in ((h, w .0), w .1)
+
+pub first-passed : (rs : List Refusal) → noZero rs ≡ true → first rs 0 ≡ 0 → Passed rs
+first-passed rs n e = first-through rs 0 n e .0
 
 pub first-stops : (rs ss : List Refusal) (f : Frame) → (first rs 0 ≡ 0 → ⊥) → stopped (rs ++ ss) f ≡ stopAt (first rs 0)
 unfolding first stopped

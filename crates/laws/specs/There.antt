@@ -12,13 +12,11 @@ use Rattle.meaning.specs.declared.Cursor.{Cursor}
 use Rattle.meaning.specs.declared.Item.{Item}
 use Rattle.meaning.specs.declared.Shape.{Shape}
 use Rattle.meaning.specs.Bytes.{small, stale}
+pub use Rattle.meaning.specs.Schema.{item}
 use Rattle.meaning.specs.Items.{Con, span, holds, past, part, settle, shapeStep, step, walk, content, contents}
 use Rattle.meaning.specs.Writing.{emit, blank, fitShape, next, fit, write, ends, endsLast, dirty}
 use Rattle.laws.specs.Bytes.{apart, and-true, small-append}
 use Rattle.laws.specs.Items.{Wrote, wrote, blank-is}
-
-abbrev pub item : Bool → Shape → Item
-item on sh = record { on = on; shape = sh }
 
 -- an item's own bytes stand first in what is left
 shape-one : (sh : Shape) (c : Cursor) (v : Con) (rest R : List ℕ) → fitShape sh c v ≡ true → (ends sh ≡ true → rest ≡ []) → R ≡ emit sh c v ++ rest

@@ -22,7 +22,7 @@ use Rattle.laws.specs.Bytes.{apart, and-true, true-and, all-zeros}
 use Rattle.laws.specs.Put.{put-fits}
 use Rattle.laws.specs.Fixed.{fixed-run}
 use Rattle.laws.specs.Answers.{fields-zero, check-zero}
-use Rattle.laws.specs.Whole.{Sound, nameless-clean}
+use Rattle.laws.specs.Whole.{SoundLayout, nameless-clean}
 use Rattle.laws.specs.Every.{sound}
 use Rattle.laws.specs.Words.{start, seen, asks, steady, Agree, tell-length, items-told}
 
@@ -170,7 +170,7 @@ flag-told is ws w rest f lw e l m n = go (named is) refl e
         (sym (drop-cons ws (3 + width is) 0 (omega (arith, l, m))) ∙ sym (drop-drop (width is) 3 ws) ∙ ap (λ (x : List ℕ). drop (width is) x) q ∙ drop-at w (f ∷ rest) (width is) lw)
     go false p q = sym (n p)
 
-pub record-told : (lay : Layout) (xs : List ℕ) → Sound lay → Worded lay → checkBy lay xs ≡ 0 → Tells lay xs (recordWords lay xs)
+pub record-told : (lay : Layout) (xs : List ℕ) → SoundLayout lay → Worded lay → checkBy lay xs ≡ 0 → Tells lay xs (recordWords lay xs)
 unfolding recordWords wordsBy meant value bodyOf tailOf flagOf spare fieldsOf
 record-told lay xs sound worded h =
     let is : List Item = lay .body (kindOf xs) (miscOf xs) in

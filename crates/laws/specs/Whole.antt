@@ -2,7 +2,7 @@
 use mathlib.Core.Path.{_≡_, refl, sym, ap, ap₂, _∙_, subst}
 use Prim.Native.Nat.{ℕ, _+_, _-_, _%_, _^_, _<_, _≤_}
 use native.Mathlib.Omega.{arith}
-use mathlib.Core.Bool.{Bool, true, false, _&&_, _||_, cond}
+use mathlib.Core.Bool.{Bool, true, false, _&&_, cond, and-false}
 use mathlib.Core.List.{List, [], _∷_, _++_, append-assoc}
 use lib.ListN.{length, take, drop, length-append, length-drop}
 use lib.Seq.{length-take-le, take-at, drop-at, take-add, drop-drop}
@@ -15,32 +15,25 @@ use Rattle.meaning.specs.Items.{Con, step, walk, contents}
 use Rattle.meaning.specs.Writing.{fit, write, cleaned, ends, endsLast, named, dirty}
 use Rattle.meaning.specs.Records.{Layout, Value, fixed, room, kindOf, miscOf, sizeOf, origin, fieldsOf, fieldsAnswer, checkBy, bodyOf, tailOf, flagBy, flagOf, value, unflagged, header, fieldBytes, written, writeRecord, fitsBy, fits, cleanedBy, cleanedRecord}
 use Rattle.laws.specs.Bytes.{apart, and-true, true-and, num-spell, small-spell, spell-num, num-lt, small-append, small-take, small-drop}
+use Rattle.laws.specs.Rows.{or-false}
 use Rattle.laws.specs.There.{There, there, write-small}
 use Rattle.laws.specs.Again.{Again, again}
 use Rattle.laws.specs.Fixed.{fixed-run, fixed-last, fixed-write}
 use Rattle.laws.specs.Answers.{fields-zero, fields-pass, check-zero, check-pass}
 
 -- what a layout must have: a name only as the last field, and a trailer of numbers, a multiple of 8 long
-pub record Sound (lay : Layout) : Type 0 where
+pub record SoundLayout (lay : Layout) : Type 0 where
   pub last : (kind misc : ℕ) → endsLast (lay .body kind misc) ≡ true
   pub plain : (kind : ℕ) → fixed (lay .trail kind) ≡ true
   pub whole : (kind : ℕ) → room (lay .trail kind) % 8 ≡ 0
 
 -- a record whose type has no name never has the flag
-or-false : (a b : Bool) → a || b ≡ false → (a ≡ false) × (b ≡ false)
-or-false true b h = absurd (apart (sym h))
-or-false false b h = (refl, h)
-
-no-and : (b : Bool) → b && false ≡ false
-no-and true = refl
-no-and false = refl
-
 pub nameless : (is : List Item) (xs : List ℕ) (c : Cursor) → named is ≡ false → dirty xs is c ≡ false
 unfolding named dirty
 nameless [] xs c h = refl
 nameless (i ∷ is) xs c h =
     let p = or-false (ends (i .shape)) (named is) h in
-    rw (p .0, no-and (i .on)) (nameless is xs (step xs i c) (p .1))
+    rw (p .0, and-false (i .on)) (nameless is xs (step xs i c) (p .1))
 
 pub nameless-clean : (lay : Layout) (xs : List ℕ) → named (lay .body (kindOf xs) (miscOf xs)) ≡ false → flagOf lay xs ≡ 0
 unfolding flagOf flagBy
@@ -214,7 +207,7 @@ renewed is ts xs plain whole s e m fa =
     )
 
 -- the writer's bytes read back as the same record
-pub record-there : (lay : Layout) (v : Value) → Sound lay → fits lay v ≡ true → Decodes lay (writeRecord lay v) v
+pub record-there : (lay : Layout) (v : Value) → SoundLayout lay → fits lay v ≡ true → Decodes lay (writeRecord lay v) v
 unfolding Decodes fits writeRecord value flagOf
 record-there lay v sound f =
     let is : List Item = lay .body (v .kind) (v .misc) in
@@ -234,7 +227,7 @@ record-there lay v sound f =
     )
 
 -- a record that was accepted has a value that, without the flag, can be written; and written again it has the same bytes, the ignored ones as zero
-pub record-again : (lay : Layout) (xs : List ℕ) → Sound lay → small xs ≡ true → checkBy lay xs ≡ 0
+pub record-again : (lay : Layout) (xs : List ℕ) → SoundLayout lay → small xs ≡ true → checkBy lay xs ≡ 0
     → (fits lay (unflagged (value lay xs)) ≡ true) × (writeRecord lay (value lay xs) ≡ cleanedRecord lay xs)
 unfolding fits unflagged writeRecord written fieldBytes header value cleanedRecord
 record-again lay xs sound s h =
@@ -243,13 +236,13 @@ record-again lay xs sound s h =
     (true-and _ _ (eq-eqb _ _ (z .3)) (r .0), r .1)
 
 -- a value without the flag that a record decodes to fits
-pub decoded-fits : (lay : Layout) (v : Value) (xs : List ℕ) → Sound lay → v .flag ≡ 0 → Decodes lay xs v → fits lay v ≡ true
+pub decoded-fits : (lay : Layout) (v : Value) (xs : List ℕ) → SoundLayout lay → v .flag ≡ 0 → Decodes lay xs v → fits lay v ≡ true
 unfolding Decodes
 decoded-fits lay v xs sound n d =
     ap (λ (w : Value). fits lay w) (sym (no-flag v n) ∙ ap unflagged (sym (d .2))) ∙ record-again lay xs sound (d .0) (d .1) .0
 
 -- 42: a value without the flag does not fit exactly when no record decodes to it
-pub unfit-iff-none : (lay : Layout) (v : Value) → Sound lay → v .flag ≡ 0
+pub unfit-iff-none : (lay : Layout) (v : Value) → SoundLayout lay → v .flag ≡ 0
     → (fits lay v ≡ false → (xs : List ℕ) → Decodes lay xs v → ⊥) × (((xs : List ℕ) → Decodes lay xs v → ⊥) → fits lay v ≡ false)
 unfit-iff-none lay v sound n = (
   λ f xs d. apart (sym f ∙ decoded-fits lay v xs sound n d),
@@ -261,7 +254,7 @@ unfit-iff-none lay v sound n = (
     go false e none = refl
 
 -- two records that decode to the same value are the same but for the ignored bytes
-pub same-value : (lay : Layout) (xs ys : List ℕ) (v : Value) → Sound lay → Decodes lay xs v → Decodes lay ys v → cleanedRecord lay xs ≡ cleanedRecord lay ys
+pub same-value : (lay : Layout) (xs ys : List ℕ) (v : Value) → SoundLayout lay → Decodes lay xs v → Decodes lay ys v → cleanedRecord lay xs ≡ cleanedRecord lay ys
 unfolding Decodes
 same-value lay xs ys v sound d e =
     sym (record-again lay xs sound (d .0) (d .1) .1) ∙ ap (λ (w : Value). writeRecord lay w) (d .2 ∙ sym (e .2)) ∙ record-again lay ys sound (e .0) (e .1) .1

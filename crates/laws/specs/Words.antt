@@ -1,7 +1,7 @@
 -- The words of a record that decodes tell the writer what the reader read: the same numbers, and places and counts of the same bytes, all of
 -- them inside the record. Assumes nothing.
 use mathlib.Core.Path.{_≡_, refl, sym, ap, ap₂, _∙_, subst}
-use Prim.Native.Nat.{ℕ, zero, suc, _+_, _*_, _≤_}
+use Prim.Native.Nat.{ℕ, _+_, _*_, _≤_}
 use native.Mathlib.Nat.{mul-one}
 use native.Mathlib.Omega.{arith}
 use mathlib.Core.Bool.{Bool, true, false, _&&_, cond}
@@ -15,10 +15,11 @@ use Rattle.meaning.specs.declared.Item.{Item}
 use Rattle.meaning.specs.declared.Shape.{Shape}
 use Rattle.meaning.specs.declared.Shape.the-variants.{Number, Ignored, Count, Size, Times, Earlier, Registers, Filled, Abi, Limit, Listed, Bytes, Pad, Name}
 use Rattle.meaning.specs.Bytes.{num, zeroIn}
+use Rattle.meaning.specs.Schema.{item}
 use Rattle.meaning.specs.Items.{Con, con, span, rule, holds, counted, before, past, part, shapeStep, step, walk, content, contents}
 use Rattle.meaning.specs.Values.{Slot, slot, lists, unit, held, beyond, anyBeyond, means, slotShape, slotItem, tell, wordsOf, words, slotTold, slotOff, lastTold, beforeTold, slotsTold}
 use Rattle.laws.specs.Bytes.{apart, and-true, take-length-by, unbroken}
-use Rattle.laws.specs.There.{item}
+use Rattle.laws.specs.Put.{take-within}
 use Rattle.laws.specs.Again.{fine, fine₁, stepped, item-passed, past-at}
 
 -- ---- counts. A writer remembers the counts that the words tell; the reader's cursor remembers those of the record. They differ after an abi
@@ -116,17 +117,11 @@ agree-on Name s n old c ys rest r g = kept-on s n old c (length ys) g
 
 -- ---- one item, told. The record's fields are the front of the source: a place in them is the same place there
 
-pub front : (at k m : ℕ) (src : List ℕ) → at + k ≤ m → take k (drop at (take m src)) ≡ take k (drop at src)
-front zero k m src h = take-take k m src (omega arith)
-front (suc at) k zero src h = absurd (omega arith)
-front (suc at) k (suc m) [] h = refl
-front (suc at) k (suc m) (x ∷ src) h = front at k m src (omega arith)
-
 inside : (src F : List ℕ) (m at k : ℕ) → F ≡ take m src → at + k ≤ length F → (take k (drop at src) ≡ take k (drop at F)) × (at + k ≤ length src)
 inside src F m at k e h =
     let l = ap length e in
     let t = take-length-by m src in
-    (sym (ap (λ (x : List ℕ). take k (drop at x)) e ∙ front at k m src (omega (arith, h, l, t))), omega (arith, h, l, t))
+    (sym (ap (λ (x : List ℕ). take k (drop at x)) e ∙ take-within k at m src (omega (arith, h, l, t))), omega (arith, h, l, t))
 
 pub tell-length : (sh : Shape) (s : Slot) → length (tell sh s) ≡ wordsOf sh
 unfolding tell

@@ -1,6 +1,6 @@
 -- The marks of the types: one list, compared with the layouts by computation. Assumes nothing.
 use mathlib.Core.Path.{_≡_, refl, sym, ap, _∙_, subst}
-use mathlib.Core.Bool.{Bool, true, false, cond, _&&_, _||_}
+use mathlib.Core.Bool.{Bool, true, false, cond, _&&_, _||_, and-false, or-true}
 use mathlib.Core.List.{List, [], _∷_, map}
 use mathlib.Core.Logic.{_⊎_, inl, inr, ⊎-elim}
 use Prim.Native.Nat.{ℕ, zero, suc, _+_, _-_, _%_, _^_, _<_, _≤_}
@@ -20,18 +20,19 @@ use Rattle.meaning.specs.Editions.{unreadable}
 use Rattle.meaning.specs.Schema.{readValues, sampleLast, sample, schemas, schema, trailer}
 use Rattle.meaning.specs.Records.{room}
 use Rattle.laws.specs.Bytes.{and-true, le-or-lt}
+use Rattle.laws.specs.Rows.{or-false}
 use Rattle.blocks.specs.Steady.{oneWidth, widthOf, steady, total}
-use Rattle.exact.specs.Stretches.{groups, late, front, firstSum, total-append, or-no}
+use Rattle.exact.specs.Stretches.{groups, late, front, firstSum, total-append}
 use Rattle.marks.specs.Judged.{no-trailer}
-use Rattle.sums.specs.Sums.{readSum, read-count}
-use Rattle.marks.specs.Marks.{lastType, openMark, stretchedMark, refusedMark, nameFrom, isName, Marked, as-size, as-counted, as-named, as-refused, and-no, misc-unreadable, same-trailer, trail-eights}
+use Rattle.sums.specs.Sums.{sumMost, readMost, readSum, read-count}
+use Rattle.marks.specs.Marks.{lastType, openMark, stretchedMark, refusedMark, noType, markCount, nameFrom, isName, Marked, as-size, as-counted, as-named, as-refused, misc-unreadable, same-trailer, trail-eights}
 
 -- by type, from 0 on: the bytes of header and fields, where all are of one width; how the bytes decide; 20 for what no edition has. READ (8) and
 -- SAMPLE (9) are set apart
 abbrev pub bases : List ℕ
 bases =
-    131092 ∷ 65576 ∷ 24 ∷ 65552 ∷ 32 ∷ 32 ∷ 32 ∷ 32 ∷ 8 ∷ 8 ∷ 65608 ∷ 32 ∷ 16 ∷ 16 ∷ 8 ∷ 16 ∷ 65536 ∷ 65560 ∷ 24 ∷ 65552 ∷ 65536
-    ∷ 16 ∷ 131092 ∷ 131092 ∷ 131092 ∷ 131092 ∷ 131092 ∷ 131092 ∷ 131092 ∷ 131092 ∷ 131092 ∷ 131092 ∷ []
+    noType ∷ (openMark + 40) ∷ 24 ∷ (openMark + 16) ∷ 32 ∷ 32 ∷ 32 ∷ 32 ∷ 8 ∷ 8 ∷ (openMark + 72) ∷ 32 ∷ 16 ∷ 16 ∷ 8 ∷ 16 ∷ openMark
+    ∷ (openMark + 24) ∷ 24 ∷ (openMark + 16) ∷ openMark ∷ 16 ∷ noType ∷ noType ∷ noType ∷ noType ∷ noType ∷ noType ∷ noType ∷ noType ∷ noType ∷ noType ∷ []
 
 -- with the trailer's bytes
 abbrev pub withTrailer : ℕ → ℕ → ℕ
@@ -40,7 +41,7 @@ withTrailer t b = cond (ltb b openMark) (b + t) b
 unfoldable pub basesWith : ℕ → List ℕ
 basesWith t = map (withTrailer t) bases
 
-pub bases-long : (t : ℕ) → length (basesWith t) ≡ 32
+pub bases-long : (t : ℕ) → length (basesWith t) ≡ markCount
 unfolding basesWith
 bases-long t = refl
 
@@ -52,7 +53,7 @@ bases-at t (b ∷ bs) (suc k) h = bases-at t bs k (omega (arith, h))
 -- what a base says of a type's layout: 20; a size; a count that decides; a name
 baseOk : ℕ → List Item → ℕ → Bool
 baseOk kind is b =
-    cond (eqb kind 0 || ltb lastType kind) (eqb b 131092)
+    cond (eqb kind 0 || ltb lastType kind) (eqb b noType)
     (cond (eqb kind 8 || eqb kind 9) true
     (cond (ltb b openMark)
     (steady is && (eqb (8 + total is) b && (eqb (b % 8) 0 && leb b 1000)))
@@ -81,19 +82,15 @@ ok-at n ls (b ∷ bs) (suc k) h e =
     ∙ sym (ap (λ (x : List Item). baseOk (suc n + k) x (getD bs k 0)) (getD-next ls k []))
     ∙ ok-at (suc n) (drop 1 ls) bs k (omega (arith, h)) (and-true (baseOk n (getD ls 0 []) b) (allOk (suc n) (drop 1 ls) bs) e .1)
 
-ok : (a : Attributes) (kind : ℕ) → kind < 32 → baseOk kind (schema kind 0 a) (getD bases kind 0) ≡ true
+ok : (a : Attributes) (kind : ℕ) → kind < markCount → baseOk kind (schema kind 0 a) (getD bases kind 0) ≡ true
 ok a kind h = sym (ap (λ (i : ℕ). baseOk i (schema kind 0 a) (getD bases kind 0)) (zero-add kind)) ∙ ok-at 0 (schemas 0 a) bases kind h (all-ok a)
 
 -- ---- 20 and 21 by type
 
-or-yes : (x : Bool) → (x || true) ≡ true
-or-yes true = refl
-or-yes false = refl
-
 -- a type that the edition does not have
 pub above : (k : Known) (a : Attributes) (kind misc : ℕ) → k .kinds < kind → unreadable k a kind misc ≡ 20
 unfolding unreadable first
-above k a kind misc h = simp (lt-ltb _ _ h, or-yes)
+above k a kind misc h = simp (lt-ltb _ _ h, or-true)
 
 pub type-zero : (k : Known) (a : Attributes) (misc : ℕ) → unreadable k a 0 misc ≡ 20
 unfolding unreadable first
@@ -116,7 +113,7 @@ module _ (k : Known) (a : Attributes) (kind : ℕ) (l : 1 ≤ kind) (m : kind �
     where
       by : (b : Bool) → (leb (2 ^ k .samples) (a .sample) && a .all) ≡ b → unreadable k a kind 0 ≡ 0
       by true e = let h : _≡_ {A = ℕ} 21 0 = simp (over1, e) at u in absurd (omega (arith, h))
-      by false e = simp (ne-eqb kind 0 some, over, ne-eqb kind 9 y, ne-eqb kind 8 x, e, and-no)
+      by false e = simp (ne-eqb kind 0 some, over, ne-eqb kind 9 y, ne-eqb kind 8 x, e, and-false)
 
   -- and what it refuses of one, 21, it refuses of all, whatever misc is
   pub type-refused : (w : ℕ) → unreadable k a 1 0 ≡ w → (w ≡ 0 → ⊥) → (misc : ℕ) → unreadable k a kind misc ≡ w
@@ -125,19 +122,19 @@ module _ (k : Known) (a : Attributes) (kind : ℕ) (l : 1 ≤ kind) (m : kind �
     where
       by : (b : Bool) → (leb (2 ^ k .samples) (a .sample) && a .all) ≡ b → unreadable k a kind misc ≡ w
       by true e = let h : _≡_ {A = ℕ} 21 w = simp (over1, e) at u in simp (ne-eqb kind 0 some, over, ne-eqb kind 9 y, e) h
-      by false e = let h : _≡_ {A = ℕ} 0 w = simp (over1, e, and-no) at u in absurd (z (sym h))
+      by false e = let h : _≡_ {A = ℕ} 0 w = simp (over1, e, and-false) at u in absurd (z (sym h))
 
 -- ---- the marks of the types
 
-module _ (k : Known) (a : Attributes) (t : ℕ) (et : t ≡ room (trailer 1 a)) (lt : t ≤ 512) (n : k .kinds ≤ lastType) where
+module _ (k : Known) (a : Attributes) (t : ℕ) (et : t ≡ room (trailer 1 a)) (lt : t ≤ sumMost) (n : k .kinds ≤ lastType) where
   abbrev base : ℕ → ℕ
   base kind = getD bases kind 0
 
-  twenty : (kind : ℕ) → kind < 32 → (eqb kind 0 || ltb lastType kind) ≡ true → withTrailer t (base kind) ≡ 131092
+  twenty : (kind : ℕ) → kind < markCount → (eqb kind 0 || ltb lastType kind) ≡ true → withTrailer t (base kind) ≡ noType
   unfolding baseOk
   twenty kind h e =
-      let o : eqb (base kind) 131092 ≡ true = rw e at (ok a kind h) in
-      ap (withTrailer t) (eqb-true (base kind) 131092 o)
+      let o : eqb (base kind) noType ≡ true = rw e at (ok a kind h) in
+      ap (withTrailer t) (eqb-true (base kind) noType o)
 
   -- one that the edition has and reads
   module _ (kind : ℕ) (l : 1 ≤ kind) (m : kind ≤ k .kinds) (x : kind ≡ 8 → ⊥) (y : kind ≡ 9 → ⊥) (u : unreadable k a 1 0 ≡ 0) where
@@ -152,7 +149,7 @@ module _ (k : Known) (a : Attributes) (t : ℕ) (et : t ≡ room (trailer 1 a)) 
     inner =
         let z : kind ≡ 0 → ⊥ = λ e. omega (arith, e, l) in
         let v : kind ≤ lastType = omega (arith, m, n) in
-        let b : kind < 32 = omega (arith, v) in
+        let b : kind < markCount = omega (arith, v) in
         simp (ne-eqb kind 0 z, le-ltb lastType kind v, ne-eqb kind 8 x, ne-eqb kind 9 y) at (ok a kind b)
 
     by-size : ltb (base kind) openMark ≡ true → Marked k a kind (base kind + t)
@@ -199,7 +196,7 @@ module _ (k : Known) (a : Attributes) (t : ℕ) (et : t ≡ room (trailer 1 a)) 
         by false false e f = by-name e f
 
   -- none that the edition has
-  pub no-type : (kind : ℕ) → (kind ≡ 0) ⊎ (k .kinds < kind) → Marked k a kind 131092
+  pub no-type : (kind : ℕ) → (kind ≡ 0) ⊎ (k .kinds < kind) → Marked k a kind noType
   no-type kind c = as-refused k a kind 20 (λ q. omega (arith, q)) (omega arith) (λ misc. ⊎-elim (λ e. ap (λ (i : ℕ). unreadable k a i misc) e ∙ type-zero k a misc) (λ h. above k a kind misc h) c)
 
 -- ---- a table, filled with one number from a place on up to another
@@ -237,19 +234,19 @@ fill-shorter p from to v q l f =
       high = λ j h. ⊎-elim (λ (y : from ≤ j). f .high j y) (λ (y : j < from). f .low j y) (le-or-lt from j);
     }
 
-module _ (k : Known) (a : Attributes) (t : ℕ) (et : t ≡ room (trailer 1 a)) (lt : t ≤ 512) (n : k .kinds ≤ lastType) (q : List ℕ) (f : Filled (basesWith t) (k .kinds + 1) (lastType + 1) 131092 q) where
-  base-value : (kind : ℕ) → kind < 32 → getD (basesWith t) kind 0 ≡ withTrailer t (getD bases kind 0)
+module _ (k : Known) (a : Attributes) (t : ℕ) (et : t ≡ room (trailer 1 a)) (lt : t ≤ sumMost) (n : k .kinds ≤ lastType) (q : List ℕ) (f : Filled (basesWith t) (k .kinds + 1) (lastType + 1) noType q) where
+  base-value : (kind : ℕ) → kind < markCount → getD (basesWith t) kind 0 ≡ withTrailer t (getD bases kind 0)
   unfolding basesWith
   base-value kind h = bases-at t bases kind h
 
   -- type 0, and those above the edition's
-  outside : (kind : ℕ) → kind < 32 → (kind ≡ 0) ⊎ (k .kinds < kind) → getD q kind 0 ≡ 131092
+  outside : (kind : ℕ) → kind < markCount → (kind ≡ 0) ⊎ (k .kinds < kind) → getD q kind 0 ≡ noType
   outside kind h c =
       ⊎-elim
       (λ (e : kind ≡ 0). f .low kind (omega (arith, e)) ∙ base-value kind h ∙ twenty k a t et lt n kind h (rw e))
       (λ (g : k .kinds < kind).
       ⊎-elim
-      (λ (b : lastType + 1 ≤ kind). f .high kind b ∙ base-value kind h ∙ twenty k a t et lt n kind h (let v : lastType < kind = omega (arith, b) in simp (lt-ltb lastType kind v, or-yes)))
+      (λ (b : lastType + 1 ≤ kind). f .high kind b ∙ base-value kind h ∙ twenty k a t et lt n kind h (let v : lastType < kind = omega (arith, b) in simp (lt-ltb lastType kind v, or-true)))
       (λ (b : kind < lastType + 1). f .inside kind (omega (arith, g)) b)
       (le-or-lt (lastType + 1) kind))
       c
@@ -258,15 +255,15 @@ module _ (k : Known) (a : Attributes) (t : ℕ) (et : t ≡ room (trailer 1 a)) 
   split zero = inl (inl refl)
   split (suc i) = ⊎-elim (λ (h : suc i ≤ k .kinds). inr (omega arith, h)) (λ (h : k .kinds < suc i). inl (inr h)) (le-or-lt (suc i) (k .kinds))
 
-  pub types-marked : unreadable k a 1 0 ≡ 0 → (kind : ℕ) → kind < 32 → (kind ≡ 8 → ⊥) → (kind ≡ 9 → ⊥) → Marked k a kind (getD q kind 0)
+  pub types-marked : unreadable k a 1 0 ≡ 0 → (kind : ℕ) → kind < markCount → (kind ≡ 8 → ⊥) → (kind ≡ 9 → ⊥) → Marked k a kind (getD q kind 0)
   types-marked u kind h x y =
       ⊎-elim
       (λ c. subst (Marked k a kind) (sym (outside kind h c)) (no-type k a t et lt n kind c))
       (λ c. subst (Marked k a kind) (sym (f .low kind (let v = c .1 in omega (arith, v)) ∙ base-value kind h)) (base-marked k a t et lt n kind (c .0) (c .1) x y u))
       (split kind)
 
-  pub types-refused : (w : ℕ) → unreadable k a 1 0 ≡ w → (w ≡ 0 → ⊥) → w < 65536 → (r : List ℕ) → Filled q 1 (k .kinds + 1) (refusedMark + w) r
-      → (kind : ℕ) → kind < 32 → (kind ≡ 8 → ⊥) → (kind ≡ 9 → ⊥) → Marked k a kind (getD r kind 0)
+  pub types-refused : (w : ℕ) → unreadable k a 1 0 ≡ w → (w ≡ 0 → ⊥) → w < 2 ^ 16 → (r : List ℕ) → Filled q 1 (k .kinds + 1) (refusedMark + w) r
+      → (kind : ℕ) → kind < markCount → (kind ≡ 8 → ⊥) → (kind ≡ 9 → ⊥) → Marked k a kind (getD r kind 0)
   types-refused w u z b r g kind h x y =
       ⊎-elim
       (λ c. subst (Marked k a kind) (sym (kept kind c ∙ outside kind h c)) (no-type k a t et lt n kind c))
@@ -289,14 +286,14 @@ stretched a = groups a || (late a || hasLists a)
 
 pub plain-parts : (a : Attributes) → stretched a ≡ false → (groups a ≡ false) × ((late a ≡ false) × (hasLists a ≡ false))
 unfolding stretched
-plain-parts a e = let s = or-no (groups a) (late a || hasLists a) e in let t = or-no (late a) (hasLists a) (s .1) in (s .0, (t .0, t .1))
+plain-parts a e = let s = or-false (groups a) (late a || hasLists a) e in let t = or-false (late a) (hasLists a) (s .1) in (s .0, (t .0, t .1))
 
 -- refused whatever misc is: neither is MMAP2
-pub marked-refused : (k : Known) (a : Attributes) (kind w : ℕ) → (kind ≡ 10 → ⊥) → w ≡ unreadable k a kind 0 → (w ≡ 0 → ⊥) → w < 65536 → Marked k a kind (refusedMark + w)
+pub marked-refused : (k : Known) (a : Attributes) (kind w : ℕ) → (kind ≡ 10 → ⊥) → w ≡ unreadable k a kind 0 → (w ≡ 0 → ⊥) → w < 2 ^ 16 → Marked k a kind (refusedMark + w)
 marked-refused k a kind w x u z l = as-refused k a kind w z l (λ misc. misc-unreadable k a kind misc x ∙ sym u)
 
-pub read-marked : (k : Known) (a : Attributes) (n t : ℕ) → unreadable k a 8 0 ≡ 0 → bit (a .format) 3 ≡ false → n ≡ readSum a → n ≤ 520 → n % 8 ≡ 0
-    → t ≡ room (trailer 1 a) → t ≤ 512 → Marked k a 8 (16 + (n + t))
+pub read-marked : (k : Known) (a : Attributes) (n t : ℕ) → unreadable k a 8 0 ≡ 0 → bit (a .format) 3 ≡ false → n ≡ readSum a → n ≤ readMost → n % 8 ≡ 0
+    → t ≡ room (trailer 1 a) → t ≤ sumMost → Marked k a 8 (16 + (n + t))
 unfolding total widthOf span steady oneWidth
 read-marked k a n t u b e l m f lt =
     let z = trail-eights k a in
@@ -307,21 +304,21 @@ read-marked k a n t u b e l m f lt =
 -- no lists at all
 module _ (a : Attributes) (g : groups a ≡ false) (t : late a ≡ false) (l : hasLists a ≡ false) where
   o5 : (bit (a .sample) 5 ≡ false) × ((bit (a .sample) 10 || (bit (a .sample) 11 || (bit (a .sample) 12 || bit (a .sample) 13))) ≡ false)
-  o5 = or-no (bit (a .sample) 5) (bit (a .sample) 10 || (bit (a .sample) 11 || (bit (a .sample) 12 || bit (a .sample) 13))) l
+  o5 = or-false (bit (a .sample) 5) (bit (a .sample) 10 || (bit (a .sample) 11 || (bit (a .sample) 12 || bit (a .sample) 13))) l
 
   o10 : (bit (a .sample) 10 ≡ false) × ((bit (a .sample) 11 || (bit (a .sample) 12 || bit (a .sample) 13)) ≡ false)
-  o10 = or-no (bit (a .sample) 10) (bit (a .sample) 11 || (bit (a .sample) 12 || bit (a .sample) 13)) (o5 .1)
+  o10 = or-false (bit (a .sample) 10) (bit (a .sample) 11 || (bit (a .sample) 12 || bit (a .sample) 13)) (o5 .1)
 
   o11 : (bit (a .sample) 11 ≡ false) × ((bit (a .sample) 12 || bit (a .sample) 13) ≡ false)
-  o11 = or-no (bit (a .sample) 11) (bit (a .sample) 12 || bit (a .sample) 13) (o10 .1)
+  o11 = or-false (bit (a .sample) 11) (bit (a .sample) 12 || bit (a .sample) 13) (o10 .1)
 
   o12 : (bit (a .sample) 12 ≡ false) × (bit (a .sample) 13 ≡ false)
-  o12 = or-no (bit (a .sample) 12) (bit (a .sample) 13) (o11 .1)
+  o12 = or-false (bit (a .sample) 12) (bit (a .sample) 13) (o11 .1)
 
   sample-steady : steady (sample a) ≡ true
   unfolding steady oneWidth
   sample-steady =
-      let s = or-no (bit (a .sample) 18) (bit (a .sample) 20) t in rw (g, o5 .0, o10 .0, o11 .0, o12 .0, o12 .1, s .0, s .1)
+      let s = or-false (bit (a .sample) 18) (bit (a .sample) 20) t in rw (g, o5 .0, o10 .0, o11 .0, o12 .0, o12 .1, s .0, s .1)
 
   sample-sum : total (sample a) ≡ total (front a) + total (sampleLast a)
   unfolding total

@@ -1,6 +1,6 @@
 -- The mark of a type: what edition and attributes alone decide of its records; and what a mark says of a record. Assumes nothing.
 use mathlib.Core.Path.{_≡_, refl, sym, ap, _∙_, subst}
-use mathlib.Core.Bool.{Bool, true, false, cond, not, _&&_, _||_}
+use mathlib.Core.Bool.{Bool, true, false, cond, not, _&&_, _||_, and-false}
 use mathlib.Core.List.{List, [], _∷_, _++_}
 use mathlib.Core.Logic.{_⊎_, inl, inr, ⊎-elim}
 use Prim.Native.Nat.{ℕ, zero, suc, _+_, _-_, _%_, _^_, _<_, _≤_}
@@ -56,6 +56,14 @@ stretchedMark = 65537
 abbrev pub refusedMark : ℕ
 refusedMark = 131072
 
+-- 20: no type of the edition
+abbrev pub noType : ℕ
+noType = refusedMark + 20
+
+-- so many types have a mark; what is above them is 20
+abbrev pub markCount : ℕ
+markCount = 32
+
 unfoldable pub isName : Shape → Bool
 isName (Number w) = false
 isName (Ignored k) = false
@@ -94,13 +102,13 @@ pub record Marked (k : Known) (a : Attributes) (kind mark : ℕ) : Type 0 where
   pub counted : mark ≡ openMark → (unreadable k a kind 0 ≡ 0) × Counted a kind
   pub stretched : mark ≡ stretchedMark → (kind ≡ 9) × (unreadable k a kind 0 ≡ 0)
   pub named : stretchedMark < mark → mark < refusedMark → (unreadable k a kind 0 ≡ 0) × (kind ≡ 9 → ⊥) × (mark % 8 ≡ 0) × (mark ≡ openMark + nameFrom (schema kind 0 a) 8)
-  pub refused : refusedMark ≤ mark → (refusedMark < mark) × (mark < 196608) × ((misc : ℕ) → unreadable k a kind misc ≡ mark - refusedMark)
+  pub refused : refusedMark ≤ mark → (refusedMark < mark) × (mark < refusedMark + 2 ^ 16) × ((misc : ℕ) → unreadable k a kind misc ≡ mark - refusedMark)
 
 -- all types that have a mark
 pub record Marks (k : Known) (a : Attributes) (marks : List ℕ) : Type 0 where
   pub few : k .kinds ≤ lastType
-  pub long : length marks ≡ 32
-  pub at : (kind : ℕ) → kind < 32 → Marked k a kind (getD marks kind 0)
+  pub long : length marks ≡ markCount
+  pub at : (kind : ℕ) → kind < markCount → Marked k a kind (getD marks kind 0)
 
 -- ---- each kind of mark
 
@@ -145,7 +153,7 @@ module _ (k : Known) (a : Attributes) (kind : ℕ) where
         refused = λ h. absurd (omega (arith, h, m));
       }
 
-  pub as-refused : (w : ℕ) → (w ≡ 0 → ⊥) → w < 65536 → ((misc : ℕ) → unreadable k a kind misc ≡ w) → Marked k a kind (refusedMark + w)
+  pub as-refused : (w : ℕ) → (w ≡ 0 → ⊥) → w < 2 ^ 16 → ((misc : ℕ) → unreadable k a kind misc ≡ w) → Marked k a kind (refusedMark + w)
   as-refused w z l u =
       record {
         fixed = λ h. absurd (omega (arith, h));
@@ -220,14 +228,10 @@ unreadable-most k a kind misc =
     by false false false false false true = omega arith
     by false false false false false false = omega arith
 
-pub and-no : (x : Bool) → (x && false) ≡ false
-and-no true = refl
-and-no false = refl
-
 -- an edition that knows the build-id form
 build-unreadable : (k : Known) (a : Attributes) (kind misc : ℕ) → k .builds ≡ true → unreadable k a kind misc ≡ unreadable k a kind 0
 unfolding unreadable first
-build-unreadable k a kind misc b = simp (b, and-no)
+build-unreadable k a kind misc b = simp (b, and-false)
 
 -- one that does not
 build-unknown : (k : Known) (a : Attributes) (misc : ℕ) → unreadable k a 10 0 ≡ 0 → bit misc 14 ≡ true → k .builds ≡ false → unreadable k a 10 misc ≡ 23
@@ -415,12 +419,12 @@ module _ (a : Attributes) (kind : ℕ) (c : Counted a kind) where
 -- ---- tables
 
 -- the types' marks, and then those of READ and SAMPLE
-pub marks-made : (k : Known) (a : Attributes) (p : List ℕ) (v w : ℕ) → k .kinds ≤ lastType → length p ≡ 32
-    → ((kind : ℕ) → kind < 32 → (kind ≡ 8 → ⊥) → (kind ≡ 9 → ⊥) → Marked k a kind (getD p kind 0)) → Marked k a 8 v → Marked k a 9 w → Marks k a (set (set p 8 v) 9 w)
+pub marks-made : (k : Known) (a : Attributes) (p : List ℕ) (v w : ℕ) → k .kinds ≤ lastType → length p ≡ markCount
+    → ((kind : ℕ) → kind < markCount → (kind ≡ 8 → ⊥) → (kind ≡ 9 → ⊥) → Marked k a kind (getD p kind 0)) → Marked k a 8 v → Marked k a 9 w → Marks k a (set (set p 8 v) 9 w)
 marks-made k a p v w n l m mv mw =
     record { few = n; long = length-set (set p 8 v) 9 w ∙ length-set p 8 v ∙ l; at = λ j b. go j b (eqb j 9) (eqb j 8) refl refl }
   where
-    go : (j : ℕ) → j < 32 → (s t : Bool) → eqb j 9 ≡ s → eqb j 8 ≡ t → Marked k a j (getD (set (set p 8 v) 9 w) j 0)
+    go : (j : ℕ) → j < markCount → (s t : Bool) → eqb j 9 ≡ s → eqb j 8 ≡ t → Marked k a j (getD (set (set p 8 v) 9 w) j 0)
     go j b true t e f =
         let q = eqb-true j 9 e in
         subst (λ (i : ℕ). Marked k a i (getD (set (set p 8 v) 9 w) i 0)) (sym q)

@@ -10,7 +10,7 @@ ghost use lib.ListN.{getD};
 ghost use Rattle.meaning.specs.Editions.{unreadable};
 ghost use Rattle.meaning.specs.Schema.{trailer};
 ghost use Rattle.meaning.specs.Records.{room};
-ghost use Rattle.sums.specs.Sums.{sumsOf};
+ghost use Rattle.sums.specs.Sums.{sumMost, sumsOf};
 ghost use Rattle.marks.specs.Marks.{lastType, Marked};
 ghost use Rattle.marks.specs.Bases.{bases, stretched};
 use meaning::Attributes;
@@ -22,6 +22,18 @@ pub const STRETCHED: u64 = 65537;
 
 pub const REFUSED: u64 = 131072;
 
+// 20: no type of the edition
+pub const NO_TYPE: u64 = REFUSED + 20;
+
+// where a name starts
+pub const NAME_AT_16: u64 = OPEN + 16;
+
+pub const NAME_AT_24: u64 = OPEN + 24;
+
+pub const NAME_AT_40: u64 = OPEN + 40;
+
+pub const NAME_AT_72: u64 = OPEN + 72;
+
 // The base of one type, without the trailer: a `match` is a table in read-only memory, where a constant array would be copied at each use.
 fn base_of(kind: u64) -> u64
     requires { ⌜ 1 ≤ kind ⌝ }
@@ -29,26 +41,26 @@ fn base_of(kind: u64) -> u64
     ensures { λ r. ⌜ r ≡ getD bases kind 0 ⌝ }
 {
     match kind {
-        1 => 65576,
+        1 => NAME_AT_40,
         2 => 24,
-        3 => 65552,
+        3 => NAME_AT_16,
         4 => 32,
         5 => 32,
         6 => 32,
         7 => 32,
         8 => 8,
         9 => 8,
-        10 => 65608,
+        10 => NAME_AT_72,
         11 => 32,
         12 => 16,
         13 => 16,
         14 => 8,
         15 => 16,
-        16 => 65536,
-        17 => 65560,
+        16 => OPEN,
+        17 => NAME_AT_24,
         18 => 24,
-        19 => 65552,
-        20 => 65536,
+        19 => NAME_AT_16,
+        20 => OPEN,
         _ => 16,
     }
 }
@@ -58,7 +70,7 @@ pub fn type_mark(known: Known, a: Attributes, kind: u64, why: u16, trail: u64) -
     requires { ⌜ known .kinds ≤ lastType ⌝ }
     requires { ⌜ why ≡ unreadable known a 1 0 ⌝ }
     requires { ⌜ trail ≡ room (trailer 1 a) ⌝ }
-    requires { ⌜ trail ≤ 512 ⌝ }
+    requires { ⌜ trail ≤ sumMost ⌝ }
     requires { ⌜ 1 ≤ kind ⌝ }
     requires { ⌜ kind ≤ known .kinds ⌝ }
     requires { ⌜ (kind ≡ 8 → ⊥) × (kind ≡ 9 → ⊥) ⌝ }
@@ -77,7 +89,7 @@ pub fn type_mark(known: Known, a: Attributes, kind: u64, why: u16, trail: u64) -
 // READ: 24 bytes and more where its values are no group.
 pub fn read_mark(known: Known, a: Attributes, trail: u64) -> u64
     requires { ⌜ trail ≡ room (trailer 1 a) ⌝ }
-    requires { ⌜ trail ≤ 512 ⌝ }
+    requires { ⌜ trail ≤ sumMost ⌝ }
     ensures { λ r. ⌜ Marked known a 8 r ⌝ }
 {
     let why = record::unreadable(known, a, 8, 0);
@@ -94,12 +106,12 @@ pub fn read_mark(known: Known, a: Attributes, trail: u64) -> u64
 pub fn other_mark(known: Known, a: Attributes, kind: u64, trail: u64) -> u64
     requires { ⌜ known .kinds ≤ lastType ⌝ }
     requires { ⌜ trail ≡ room (trailer 1 a) ⌝ }
-    requires { ⌜ trail ≤ 512 ⌝ }
+    requires { ⌜ trail ≤ sumMost ⌝ }
     requires { ⌜ (kind ≡ 9 → ⊥) ⌝ }
     ensures { λ r. ⌜ Marked known a kind r ⌝ }
 {
     if (kind == 0) | (known.kinds < kind) {
-        return 131092;
+        return NO_TYPE;
     }
     if kind == 8 {
         return read_mark(known, a, trail);

@@ -118,10 +118,11 @@ clashes t a = refusal (eqb t 9 && (bit (a .sample) 14 && bit (a .sample) 24)) 24
 unfoldable pub unreadable : Known → Attributes → ℕ → ℕ → ℕ
 unreadable k a t misc = first (unknowns k t misc a) (first (clashes t a) 0)
 
--- the numbers that say "unknown to this edition"
+-- is x among them?
 abbrev pub isIn : ℕ → List ℕ → Bool
 isIn x [] = false
 isIn x (n ∷ ns) = eqb x n || isIn x ns
 
+-- the numbers that say "unknown to this edition"
 unfoldable pub isUnknown : ℕ → Bool
 isUnknown x = isIn x (20 ∷ 21 ∷ 22 ∷ 23 ∷ 25 ∷ [])

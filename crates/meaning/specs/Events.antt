@@ -1,7 +1,7 @@
 -- Several events in one ring: a table of events, the identifier of a record, its event, the answer under a table, row 11; the drain, the reader of one
 -- record and record check with a table. Assumes nothing: these are definitions.
 use Prim.Native.Nat.{ℕ, suc, _-_}
-use mathlib.Core.Bool.{Bool, true, false, cond, not, _&&_, _||_}
+use mathlib.Core.Bool.{Bool, true, cond, not, _&&_, _||_}
 use mathlib.Core.List.{List, [], _∷_, map}
 use lib.Dec.{leb, ltb, eqb}
 use lib.ListN.{length, getD}
@@ -145,7 +145,7 @@ abbrev pub drainEvents : ℕ → List Known → ℕ → List Event → List ℕ 
 drainEvents limit rows e es ring head tail budget journal scratch =
     run (frame (askedEvents limit rows e es) ring head) (judgeEvents (known rows e) es) ring budget (start tail journal scratch)
 
--- ---- the reader of one record with a table: a budget of one, and no journal
+-- ---- the reader of one record with a table: it has no journal; the frame is asked with a budget of one and 16 bytes of room
 
 abbrev pub oneEventsFrame : ℕ → List Known → ℕ → List Event → List ℕ → ℕ → ℕ → List ℕ → Frame
 oneEventsFrame limit rows e es ring head tail scratch = frame (askedEvents limit rows e es) ring head tail 1 16 (length scratch)

@@ -91,7 +91,7 @@ origin at = cursor at 0 0 0
 unfoldable pub fieldsOf : ℕ → List ℕ → List ℕ
 fieldsOf t xs = take (length xs - t) xs
 
--- "31: bytes left over after the last field"
+-- 31: "bytes left over after the last field"
 unfoldable pub closed : ℕ → Cursor → ℕ
 closed end c = orElse (c .why) (cond (eqb (c .at) end) 0 31)
 

@@ -103,10 +103,6 @@ slotShape Name c ys = slot 0 (c .at) (zeroIn ys)
 abbrev pub slotItem : List ℕ → Item → Cursor → Slot
 slotItem xs i c = cond (i .on) (slotShape (i .shape) c (part (i .shape) c (drop (c .at) xs))) (slot 0 0 0)
 
-unfoldable pub slots : List ℕ → List Item → Cursor → List Slot
-slots xs [] c = []
-slots xs (i ∷ is) c = slotItem xs i c ∷ slots xs is (step xs i c)
-
 -- ---- slots as words, an item's words after those of the item before it
 
 -- a number has one word; a list or a name its place, and its count where no count word of the record holds it

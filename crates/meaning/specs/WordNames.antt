@@ -1,5 +1,6 @@
 -- The names of a value's words: for each record type the words of its items in order, as document 01 spells the fields. A list or a name has a
--- place and, where no word of the record holds it, a count of its own. That there are as many names as words is a theorem (laws, Named).
+-- place and, where no word of the record holds it, a count of its own. That there are as many names as words is a theorem (laws, Named);
+-- tests/words.py compares the names, by type and number, with those that C is told and with docs/FORMAT.md.
 -- Assumes nothing: these are definitions.
 use Prim.Native.Nat.{ℕ, _-_}
 use mathlib.Core.Bool.{cond}

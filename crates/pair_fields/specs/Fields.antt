@@ -30,7 +30,7 @@ use Rattle.compare.specs.Others.{others-met, body-steady, tail-steady}
 use Rattle.item_pairs.specs.declared.Both.{Both}
 use Rattle.item_pairs.specs.Passed.{Passed}
 use Rattle.pair_fields.specs.declared.Pos.{Pos}
-use Rattle.pair_fields.specs.Inner.{trail, items, flags, later, toLeft, toRight, isAlike, isField, toGo, Settled, begunAt, Begun, moved, trailing, Pair, Ready, Stands}
+use Rattle.pair_fields.specs.Inner.{trail, items, flags, later, toLeft, toRight, isAlike, isField, toGo, Settled, begunAt, Begun, moved, trailing, Pair, Ready, FieldsStand}
 
 eight-less : (n t : ℕ) → n % 8 ≡ 0 → t % 8 ≡ 0 → t ≤ n → (n - t) % 8 ≡ 0
 eight-less n t a b l = omega (arith, a, b, l)
@@ -38,7 +38,7 @@ eight-less n t a b l = omega (arith, a, b, l)
 module _ (xs ys : List ℕ) where
   -- ---- nothing is left to be looked at
 
-  pub settled-stands : (b : Bool) (n k : ℕ) (same : Bool) (r : Pos) → Settled k same r → same ≡ b → (b ≡ false → k ≡ n) → Stands b n xs ys r
+  pub settled-stands : (b : Bool) (n k : ℕ) (same : Bool) (r : Pos) → Settled k same r → same ≡ b → (b ≡ false → k ≡ n) → FieldsStand b n xs ys r
   unfolding isAlike isField
   settled-stands b n k same r s e f = record {
     test = ap (λ (t : Bool). cond t (r .same) (alike (toLeft r xs) (toRight r ys))) (s .done-is) ∙ s .same-is ∙ e;
@@ -51,15 +51,15 @@ module _ (xs ys : List ℕ) where
   unfolding toGo
   settled-less p r k same s d = rw (s .done-is, d) (let h : 0 < 1 + (cond (p .last) 0 allRows + (p .to - p .row)) = omega arith in h)
 
-  pub differs-stands : (b : Bool) (n k : ℕ) (r : Pos) → Settled k false r → (b ≡ false) × (n ≡ k) → Stands b n xs ys r
+  pub differs-stands : (b : Bool) (n k : ℕ) (r : Pos) → Settled k false r → (b ≡ false) × (n ≡ k) → FieldsStand b n xs ys r
   differs-stands b n k r s o = settled-stands b n k false r s (sym (o .0)) (λ z. sym (o .1))
 
   -- what is known at the end
-  pub stands-ended : (b : Bool) (n : ℕ) (p : Pos) → Stands b n xs ys p → p .same ≡ true → p .done ≡ true → b ≡ true
+  pub stands-ended : (b : Bool) (n : ℕ) (p : Pos) → FieldsStand b n xs ys p → p .same ≡ true → p .done ≡ true → b ≡ true
   unfolding isAlike
   stands-ended b n p h s d = sym (h .test) ∙ ap (λ (t : Bool). cond t (p .same) (alike (toLeft p xs) (toRight p ys))) d ∙ s
 
-  pub stands-other : (b : Bool) (n : ℕ) (p : Pos) → Stands b n xs ys p → p .same ≡ false → (b ≡ false) × (n ≡ p .k)
+  pub stands-other : (b : Bool) (n : ℕ) (p : Pos) → FieldsStand b n xs ys p → p .same ≡ false → (b ≡ false) × (n ≡ p .k)
   unfolding isAlike isField
   stands-other b n p h s =
       let d = h .shut s in
@@ -67,7 +67,7 @@ module _ (xs ys : List ℕ) where
       (e, sym (h .number e) ∙ ap (λ (t : Bool). cond t (p .k) (p .k + agree (toLeft p xs) (toRight p ys))) d)
 
   -- from one state to the next
-  pub stands-on : (b : Bool) (n : ℕ) (p r : Pos) → Stands b n xs ys p → Stands (isAlike p xs ys) (isField p xs ys) xs ys r → Stands b n xs ys r
+  pub stands-on : (b : Bool) (n : ℕ) (p r : Pos) → FieldsStand b n xs ys p → FieldsStand (isAlike p xs ys) (isField p xs ys) xs ys r → FieldsStand b n xs ys r
   stands-on b n p r h s = record {
     test = s .test ∙ h .test;
     number = λ z. s .number (h .test ∙ z) ∙ h .number z;
@@ -173,7 +173,7 @@ module _ (xs ys : List ℕ) where
         told-count true k = refl
         told-count false k = omega arith
 
-        pub row-same : b .same ≡ true → Stands (isAlike p xs ys) (isField p xs ys) xs ys (moved p b)
+        pub row-same : b .same ≡ true → FieldsStand (isAlike p xs ys) (isField p xs ys) xs ys (moved p b)
         unfolding isAlike isField later flags
         row-same e =
             let ss = small-take (p .end) xs sx in
@@ -266,7 +266,7 @@ module _ (xs ys : List ℕ) where
             subst (λ (zs : List ℕ). Steady zs (take (length xs) ys) (take 7 (trail p)) 0 0 (origin (p .end)) (origin (p .end))) (sym take-xs)
             (subst (λ (zs : List ℕ). Steady xs zs (take 7 (trail p)) 0 0 (origin (p .end)) (origin (p .end))) (sym take-ys) z₂)
 
-        pub trailing-stands : Stands (isAlike p xs ys) (isField p xs ys) xs ys (trailing xs p)
+        pub trailing-stands : FieldsStand (isAlike p xs ys) (isField p xs ys) xs ys (trailing xs p)
         unfolding isAlike isField
         trailing-stands = record {
           test = ap₂ (λ (a b : List Con). alike a b) (left-trailing ∙ sym left-later) (right-trailing ∙ sym right-later) ∙ sym open-alike;
@@ -391,7 +391,7 @@ module _ (xs ys : List ℕ) where
         ∙ sym (others-met a ys (g .y-fine) (g .marked) k)
 
     start-stands : (b : Bool) (n : ℕ) → b ≡ alike (otherFields (layout k a) (value (layout k a) xs)) (otherFields (layout k a) (value (layout k a) ys))
-        → n ≡ 5 + agree (otherFields (layout k a) (value (layout k a) xs)) (otherFields (layout k a) (value (layout k a) ys)) → Stands b n xs ys q
+        → n ≡ 5 + agree (otherFields (layout k a) (value (layout k a) xs)) (otherFields (layout k a) (value (layout k a) ys)) → FieldsStand b n xs ys q
     unfolding isAlike isField
     start-stands b n eb en = record {
       test = ap₂ (λ (u v : List Con). alike u v) left-start right-start ∙ sym eb;
@@ -402,6 +402,6 @@ module _ (xs ys : List ℕ) where
 
   pub begun-stands : (kind misc : ℕ) (a : Attributes) (k : Known) (p : Pos) (b : Bool) (n : ℕ) → Pair xs ys kind misc a → Begun xs kind misc a p
       → b ≡ alike (otherFields (layout k a) (value (layout k a) xs)) (otherFields (layout k a) (value (layout k a) ys))
-      → n ≡ 5 + agree (otherFields (layout k a) (value (layout k a) xs)) (otherFields (layout k a) (value (layout k a) ys)) → Stands b n xs ys p
+      → n ≡ 5 + agree (otherFields (layout k a) (value (layout k a) xs)) (otherFields (layout k a) (value (layout k a) ys)) → FieldsStand b n xs ys p
   begun-stands kind misc a k p b n g h eb en =
-      subst (Stands b n xs ys) (sym (h .is)) (start-stands kind misc a g k (p .row) (p .to) (h .ordered) (h .within) (h .layout-is) b n eb en)
+      subst (FieldsStand b n xs ys) (sym (h .is)) (start-stands kind misc a g k (p .row) (p .to) (h .ordered) (h .within) (h .layout-is) b n eb en)

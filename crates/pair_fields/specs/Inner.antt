@@ -148,7 +148,7 @@ pub record Ready (xs ys : List ℕ) (p : Pos) : Type 0 where
   pub steady : Steady (take (p .end) xs) (take (p .end) ys) (items p) (p .w) (p .x) (p .c) (p .d)
 
 -- b is whether all fields are alike, n the first that differs
-pub record Stands (b : Bool) (n : ℕ) (xs ys : List ℕ) (p : Pos) : Type 0 where
+pub record FieldsStand (b : Bool) (n : ℕ) (xs ys : List ℕ) (p : Pos) : Type 0 where
   pub test : isAlike p xs ys ≡ b
   pub number : b ≡ false → isField p xs ys ≡ n
   pub ready : p .done ≡ false → Ready xs ys p

@@ -2,7 +2,7 @@
 ghost use mathlib.Core.Path.{_≡_};
 ghost use mathlib.Core.Bool.{true, false};
 ghost use Prim.Native.Nat.{_<_, _≤_};
-ghost use Rattle.pair_fields.specs.Inner.{Settled, moved, trailing, Ready, Stands, isAlike, isField, toGo};
+ghost use Rattle.pair_fields.specs.Inner.{Settled, moved, trailing, Ready, FieldsStand, isAlike, isField, toGo};
 use item_pairs::Both;
 use meaning::Attributes;
 use meaning::Cursor;
@@ -90,7 +90,7 @@ fn moved(p: Pos, b: Both) -> Pos
 fn turn(x: &[u8], y: &[u8], p: Pos) -> Pos
     requires { ⌜ Ready (now x) (now y) p ⌝ }
     requires { ⌜ (p .done ≡ false) × (p .row < p .to) ⌝ }
-    ensures { λ r. ⌜ Stands (isAlike p (now (x .entry)) (now (y .entry))) (isField p (now (x .entry)) (now (y .entry))) (now (x .entry)) (now (y .entry)) r ⌝ }
+    ensures { λ r. ⌜ FieldsStand (isAlike p (now (x .entry)) (now (y .entry))) (isField p (now (x .entry)) (now (y .entry))) (now (x .entry)) (now (y .entry)) r ⌝ }
     ensures { λ r. ⌜ toGo r < toGo p ⌝ }
 {
     let i = items::item_at(p.a, p.misc, p.kind, p.row);
@@ -105,7 +105,7 @@ fn turn(x: &[u8], y: &[u8], p: Pos) -> Pos
 fn flag(x: &[u8], y: &[u8], p: Pos) -> Pos
     requires { ⌜ Ready (now x) (now y) p ⌝ }
     requires { ⌜ (p .done ≡ false) × ((p .last ≡ true) × (p .to ≤ p .row)) ⌝ }
-    ensures { λ r. ⌜ Stands (isAlike p (now (x .entry)) (now (y .entry))) (isField p (now (x .entry)) (now (y .entry))) (now (x .entry)) (now (y .entry)) r ⌝ }
+    ensures { λ r. ⌜ FieldsStand (isAlike p (now (x .entry)) (now (y .entry))) (isField p (now (x .entry)) (now (y .entry))) (now (x .entry)) (now (y .entry)) r ⌝ }
     ensures { λ r. ⌜ toGo r < toGo p ⌝ }
 {
     if table::flag_at(p.kind) == 0 {
@@ -145,7 +145,7 @@ fn trailing(x: &[u8], p: Pos) -> Pos
 pub fn next(x: &[u8], y: &[u8], p: Pos) -> Pos
     requires { ⌜ Ready (now x) (now y) p ⌝ }
     requires { ⌜ p .done ≡ false ⌝ }
-    ensures { λ r. ⌜ Stands (isAlike p (now (x .entry)) (now (y .entry))) (isField p (now (x .entry)) (now (y .entry))) (now (x .entry)) (now (y .entry)) r ⌝ }
+    ensures { λ r. ⌜ FieldsStand (isAlike p (now (x .entry)) (now (y .entry))) (isField p (now (x .entry)) (now (y .entry))) (now (x .entry)) (now (y .entry)) r ⌝ }
     ensures { λ r. ⌜ toGo r < toGo p ⌝ }
 {
     if p.row < p.to {

@@ -12,7 +12,7 @@ use Rattle.meaning.specs.declared.Attributes.{Attributes}
 use Rattle.meaning.specs.declared.Event.{Event}
 use Rattle.meaning.specs.declared.Item.{Item}
 use Rattle.meaning.specs.declared.Known.{Known}
-use Rattle.meaning.specs.Bytes.{numberAt, bit}
+use Rattle.meaning.specs.Bytes.{bit}
 use Rattle.meaning.specs.Items.{Con}
 use Rattle.meaning.specs.Schema.{schema, trailer}
 use Rattle.meaning.specs.Refusals.{refusal, first as firstOf, orElse}
@@ -34,7 +34,7 @@ use Rattle.compare.specs.Pairs.{same-bytes, same-alike}
 use Rattle.compare.specs.Others.{five}
 use Rattle.twins.specs.Twins.{Beside, Like}
 use Rattle.pair_fields.specs.declared.Pos.{Pos}
-use Rattle.pair_fields.specs.Inner.{Begun, Pair, Stands}
+use Rattle.pair_fields.specs.Inner.{Begun, Pair, FieldsStand}
 use Rattle.pair_fields.specs.Fields.{begun-stands}
 
 -- ---- bytes
@@ -49,18 +49,6 @@ other-length xs ys n = by (sameBytes xs ys) refl
 pub whole-bytes : (xs ys : List ℕ) → length xs ≡ length ys → sameBytes (take (length xs) (drop 0 xs)) (take (length xs) (drop 0 ys)) ≡ sameBytes xs ys
 whole-bytes xs ys e =
     ap₂ (λ (a b : List ℕ). sameBytes a b) (take-all (length xs) xs (omega arith)) (take-all (length xs) ys (omega (arith, e)))
-
-pub kind-is : (xs : List ℕ) → numberAt 4 xs 0 ≡ kindOf xs
-unfolding kindOf
-kind-is xs = refl
-
-pub misc-is : (xs : List ℕ) → numberAt 2 xs 4 ≡ miscOf xs
-unfolding miscOf
-misc-is xs = refl
-
-pub size-is : (xs : List ℕ) → numberAt 2 xs 6 ≡ sizeOf xs
-unfolding sizeOf
-size-is xs = refl
 
 pub framed-long : (xs : List ℕ) → framed xs ≡ true → 8 ≤ length xs
 framed-long xs h = leb-true 8 (length xs) (and-true (leb 8 (length xs)) _ h .0)
@@ -174,7 +162,7 @@ module _ (k : Known) (es : List Event) (marked : allMarked es ≡ true) (xs ys :
       }
 
   pub start-stands : (kind misc : ℕ) (r : Pos) → kind ≡ kindOf xs → misc ≡ miscOf xs → Begun xs kind misc a r
-      → Stands (alike (fields R xs) (fields R ys)) (agree (fields R xs) (fields R ys)) xs ys r
+      → FieldsStand (alike (fields R xs) (fields R ys)) (agree (fields R xs) (fields R ys)) xs ys r
   start-stands kind misc r p q b =
       let f = five R xs ys (hx ∙ sym hy) hx ek em ez ei in
       let O : List ℕ → Attributes → List Con = λ (zs : List ℕ) (c : Attributes). otherFields (layout k c) (value (layout k c) zs) in

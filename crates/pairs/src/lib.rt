@@ -10,7 +10,7 @@ ghost use Rattle.meaning.specs.Events.{eventsOf, allMarked};
 ghost use Rattle.runs.specs.Cutting.{framed};
 ghost use Rattle.compare.specs.Fields.{fields};
 ghost use Rattle.compare.specs.Compared.{alike, agree, sameBytes, eventReads};
-ghost use Rattle.pair_fields.specs.Inner.{Begun, Stands};
+ghost use Rattle.pair_fields.specs.Inner.{Begun, FieldsStand};
 use meaning::Attributes;
 use pair_fields::Pos;
 
@@ -55,7 +55,7 @@ fn same_record(x: &[u8], y: &[u8]) -> bool
 fn begin(x: &[u8], y: &[u8], e: u64, rows: &[[u64; 7]]) -> Pos
     requires { ⌜ (framed (now x) ≡ true) × (framed (now y) ≡ true) ⌝ }
     requires { ⌜ allMarked (eventsOf (now rows)) ≡ true ⌝ }
-    ensures { λ r. ⌜ Stands (alike (fields (eventReads (known editions e) (eventsOf (now (rows .entry)))) (now (x .entry))) (fields (eventReads (known editions e) (eventsOf (now (rows .entry)))) (now (y .entry)))) (agree (fields (eventReads (known editions e) (eventsOf (now (rows .entry)))) (now (x .entry))) (fields (eventReads (known editions e) (eventsOf (now (rows .entry)))) (now (y .entry)))) (now (x .entry)) (now (y .entry)) r ⌝ }
+    ensures { λ r. ⌜ FieldsStand (alike (fields (eventReads (known editions e) (eventsOf (now (rows .entry)))) (now (x .entry))) (fields (eventReads (known editions e) (eventsOf (now (rows .entry)))) (now (y .entry)))) (agree (fields (eventReads (known editions e) (eventsOf (now (rows .entry)))) (now (x .entry))) (fields (eventReads (known editions e) (eventsOf (now (rows .entry)))) (now (y .entry)))) (now (x .entry)) (now (y .entry)) r ⌝ }
 {
     if same_record(x, y) {
         return pair_fields::settled(0, true);
@@ -123,7 +123,7 @@ fn like(x: &[u8], y: &[u8], e: u64, rows: &[[u64; 7]]) -> bool
 pub fn look(x: &[u8], y: &[u8], e: u64, rows: &[[u64; 7]]) -> Pos
     requires { ⌜ (framed (now x) ≡ true) × (framed (now y) ≡ true) ⌝ }
     requires { ⌜ allMarked (eventsOf (now rows)) ≡ true ⌝ }
-    ensures { λ r. ⌜ Stands (alike (fields (eventReads (known editions e) (eventsOf (now (rows .entry)))) (now (x .entry))) (fields (eventReads (known editions e) (eventsOf (now (rows .entry)))) (now (y .entry)))) (agree (fields (eventReads (known editions e) (eventsOf (now (rows .entry)))) (now (x .entry))) (fields (eventReads (known editions e) (eventsOf (now (rows .entry)))) (now (y .entry)))) (now (x .entry)) (now (y .entry)) r ⌝ }
+    ensures { λ r. ⌜ FieldsStand (alike (fields (eventReads (known editions e) (eventsOf (now (rows .entry)))) (now (x .entry))) (fields (eventReads (known editions e) (eventsOf (now (rows .entry)))) (now (y .entry)))) (agree (fields (eventReads (known editions e) (eventsOf (now (rows .entry)))) (now (x .entry))) (fields (eventReads (known editions e) (eventsOf (now (rows .entry)))) (now (y .entry)))) (now (x .entry)) (now (y .entry)) r ⌝ }
 {
     if same_record(x, y) {
         return pair_fields::settled(0, true);

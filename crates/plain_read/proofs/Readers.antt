@@ -37,12 +37,12 @@ module _ (a : Attributes) (xs : List ℕ) (kind misc t : ℕ) (g : Header a xs k
 
   pub words-are : (size from to : ℕ) (c d : Cursor) (one mid two : List ℕ) → size ≡ sizeOf xs → itemsOf a misc kind from to ≡ schema kind misc a
       → c ≡ origin 8 → d ≡ origin (length xs - t)
-      → one ≡ put (kind ∷ misc ∷ size ∷ zeros 53) 3 (words (take (length xs - t) xs) (itemsOf a misc kind from to) c)
+      → one ≡ put (kind ∷ misc ∷ size ∷ zeros 53) bodyWords (words (take (length xs - t) xs) (itemsOf a misc kind from to) c)
       → mid ≡ put one (bodyWords + width (schema kind misc a)) (flagWords (schema kind misc a) (recordFlag a xs))
-      → two ≡ put mid 48 (words xs (itemsOf a misc kind fieldRows allRows) d)
+      → two ≡ put mid trailWords (words xs (itemsOf a misc kind fieldRows allRows) d)
       → two ≡ wordsBy (schema (kindOf xs) (miscOf xs) a) (trailer (kindOf xs) a) xs
   words-are size from to c d one mid two es ei ec ed e₁ eₘ e₂ =
       lent.words-are a xs kind misc t g size c d one mid two es ec ed
-      (e₁ ∙ ap (λ (is : List Item). put (kind ∷ misc ∷ size ∷ zeros 53) 3 (words (take (length xs - t) xs) is c)) ei)
+      (e₁ ∙ ap (λ (is : List Item). put (kind ∷ misc ∷ size ∷ zeros 53) bodyWords (words (take (length xs - t) xs) is c)) ei)
       eₘ
-      (e₂ ∙ ap (λ (is : List Item). put mid 48 (words xs is d)) (trailer-rows misc kind a))
+      (e₂ ∙ ap (λ (is : List Item). put mid trailWords (words xs is d)) (trailer-rows misc kind a))

@@ -8,9 +8,6 @@ use meaning::Reading;
 
 mod words;
 
-// The words that a reader is lent.
-const VALUE_WORDS: usize = 56;
-
 // The reader of a record's bytes: the answer of `check`, and where it is 0 the words; refused: no value, zero throughout.
 pub fn read(r: &[u8], e: u64, a: Attributes) -> Reading
     ensures { λ x. ⌜ x ≡ read editions e a (now (r .entry)) ⌝ }
@@ -20,7 +17,7 @@ pub fn read(r: &[u8], e: u64, a: Attributes) -> Reading
         let words = words::of_record(r, a);
         Reading { answer, words }
     } else {
-        let words = [0u64; VALUE_WORDS];
+        let words = [0u64; fields::VALUE_WORDS];
         Reading { answer, words }
     }
 }
@@ -34,7 +31,7 @@ pub fn read_into(r: &[u8], e: u64, a: Attributes, words: &mut [u64]) -> u16
     if answer != 0 {
         return answer;
     }
-    if words.len() < VALUE_WORDS {
+    if words.len() < fields::VALUE_WORDS {
         return 40;
     }
     let filled = words::of_record(r, a);

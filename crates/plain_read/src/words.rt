@@ -15,11 +15,6 @@ use meaning::Cursor;
 use meaning::Item;
 use record::flag;
 
-// Where the words of the fields and those of the trailer start, after type, misc and size.
-const FIELDS_AT: usize = 3;
-
-const TRAILER_AT: usize = 48;
-
 // The words of one item in their place: none, one or two.
 fn place(out: &mut [u64], at: usize, t: Words)
     requires { ⌜ (t .n ≤ 2) × (at + t .n ≤ length (now out)) ⌝ }
@@ -76,14 +71,14 @@ pub fn fill(
 
 // Type, misc and size; the words of the fields from 3 on, then the flag where the type has a name; those of the trailer from 48 on; every other
 // word is 0.
-pub fn of_record(r: &[u8], a: Attributes) -> [u64; 56]
+pub fn of_record(r: &[u8], a: Attributes) -> [u64; fields::VALUE_WORDS]
     requires { ⌜ Accepted a (now r) (kindOf (now r)) ⌝ }
     ensures { λ w. ⌜ w ≡ wordsBy (schema (kindOf (now (r .entry))) (miscOf (now (r .entry))) a) (trailer (kindOf (now (r .entry))) a) (now (r .entry)) ⌝ }
 {
     let h = reader::read_header(r);
     let kind = h.kind;
     let misc = h.misc;
-    let mut out = [0u64; 56];
+    let mut out = [0u64; fields::VALUE_WORDS];
     out[0] = kind;
     out[1] = misc;
     out[2] = h.size;
@@ -100,7 +95,7 @@ pub fn of_record(r: &[u8], a: Attributes) -> [u64; 56]
         to,
         answers::origin(8),
         &mut out,
-        FIELDS_AT,
+        fields::BODY_WORDS,
     );
     flag::set(r, kind, misc, a, &mut out);
     fill(
@@ -112,7 +107,7 @@ pub fn of_record(r: &[u8], a: Attributes) -> [u64; 56]
         table::TRAILER_TO,
         answers::origin(end),
         &mut out,
-        TRAILER_AT,
+        fields::TRAIL_WORDS,
     );
     out
 }

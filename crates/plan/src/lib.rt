@@ -8,17 +8,17 @@ ghost use Rattle.meaning.specs.Bytes.{bit};
 ghost use Rattle.meaning.specs.Editions.{unreadable};
 ghost use Rattle.meaning.specs.Schema.{schema, trailer};
 ghost use Rattle.meaning.specs.Records.{layout, room, kindOf, miscOf, judge};
-ghost use Rattle.blocks.specs.Seen.{Closes};
+ghost use Rattle.blocks.specs.Seen.{sizeBound, Closes};
 ghost use Rattle.exact.specs.Stretches.{groupFixed};
-ghost use Rattle.sums.specs.Sums.{sumsOf};
-ghost use Rattle.marks.specs.Marks.{Marked, Counted};
+ghost use Rattle.sums.specs.Sums.{trailMost, sumsOf};
+ghost use Rattle.marks.specs.Marks.{openMark, stretchedMark, refusedMark, Marked, Counted};
 use meaning::Attributes;
 use meaning::Known;
 
 // READ of a group, NAMESPACES, TEXT_POKE.
 fn counted(f: &[u8], kind: u64, a: Attributes, fixed: usize) -> u16
     requires { ⌜ 8 ≤ length (now f) ⌝ }
-    requires { ⌜ length (now f) < 65536 ⌝ }
+    requires { ⌜ length (now f) < sizeBound ⌝ }
     requires { ⌜ length (now f) % 8 ≡ 0 ⌝ }
     requires { ⌜ Counted a kind ⌝ }
     requires { ⌜ (kind ≡ 8 → fixed ≡ groupFixed (a .format)) ⌝ }
@@ -50,7 +50,7 @@ fn build_id(r: &[u8], known: Known, a: Attributes, trail: usize) -> u16
     requires { ⌜ bit (miscOf (now r)) 14 ≡ true ⌝ }
     requires { ⌜ unreadable known a 10 0 ≡ 0 ⌝ }
     requires { ⌜ trail ≡ room (trailer 1 a) ⌝ }
-    requires { ⌜ trail ≤ 64 ⌝ }
+    requires { ⌜ trail ≤ trailMost ⌝ }
     ensures { λ x. ⌜ x ≡ judge (layout known a) (now (r .entry)) ⌝ }
 {
     if !known.builds {
@@ -75,16 +75,16 @@ fn opened(
     fixed: usize,
 ) -> u16
     requires { ⌜ 8 ≤ length (now r) ⌝ }
-    requires { ⌜ length (now r) < 65536 ⌝ }
+    requires { ⌜ length (now r) < sizeBound ⌝ }
     requires { ⌜ length (now r) % 8 ≡ 0 ⌝ }
     requires { ⌜ kind ≡ kindOf (now r) ⌝ }
     requires { ⌜ Marked known a kind mark ⌝ }
     requires { ⌜ trail ≡ room (trailer 1 a) ⌝ }
-    requires { ⌜ trail ≤ 64 ⌝ }
+    requires { ⌜ trail ≤ trailMost ⌝ }
     requires { ⌜ (kind ≡ 8 → fixed ≡ groupFixed (a .format)) ⌝ }
-    requires { ⌜ 65536 ≤ mark ⌝ }
-    requires { ⌜ mark < 131072 ⌝ }
-    requires { ⌜ (mark ≡ 65537 → ⊥) ⌝ }
+    requires { ⌜ openMark ≤ mark ⌝ }
+    requires { ⌜ mark < refusedMark ⌝ }
+    requires { ⌜ (mark ≡ stretchedMark → ⊥) ⌝ }
     ensures { λ x. ⌜ x ≡ judge (layout known a) (now (r .entry)) ⌝ }
 {
     if has_build(r, kind) {
@@ -112,14 +112,14 @@ pub fn other(
     fixed: usize,
 ) -> u16
     requires { ⌜ 8 ≤ length (now r) ⌝ }
-    requires { ⌜ length (now r) < 65536 ⌝ }
+    requires { ⌜ length (now r) < sizeBound ⌝ }
     requires { ⌜ length (now r) % 8 ≡ 0 ⌝ }
     requires { ⌜ kind ≡ kindOf (now r) ⌝ }
     requires { ⌜ Marked known a kind mark ⌝ }
     requires { ⌜ trail ≡ room (trailer 1 a) ⌝ }
-    requires { ⌜ trail ≤ 64 ⌝ }
+    requires { ⌜ trail ≤ trailMost ⌝ }
     requires { ⌜ (kind ≡ 8 → fixed ≡ groupFixed (a .format)) ⌝ }
-    requires { ⌜ (mark ≡ 65537 → ⊥) ⌝ }
+    requires { ⌜ (mark ≡ stretchedMark → ⊥) ⌝ }
     ensures { λ x. ⌜ x ≡ judge (layout known a) (now (r .entry)) ⌝ }
 {
     if mark < marks::OPEN {
@@ -134,7 +134,7 @@ pub fn other(
 // The answer for a record's bytes. A SAMPLE in stretches has most to do, and is asked for first.
 pub fn judge(r: &[u8], kind: u64, mark: u64, known: Known, a: Attributes, sums: &[u64; 8]) -> u16
     requires { ⌜ 8 ≤ length (now r) ⌝ }
-    requires { ⌜ length (now r) < 65536 ⌝ }
+    requires { ⌜ length (now r) < sizeBound ⌝ }
     requires { ⌜ length (now r) % 8 ≡ 0 ⌝ }
     requires { ⌜ kind ≡ kindOf (now r) ⌝ }
     requires { ⌜ Marked known a kind mark ⌝ }

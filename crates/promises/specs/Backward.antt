@@ -16,7 +16,7 @@ use Rattle.meaning.specs.Bytes.{numberAt}
 use Rattle.meaning.specs.Editions.{editions, allowed, known, outside, isIn}
 use Rattle.meaning.specs.Records.{layout, judge, check}
 use Rattle.meaning.specs.Ring.{Asked, askedOf, asking}
-use Rattle.meaning.specs.Drain.{End, start, ended, entryFor, drain}
+use Rattle.meaning.specs.Drain.{End, start, ended, entryFor, told, drain}
 use Rattle.meaning.specs.Events.{sound, askedEvents, judgeEvents, eventDepends, drainEvents}
 use Rattle.meaning.specs.Backward.{backFrame, walkBy, walkBack, walkEvents}
 use Rattle.laws.specs.Bytes.{apart}
@@ -197,6 +197,24 @@ module _ (rows : List Known) (up : rising rows ≡ true) (e₁ e₂ : ℕ) (orde
       (outside (known rows e₁) (eventDepends es (recordOf (walkCuts (asksTable limit es) ring head budget (length journal) scratch) i)))
   fair-walk-events-entry limit es ws = demand3-walk-events-entry rows up e₁ e₂ order is₁ is₂ limit es ws ring head budget journal scratch
 
+-- "end at the same place": as many records and bytes, the same place and stop; and the same scratch
+pub record SamePlace (older newer : End) : Type 0 where
+  pub records-alike : older .state .taken ≡ newer .state .taken
+  pub bytes-alike : older .state .bytes ≡ newer .state .bytes
+  pub place-alike : older .state .tail ≡ newer .state .tail
+  pub stop-alike : older .stop ≡ newer .stop
+  pub scratch-alike : older .state .scratch ≡ newer .state .scratch
+
+at-one-place : (older newer : End) → told older ≡ told newer → older .state .scratch ≡ newer .state .scratch → SamePlace older newer
+at-one-place older newer t s =
+    record {
+      records-alike = ap (λ (d : Drained). d .taken) t;
+      bytes-alike = ap (λ (d : Drained). d .bytes) t;
+      place-alike = ap (λ (d : Drained). d .tail) t;
+      stop-alike = ap (λ (d : Drained). d .stop) t;
+      scratch-alike = s;
+    }
+
 -- ---- "two of the editions that 01 lists"
 module _ (e₁ e₂ : ℕ) (order : e₁ ≤ e₂) (is₁ : allowed editions e₁ ≡ true) (is₂ : allowed editions e₂ ≡ true) (ring : List ℕ) (head budget : ℕ) (journal scratch : List ℕ) where
   pub older-walk : (a : Attributes) → Words a
@@ -209,11 +227,11 @@ module _ (e₁ e₂ : ℕ) (order : e₁ ≤ e₂) (is₁ : allowed editions e�
       ring head budget journal scratch (walkEvents limit editions e₁ es ring head budget journal scratch) (walkEvents limit editions e₂ es ring head budget journal scratch)
   older-walk-events = fair-walk-events editions editions-rise e₁ e₂ order is₁ is₂ ring head budget journal scratch
 
-  -- "end at the same place": as many records and bytes, the same place and stop; and the same scratch
+  -- "end at the same place", with one attribute set and with a table
   pub same-place : (a : Attributes) → Words a
-      → (walkBack editions e₁ a ring head budget journal scratch .state .bytes ≡ walkBack editions e₂ a ring head budget journal scratch .state .bytes)
-      × ((walkBack editions e₁ a ring head budget journal scratch .state .tail ≡ walkBack editions e₂ a ring head budget journal scratch .state .tail)
-      × (walkBack editions e₁ a ring head budget journal scratch .stop ≡ walkBack editions e₂ a ring head budget journal scratch .stop))
-  same-place a ws =
-      let t = older-walk a ws .beside .told-alike in
-      (ap (λ (d : Drained). d .bytes) t, (ap (λ (d : Drained). d .tail) t, ap (λ (d : Drained). d .stop) t))
+      → SamePlace (walkBack editions e₁ a ring head budget journal scratch) (walkBack editions e₂ a ring head budget journal scratch)
+  same-place a ws = let b = older-walk a ws .beside in at-one-place _ _ (b .told-alike) (b .scratch-alike)
+
+  pub same-place-events : (limit : ℕ) (es : List Event) → EventWords es
+      → SamePlace (walkEvents limit editions e₁ es ring head budget journal scratch) (walkEvents limit editions e₂ es ring head budget journal scratch)
+  same-place-events limit es ws = let b = older-walk-events limit es ws .beside in at-one-place _ _ (b .told-alike) (b .scratch-alike)

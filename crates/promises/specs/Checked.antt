@@ -261,15 +261,15 @@ check-exactly e a xs k p =
 -- ---- the rows 20 to 25 in words, for a slice that is one record by its header, in an edition
 
 -- the rows before its own do not hold, and its own does
-lead : (b : Bool) (n k x : ℕ) → (n ≡ k → ⊥) → {A : Type 0} → (x ≡ k → A) × (A → x ≡ k) → (cond b n x ≡ k → (b ≡ false) × A) × ((b ≡ false) × A → cond b n x ≡ k)
+pub lead : (b : Bool) (n k x : ℕ) → (n ≡ k → ⊥) → {A : Type 0} → (x ≡ k → A) × (A → x ≡ k) → (cond b n x ≡ k → (b ≡ false) × A) × ((b ≡ false) × A → cond b n x ≡ k)
 lead true n k x d r = (λ h. absurd (d h), λ p. absurd (apart (sym (p .0))))
 lead false n k x d r = (λ h. (refl, r .0 h), λ p. r .1 (p .1))
 
-hit : (b : Bool) (k x : ℕ) → (x ≡ k → ⊥) → (cond b k x ≡ k → b ≡ true) × (b ≡ true → cond b k x ≡ k)
+pub hit : (b : Bool) (k x : ℕ) → (x ≡ k → ⊥) → (cond b k x ≡ k → b ≡ true) × (b ≡ true → cond b k x ≡ k)
 hit true k x d = (λ h. refl, λ h. refl)
 hit false k x d = (λ h. absurd (d h), λ h. absurd (apart h))
 
-other : (k : ℕ) (ns : List ℕ) → isIn k ns ≡ false → (x : ℕ) → isIn x ns ≡ true → x ≡ k → ⊥
+pub other : (k : ℕ) (ns : List ℕ) → isIn k ns ≡ false → (x : ℕ) → isIn x ns ≡ true → x ≡ k → ⊥
 other k ns f x h e = apart (sym f ∙ ap (λ (n : ℕ). isIn n ns) (sym e) ∙ h)
 
 module _ (e : ℕ) (a : Attributes) (xs : List ℕ) (ok : allowed editions e ≡ true) (one : framed xs ≡ true) where

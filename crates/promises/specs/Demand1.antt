@@ -3,12 +3,11 @@
 -- that 01 names. A name too long for its buffer is refused whole with that buffer untouched."
 -- The answers are functions of all inputs; what stands here is what they may be, and what a caller's slices then hold. The ring and the record are
 -- only read: no definition has them after the call. The last sentence, on names, is in Names. Assumes nothing.
-use mathlib.Core.Path.{_≡_, refl, sym, ap, ap₂, _∙_}
+use mathlib.Core.Path.{_≡_, refl, sym, ap, _∙_}
 use mathlib.Core.List.{List, []}
 use mathlib.Core.Bool.{Bool, true, false}
 use Prim.Native.Nat.{ℕ, suc, _+_, _-_, _*_, _%_, _^_, _<_, _≤_}
 use native.Mathlib.Omega.{arith}
-use borrow.Author.Tests.{ltb-true, eqb-true}
 use lib.ListN.{length, getD, take, drop}
 use Rattle.meaning.specs.declared.Attributes.{Attributes}
 use Rattle.meaning.specs.declared.Frame.{Frame}
@@ -18,7 +17,7 @@ use Rattle.meaning.specs.Editions.{editions, allowed, known, isIn}
 use Rattle.meaning.specs.Records.{layout, judge, check, recordCheck}
 use Rattle.meaning.specs.Values.{read, readAnswered, writeAnswer, writeBuffer}
 use Rattle.meaning.specs.Ring.{askedOf, distance, stopAt, frame, recordAt, whole, shown, oneFrame, taken, notTaken, readOne, oneScratch}
-use Rattle.meaning.specs.Drain.{End, entryFor, start, ended, frameAt, after, run, drain}
+use Rattle.meaning.specs.Drain.{End, entryFor, start, frameAt, after, run, drain}
 use Rattle.laws.specs.Answer42.{bytesOf, buffer-holds, buffer-kept}
 use Rattle.runs.specs.Cutting.{Cut, begin, cuttingBy, entries, total, Chained, All, nothingCut, framed}
 use Rattle.runs.specs.Entries.{all-at}
@@ -27,10 +26,11 @@ use Rattle.runs.specs.Scratches.{scratch-whole, scratch-crosses, put-holds, sho
 use Rattle.editions.specs.Numbers.{recordNumbers, checkNumbers, recordCheckNumbers, stopNumbers, writeNumbers}
 use Rattle.editions.specs.InTable.{judge-in, judge-small, check-in, record-check-in, write-in}
 use Rattle.laws.specs.Rows.{gives}
-use Rattle.laws.specs.Rings.{stopRows, frame-stop, frame-reason, run-stop}
+use Rattle.laws.specs.Rings.{stopRows, frame-stop, frame-reason}
 use Rattle.editions.specs.Drains.{drain-counted, drain-cutting, drain-entry, drain-rest, drain-checked}
 use Rattle.editions.specs.Demand3.{answer-in}
 use Rattle.editions.specs.Stops.{drain-stop, drain-go, drain-in, one-stop, one-stop-tail, one-taken, one-taken-tail, one-stop-in, one-in, one-refused}
+use Rattle.promises.specs.AnyDrain.{ended-leaves, rests-there, stop-0, stop-8, stop-9}
 use Rattle.promises.specs.Scratch.{going-room, liesWhole, drain-all-whole, drain-copied}
 
 -- ---- "Bad input is refused by the numbers in document 01": record check, the reader of a record's bytes, the writer
@@ -147,13 +147,8 @@ module _ (e : ℕ) (a : Attributes) (ring : List ℕ) (head tail budget : ℕ) (
   pub drain-stop-leaves : frame (askedOf editions e) ring head tail budget (length journal) (length scratch) .go ≡ false
       → (end .state .taken ≡ 0) × (end .state .bytes ≡ 0) × (end .state .tail ≡ tail) × (end .state .journal ≡ journal) × (end .state .scratch ≡ scratch)
   drain-stop-leaves g =
-      let s = drain-stop editions e a ring head tail budget journal scratch g in (
-        ap (λ (x : End). x .state .taken) s,
-        ap (λ (x : End). x .state .bytes) s,
-        ap (λ (x : End). x .state .tail) s,
-        ap (λ (x : End). x .state .journal) s,
-        ap (λ (x : End). x .state .scratch) s,
-      )
+      ended-leaves tail journal scratch (frame (askedOf editions e) ring head tail budget (length journal) (length scratch)) end
+      (drain-stop editions e a ring head tail budget journal scratch g)
 
   -- the journal: one entry of 16 bytes for each record, from its start on, and nothing else
   pub drain-journal : end .state .journal ≡ put journal 0 (entries answers records)
@@ -185,35 +180,18 @@ module _ (e : ℕ) (a : Attributes) (ring : List ℕ) (head tail budget : ℕ) (
 
     -- and there it leaves tail, counts, journal and scratch as they stand: to go on from the end is to stay there
     pub drain-rests : run (frame (askedOf editions e) ring head) answers ring (budget - end .state .taken) (end .state) ≡ end
-    drain-rests =
-        let c = counted in
-        let n : ℕ = budget - end .state .taken in
-        let q : frameAt (frame (askedOf editions e) ring head) n (end .state) ≡ stopAt (end .stop) =
-        ap₂ (λ (j s : ℕ). frame (askedOf editions e) ring head (end .state .tail) n (j - 16 * end .state .taken) s) (c .journal-length) (c .scratch-length) ∙ c .reason in
-        run-stop (frame (askedOf editions e) ring head) answers ring n (end .state) (ap (λ (x : Frame). x .go) q) ∙ ap (ended (end .state)) q
-
-    drain-gives : gives (end .stop)
-        (stopRows (askedOf editions e) ring head (end .state .tail) (budget - end .state .taken) (length journal - 16 * end .state .taken) (length scratch))
-        ≡ true
-    drain-gives =
-        frame-reason (askedOf editions e) ring head (end .state .tail) (budget - end .state .taken) (length journal - 16 * end .state .taken) (length scratch) (end .stop)
-        drain-reason .0
+    drain-rests = rests-there (askedOf editions e) ring head tail budget journal scratch _ end counted answers
 
     -- so "nothing to take" is said only at the head, "budget used up" only after as many records as were allowed, and "fewer than 16 journal bytes
     -- left" only where that is so: no drain that does nothing says so
     pub drain-nothing-left : end .stop ≡ 0 → end .state .tail ≡ head
-    drain-nothing-left z = sym (eqb-true head (end .state .tail) (rw z at drain-gives))
+    drain-nothing-left = stop-0 (askedOf editions e) ring head tail budget journal scratch _ end counted
 
     pub drain-budget-used : end .stop ≡ 8 → end .state .taken ≡ budget
-    drain-budget-used z =
-        let m = counted .most in
-        let n = eqb-true (budget - end .state .taken) 0 (rw z at drain-gives) in
-        omega (arith, m, n)
+    drain-budget-used = stop-8 (askedOf editions e) ring head tail budget journal scratch _ end counted
 
     pub drain-journal-full : end .stop ≡ 9 → length journal < 16 * end .state .taken + 16
-    drain-journal-full z =
-        let n = ltb-true (length journal - 16 * end .state .taken) 16 (rw z at drain-gives) in
-        omega (arith, n)
+    drain-journal-full = stop-9 (askedOf editions e) ring head tail budget journal scratch _ end counted
 
     -- "takes at most the number of records that the caller allows"
     pub drain-budget : end .state .taken ≤ budget

@@ -79,16 +79,16 @@ module _ (e : ℕ) (a : Attributes) where
   -- ---- ollskuvan_write
 
   -- with 56 words and more the writer of the first 56
-  few : (src ws : List ℕ) (space : ℕ) → allowed editions e ≡ true → 56 ≤ length ws → writeWordsAnswer e a src ws space ≡ writeAnswer editions e a src (take 56 ws) space
+  pub few : (src ws : List ℕ) (space : ℕ) → allowed editions e ≡ true → 56 ≤ length ws → writeWordsAnswer e a src ws space ≡ writeAnswer editions e a src (take 56 ws) space
   unfolding writeWordsAnswer
   few src ws space g m = rw (g, le-leb 56 (length ws) m)
 
-  few-buffer : (src ws buffer : List ℕ) → 56 ≤ length ws → writeWordsBuffer e a src ws buffer ≡ writeBuffer editions e a src (take 56 ws) buffer
+  pub few-buffer : (src ws buffer : List ℕ) → 56 ≤ length ws → writeWordsBuffer e a src ws buffer ≡ writeBuffer editions e a src (take 56 ws) buffer
   unfolding writeWordsBuffer
   few-buffer src ws buffer m = rw (le-leb 56 (length ws) m)
 
   -- what an answer of 0 says: at least 56 words, and the writer accepts the first 56
-  write-accepted : (src ws : List ℕ) (space : ℕ) → writeWordsAnswer e a src ws space ≡ 0
+  pub write-accepted : (src ws : List ℕ) (space : ℕ) → writeWordsAnswer e a src ws space ≡ 0
       → (56 ≤ length ws) × (writeAnswer editions e a src (take 56 ws) space ≡ 0)
   unfolding writeWordsAnswer
   write-accepted src ws space z =
@@ -108,7 +108,7 @@ module _ (e : ℕ) (a : Attributes) where
   abbrev pub record-in : List ℕ → List ℕ → List ℕ
   record-in ws buffer = take (getD ws 2 0) buffer
 
-  holds-record : (src ws buffer : List ℕ) → writeWordsAnswer e a src ws (length buffer) ≡ 0
+  pub holds-record : (src ws buffer : List ℕ) → writeWordsAnswer e a src ws (length buffer) ≡ 0
       → (record-in ws (writeWordsBuffer e a src ws buffer) ≡ bytesOf editions e a src (take 56 ws)) × (length (bytesOf editions e a src (take 56 ws)) ≡ getD ws 2 0)
   holds-record src ws buffer z =
       let w = write-accepted src ws (length buffer) z in

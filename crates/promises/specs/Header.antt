@@ -1,8 +1,8 @@
 -- M-104: "Refusal 10 never happens. Once 1 and 5 pass, the eight header bytes can't cross the end. Show that, drop the case and document 01's row, and
--- never reuse the number." Assumes nothing.
+-- never reuse the number." What no call but record check answers is said of any number outside a list: of 10 here, of 44 in Nobody44. Assumes nothing.
 use mathlib.Core.Path.{_≡_, refl, ap, fun-ext}
 use mathlib.Core.List.{List, [], _∷_, _++_}
-use mathlib.Core.Bool.{false, not}
+use mathlib.Core.Bool.{true, false, not}
 use Prim.Native.Nat.{ℕ, _+_, _*_, _%_, _^_, _<_, _≤_}
 use borrow.Author.Tests.{le-ltb, eqb-true, not-false}
 use lib.Dec.{ltb, eqb}
@@ -11,7 +11,7 @@ use Rattle.meaning.specs.declared.Attributes.{Attributes}
 use Rattle.meaning.specs.declared.Frame.{Frame}
 use Rattle.meaning.specs.Bytes.{numberAt}
 use Rattle.meaning.specs.Refusals.{Refusal, refusal}
-use Rattle.meaning.specs.Editions.{editions, known}
+use Rattle.meaning.specs.Editions.{editions, known, isIn}
 use Rattle.meaning.specs.Records.{layout, judge, recordCheck}
 use Rattle.meaning.specs.Values.{read, writeAnswer}
 use Rattle.meaning.specs.Ring.{Asked, askedOf, lengthAllowed, distance, stopped, sized, callRows, leftRows, frame, readOne}
@@ -32,12 +32,12 @@ use Rattle.salvage.specs.Salvage.{salvageTold}
 use Rattle.settings.specs.Versions.{versions}
 use Rattle.settings.specs.Reading.{readStore}
 use Rattle.settings.specs.Writing.{writes, writeStore}
-use Rattle.laws.specs.Rows.{or-false, gives, Passed, passed-by, stopped-after}
+use Rattle.laws.specs.Rows.{or-false, every, in-more, gives, Passed, passed-by, stopped-after}
 use Rattle.laws.specs.Rings.{header-whole}
-use Rattle.editions.specs.Numbers.{recordNumbers, checkNumbers, recordCheckNumbers, stopNumbers, tableStopNumbers, eventNumbers, writeNumbers, nameNumbers}
+use Rattle.editions.specs.Numbers.{recordNumbers, checkNumbers, recordCheckNumbers, stopNumbers, tableStopNumbers, walkNumbers, tableWalkNumbers, eventNumbers, writeNumbers, nameNumbers}
 use Rattle.editions.specs.InTable.{not-in}
 use Rattle.promises.specs.Demand1.{check-numbers, read-numbers, write-numbers, one-stop-numbers, one-numbers, drain-stop-numbers, drain-entry-numbers}
-use Rattle.promises.specs.Backward.{walk-others, walk-entry-numbers, walk-events-others, walk-events-entry-numbers}
+use Rattle.promises.specs.Backward.{walk-numbers, walk-entry-numbers, walk-events-numbers, walk-events-entry-numbers}
 use Rattle.promises.specs.Lent.{readNumbers, lent-numbers}
 use Rattle.promises.specs.Names.{name-numbers}
 use Rattle.promises.specs.Events.{event-numbers, drain-events-numbers, one-events-stop-numbers}
@@ -93,8 +93,13 @@ drains-never-cross e a ring head tail budget journal scratch =
 
 -- ---- "never reuse the number": no stop is 10, and no answer of any call
 
--- a number that nothing gives: each stop and each answer of the definitions, and what the calls from C tell
-pub record Nobodys (k e : ℕ) (a : Attributes) : Type 0 where
+-- every number that a call other than record check may tell as a stop or an answer: those of documents 01 and 02 but for 10, and for 44, which is record check's
+abbrev pub otherNumbers : List ℕ
+otherNumbers =
+    0 ∷ 1 ∷ 2 ∷ 3 ∷ 4 ∷ 5 ∷ 6 ∷ 7 ∷ 8 ∷ 9 ∷ 11 ∷ 12 ∷ 13 ∷ 20 ∷ 21 ∷ 22 ∷ 23 ∷ 24 ∷ 25 ∷ 26 ∷ 27 ∷ 30 ∷ 31 ∷ 32 ∷ 33 ∷ 40 ∷ 41 ∷ 42 ∷ 43 ∷ 50 ∷ 51 ∷ 52 ∷ 53 ∷ 54 ∷ []
+
+-- a number that none of them gives: each stop and each answer of the definitions, and what the calls from C tell
+pub record NoOthers (k e : ℕ) (a : Attributes) : Type 0 where
   pub drain-stop : (ring : List ℕ) (head tail budget : ℕ) (journal scratch : List ℕ) → drain editions e a ring head tail budget journal scratch .stop ≡ k → ⊥
   pub drain-answer : (ring : List ℕ) (head tail budget : ℕ) (journal scratch : List ℕ) (i : ℕ) → i < drain editions e a ring head tail budget journal scratch .state .taken
       → numberAt 2 (drain editions e a ring head tail budget journal scratch .state .journal) (16 * i + 6) ≡ k → ⊥
@@ -105,36 +110,15 @@ pub record Nobodys (k e : ℕ) (a : Attributes) : Type 0 where
   pub one-answer : (ring : List ℕ) (head tail : ℕ) (scratch : List ℕ) → readOne editions e a ring head tail scratch .answer ≡ k → ⊥
   pub told-stop : (ring : List ℕ) (head tail : ℕ) (scratch words : List ℕ) → oneTold editions e a ring head tail scratch words .stop ≡ k → ⊥
   pub told-answer : (ring : List ℕ) (head tail : ℕ) (scratch words : List ℕ) → oneTold editions e a ring head tail scratch words .answer ≡ k → ⊥
-  pub check-answer : (xs : List ℕ) → recordCheck editions e a xs ≡ k → ⊥
   pub read-answer : (xs : List ℕ) → read editions e a xs .answer ≡ k → ⊥
   pub lent-answer : (xs words : List ℕ) → readIntoAnswer editions e a xs words ≡ k → ⊥
   pub write-answer : (src ws : List ℕ) (space : ℕ) → writeAnswer editions e a src ws space ≡ k → ⊥
   pub words-answer : (src ws : List ℕ) (space : ℕ) → writeWordsAnswer e a src ws space ≡ k → ⊥
   pub name-answer : (xs : List ℕ) (place count : ℕ) (buffer : List ℕ) → nameAnswer xs place count buffer ≡ k → ⊥
 
-pub ten-is-nobodys : (e : ℕ) (a : Attributes) → Nobodys 10 e a
-ten-is-nobodys e a =
-    record {
-      drain-stop = λ ring head tail budget journal scratch. not-in stopNumbers 10 _ refl (drain-stop-numbers e a ring head tail budget journal scratch);
-      drain-answer = λ ring head tail budget journal scratch i h. not-in recordNumbers 10 _ refl (drain-entry-numbers e a ring head tail budget journal scratch i h);
-      walk-stop = λ ring head budget journal scratch. walk-others e a ring head budget journal scratch 10 refl;
-      walk-answer = λ ring head budget journal scratch i h. not-in recordNumbers 10 _ refl (walk-entry-numbers e a ring head budget journal scratch i h);
-      one-stop = λ ring head tail scratch. not-in stopNumbers 10 _ refl (one-stop-numbers e a ring head tail scratch);
-      one-answer = λ ring head tail scratch. not-in recordNumbers 10 _ refl (one-numbers e a ring head tail scratch);
-      told-stop = λ ring head tail scratch words. not-in oneStopNumbers 10 _ refl (told-stops e a ring head tail scratch words);
-      told-answer = λ ring head tail scratch words. not-in (40 ∷ recordNumbers) 10 _ refl (told-numbers e a ring head tail scratch words);
-      check-answer = λ xs. not-in recordCheckNumbers 10 _ refl (check-numbers e a xs);
-      read-answer = λ xs. not-in checkNumbers 10 _ refl (read-numbers e a xs);
-      lent-answer = λ xs words. not-in readNumbers 10 _ refl (lent-numbers e a xs words);
-      write-answer = λ src ws space. not-in writeNumbers 10 _ refl (write-numbers e a src ws space);
-      words-answer = λ src ws space. not-in writeNumbers 10 _ refl (words-answers e a src ws space);
-      name-answer = λ xs place count buffer. not-in nameNumbers 10 _ refl (name-numbers xs place count buffer);
-    }
-
--- ---- nor is it given with a table of events (M-100, M-109, M-112), beside the tail of two readers (M-105), of a store (M-103), of what was saved (M-106, M-108,
--- M-111). With `Nobodys` these are all calls from C but two, which refuse nothing: one tells what misc means, the other an index in a table
-
-pub record NobodysBeside (k limit e : ℕ) (es : List Event) : Type 0 where
+-- the same with a table of events (M-100, M-109, M-112), beside the tail of two readers (M-105), of a store (M-103), of what was saved (M-106, M-108, M-111). With
+-- `NoOthers` and record check's two these are all calls from C but two, which refuse nothing: one tells what misc means, the other an index in a table
+pub record NoOthersBeside (k limit e : ℕ) (es : List Event) : Type 0 where
   pub drain-stop : (ring : List ℕ) (head tail budget : ℕ) (journal scratch : List ℕ) → drainEvents limit editions e es ring head tail budget journal scratch .stop ≡ k → ⊥
   pub drain-answer : (ring : List ℕ) (head tail budget : ℕ) (journal scratch : List ℕ) (i : ℕ) → i < drainEvents limit editions e es ring head tail budget journal scratch .state .taken
       → numberAt 2 (drainEvents limit editions e es ring head tail budget journal scratch .state .journal) (16 * i + 6) ≡ k → ⊥
@@ -145,7 +129,6 @@ pub record NobodysBeside (k limit e : ℕ) (es : List Event) : Type 0 where
   pub one-stop : (ring : List ℕ) (head tail : ℕ) (scratch : List ℕ) → readOneEvents limit editions e es ring head tail scratch .frame .stop ≡ k → ⊥
   pub told-stop : (ring : List ℕ) (head tail : ℕ) (scratch words : List ℕ) → oneEventsTold limit editions e es ring head tail scratch words .stop ≡ k → ⊥
   pub told-answer : (ring : List ℕ) (head tail : ℕ) (scratch words : List ℕ) → oneEventsTold limit editions e es ring head tail scratch words .answer ≡ k → ⊥
-  pub check-answer : (xs : List ℕ) → recordCheckEvents limit editions e es xs .answer ≡ k → ⊥
   pub read-answer : (xs words : List ℕ) → readEvents limit editions e es xs words .answer ≡ k → ⊥
   pub compare-stop : (ring₁ ring₂ : List ℕ) (head₁ head₂ tail₁ tail₂ : ℕ) (scratch₁ scratch₂ : List ℕ)
       → compared (eventReads (known editions e) es) (sideOf (askedEvents limit editions e es) ring₁ head₁ tail₁ scratch₁) (sideOf (askedEvents limit editions e es) ring₂ head₂ tail₂ scratch₂) .stop ≡ k
@@ -158,25 +141,65 @@ pub record NobodysBeside (k limit e : ℕ) (es : List Event) : Type 0 where
   pub store-write : (rows : List (List ℕ)) (ring edition budget : ℕ) (buffer : List ℕ) → writeStore writes editions rows ring edition budget (length buffer) .answer ≡ k → ⊥
   pub publish-answer : (n head : ℕ) (r : Readers) → published n head r .answer ≡ k → ⊥
 
+module _ (k : ℕ) (new : isIn k otherNumbers ≡ false) where
+  -- what is in some of them is not k
+  no : (ns : List ℕ) (x : ℕ) → every (λ (n : ℕ). isIn n otherNumbers) ns ≡ true → isIn x ns ≡ true → x ≡ k → ⊥
+  no ns x some h = not-in otherNumbers k x new (in-more ns otherNumbers x some h)
+
+  pub no-others : (e : ℕ) (a : Attributes) → NoOthers k e a
+  no-others e a =
+      record {
+        drain-stop = λ ring head tail budget journal scratch. no stopNumbers _ refl (drain-stop-numbers e a ring head tail budget journal scratch);
+        drain-answer = λ ring head tail budget journal scratch i h. no recordNumbers _ refl (drain-entry-numbers e a ring head tail budget journal scratch i h);
+        walk-stop = λ ring head budget journal scratch. no walkNumbers _ refl (walk-numbers e a ring head budget journal scratch);
+        walk-answer = λ ring head budget journal scratch i h. no recordNumbers _ refl (walk-entry-numbers e a ring head budget journal scratch i h);
+        one-stop = λ ring head tail scratch. no stopNumbers _ refl (one-stop-numbers e a ring head tail scratch);
+        one-answer = λ ring head tail scratch. no recordNumbers _ refl (one-numbers e a ring head tail scratch);
+        told-stop = λ ring head tail scratch words. no oneStopNumbers _ refl (told-stops e a ring head tail scratch words);
+        told-answer = λ ring head tail scratch words. no (40 ∷ recordNumbers) _ refl (told-numbers e a ring head tail scratch words);
+        read-answer = λ xs. no checkNumbers _ refl (read-numbers e a xs);
+        lent-answer = λ xs words. no readNumbers _ refl (lent-numbers e a xs words);
+        write-answer = λ src ws space. no writeNumbers _ refl (write-numbers e a src ws space);
+        words-answer = λ src ws space. no writeNumbers _ refl (words-answers e a src ws space);
+        name-answer = λ xs place count buffer. no nameNumbers _ refl (name-numbers xs place count buffer);
+      }
+
+  pub no-others-beside : (limit e : ℕ) (es : List Event) → NoOthersBeside k limit e es
+  no-others-beside limit e es =
+      record {
+        drain-stop = λ ring head tail budget journal scratch. no tableStopNumbers _ refl (drain-events-numbers limit e es ring head tail budget journal scratch);
+        drain-answer = λ ring head tail budget journal scratch i h. no eventNumbers _ refl (drain-events-answers limit e es ring head tail budget journal scratch i h);
+        walk-stop = λ ring head budget journal scratch. no tableWalkNumbers _ refl (walk-events-numbers limit e es ring head budget journal scratch);
+        walk-answer = λ ring head budget journal scratch i h. no eventNumbers _ refl (walk-events-entry-numbers limit e es ring head budget journal scratch i h);
+        judge-answer = λ xs. no eventNumbers _ refl (event-numbers e es xs);
+        one-stop = λ ring head tail scratch. no tableStopNumbers _ refl (one-events-stop-numbers limit e es ring head tail scratch);
+        told-stop = λ ring head tail scratch words. no tableOneStopNumbers _ refl (event-told-stops limit e es ring head tail scratch words);
+        told-answer = λ ring head tail scratch words. no (40 ∷ eventNumbers) _ refl (event-told-numbers limit e es ring head tail scratch words);
+        read-answer = λ xs words. no (40 ∷ eventCheckNumbers) _ refl (read-events-in limit editions e es xs words);
+        compare-stop = λ ring₁ ring₂ head₁ head₂ tail₁ tail₂ scratch₁ scratch₂.
+            no tableOneStopNumbers _ refl (compare-stops limit e es ring₁ ring₂ head₁ head₂ tail₁ tail₂ scratch₁ scratch₂);
+        replay-answer = λ xs count rooms journal. no replayNumbers _ refl (replay-answers limit e es xs count rooms journal);
+        replay-entry = λ xs count rooms journal c i h. no eventNumbers _ refl (replay-journal-answers limit e es xs count rooms journal c i h);
+        salvage-answer = λ xs out list. no salvageNumbers _ refl (salvage-answers limit e es xs out list);
+        store-read = λ xs lent. no (0 ∷ 50 ∷ 51 ∷ 52 ∷ 11 ∷ 40 ∷ []) _ refl (read-answers xs lent);
+        store-write = λ rows ring edition budget buffer. no (0 ∷ 11 ∷ 1 ∷ 2 ∷ 40 ∷ []) _ refl (write-answers rows ring edition budget buffer);
+        publish-answer = λ n head r. no tailNumbers _ refl (publish-answers n head r);
+      }
+
+-- a number that nothing gives, record check too
+pub record Nobodys (k e : ℕ) (a : Attributes) : Type 0 where
+  pub others : NoOthers k e a
+  pub check-answer : (xs : List ℕ) → recordCheck editions e a xs ≡ k → ⊥
+
+pub record NobodysBeside (k limit e : ℕ) (es : List Event) : Type 0 where
+  pub others : NoOthersBeside k limit e es
+  pub check-answer : (xs : List ℕ) → recordCheckEvents limit editions e es xs .answer ≡ k → ⊥
+
+pub ten-is-nobodys : (e : ℕ) (a : Attributes) → Nobodys 10 e a
+ten-is-nobodys e a = record { others = no-others 10 refl e a; check-answer = λ xs. not-in recordCheckNumbers 10 _ refl (check-numbers e a xs) }
+
 pub ten-is-nobodys-beside : (limit e : ℕ) (es : List Event) → NobodysBeside 10 limit e es
-ten-is-nobodys-beside limit e es =
-    record {
-      drain-stop = λ ring head tail budget journal scratch. not-in tableStopNumbers 10 _ refl (drain-events-numbers limit e es ring head tail budget journal scratch);
-      drain-answer = λ ring head tail budget journal scratch i h. not-in eventNumbers 10 _ refl (drain-events-answers limit e es ring head tail budget journal scratch i h);
-      walk-stop = λ ring head budget journal scratch. walk-events-others limit e es ring head budget journal scratch 10 refl;
-      walk-answer = λ ring head budget journal scratch i h. not-in eventNumbers 10 _ refl (walk-events-entry-numbers limit e es ring head budget journal scratch i h);
-      judge-answer = λ xs. not-in eventNumbers 10 _ refl (event-numbers e es xs);
-      one-stop = λ ring head tail scratch. not-in tableStopNumbers 10 _ refl (one-events-stop-numbers limit e es ring head tail scratch);
-      told-stop = λ ring head tail scratch words. not-in tableOneStopNumbers 10 _ refl (event-told-stops limit e es ring head tail scratch words);
-      told-answer = λ ring head tail scratch words. not-in (40 ∷ eventNumbers) 10 _ refl (event-told-numbers limit e es ring head tail scratch words);
-      check-answer = λ xs. not-in (44 ∷ eventCheckNumbers) 10 _ refl (record-check-events-in limit editions e es xs);
-      read-answer = λ xs words. not-in (40 ∷ eventCheckNumbers) 10 _ refl (read-events-in limit editions e es xs words);
-      compare-stop = λ ring₁ ring₂ head₁ head₂ tail₁ tail₂ scratch₁ scratch₂.
-          not-in tableOneStopNumbers 10 _ refl (compare-stops limit e es ring₁ ring₂ head₁ head₂ tail₁ tail₂ scratch₁ scratch₂);
-      replay-answer = λ xs count rooms journal. not-in replayNumbers 10 _ refl (replay-answers limit e es xs count rooms journal);
-      replay-entry = λ xs count rooms journal c i h. not-in eventNumbers 10 _ refl (replay-journal-answers limit e es xs count rooms journal c i h);
-      salvage-answer = λ xs out list. not-in salvageNumbers 10 _ refl (salvage-answers limit e es xs out list);
-      store-read = λ xs lent. not-in (0 ∷ 50 ∷ 51 ∷ 52 ∷ 11 ∷ 40 ∷ []) 10 _ refl (read-answers xs lent);
-      store-write = λ rows ring edition budget buffer. not-in (0 ∷ 11 ∷ 1 ∷ 2 ∷ 40 ∷ []) 10 _ refl (write-answers rows ring edition budget buffer);
-      publish-answer = λ n head r. not-in tailNumbers 10 _ refl (publish-answers n head r);
-    }
+ten-is-nobodys-beside limit e es = record {
+  others = no-others-beside 10 refl limit e es;
+  check-answer = λ xs. not-in (44 ∷ eventCheckNumbers) 10 _ refl (record-check-events-in limit editions e es xs);
+}

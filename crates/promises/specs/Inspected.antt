@@ -225,7 +225,7 @@ check-events-exactly limit e es xs k p =
 
 -- a last step that gives its number m in the place of 0 alone: m is given exactly where the step before it gives 0 and this one holds, every other number as before it
 module _ (n m : ℕ) (b : Bool) (own : n ≡ m → ⊥) (some : 0 < m) where
-  last-own : (orElse n (cond b 0 m) ≡ m → (n ≡ 0) × (b ≡ false)) × ((n ≡ 0) × (b ≡ false) → orElse n (cond b 0 m) ≡ m)
+  pub last-own : (orElse n (cond b 0 m) ≡ m → (n ≡ 0) × (b ≡ false)) × ((n ≡ 0) × (b ≡ false) → orElse n (cond b 0 m) ≡ m)
   last-own = (λ h. by (eqb n 0) b refl refl h, λ w. rw (eq-eqb n 0 (w .0), w .1) refl)
     where
       by : (t u : Bool) → eqb n 0 ≡ t → b ≡ u → cond t (cond u 0 m) n ≡ m → (n ≡ 0) × (u ≡ false)
@@ -233,7 +233,7 @@ module _ (n m : ℕ) (b : Bool) (own : n ≡ m → ⊥) (some : 0 < m) where
       by true false p q h = (eqb-true n 0 p, refl)
       by false u p q h = absurd (own h)
 
-  last-other : (k : ℕ) → 0 < k → (m ≡ k → ⊥) → (orElse n (cond b 0 m) ≡ k → n ≡ k) × (n ≡ k → orElse n (cond b 0 m) ≡ k)
+  pub last-other : (k : ℕ) → 0 < k → (m ≡ k → ⊥) → (orElse n (cond b 0 m) ≡ k → n ≡ k) × (n ≡ k → orElse n (cond b 0 m) ≡ k)
   last-other k p d = (λ h. by (eqb n 0) b h, λ h. rw (ne-eqb n 0 (λ z. omega (arith, p, h, z))) h)
     where
       by : (t u : Bool) → cond t (cond u 0 m) n ≡ k → n ≡ k

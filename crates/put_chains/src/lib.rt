@@ -3,16 +3,18 @@
 ghost use Prim.Native.Nat.{_≤_};
 ghost use lib.ListN.{length};
 ghost use Rattle.meaning.specs.Schema.{schema, trailer as trailerOf};
+ghost use Rattle.meaning.specs.Values.{bodyWords, trailWords, valueWords};
 ghost use Rattle.layouts.specs.Lists.{mmap, lost, comm, exit, throttle, read-1, read-2, read, mmap2-1, mmap2-2, mmap2-3, mmap2, itrace-start, lost-samples, namespaces, ksymbol, bpf-event, cgroup, text-poke, trailer-1, trailer-2, trailer};
 ghost use Rattle.write_puts.specs.Puts.{Ready, Placed};
+use layouts::types;
 use meaning::Attributes;
 use meaning::Width;
 use write_fits::Walked;
 
 // 1 MMAP
 fn mmap(ws: &[u64], source: &[u8], c: Walked, buffer: &mut [u8]) -> Walked
-    requires { ⌜ Ready mmap (now source) (now ws) 3 c (now buffer) × (56 ≤ length (now ws)) ⌝ }
-    ensures { λ r. ⌜ Placed mmap (now (source .entry)) (now (ws .entry)) 3 c (now (buffer .entry)) (now (buffer .exit)) r ⌝ }
+    requires { ⌜ Ready mmap (now source) (now ws) bodyWords c (now buffer) × (valueWords ≤ length (now ws)) ⌝ }
+    ensures { λ r. ⌜ Placed mmap (now (source .entry)) (now (ws .entry)) bodyWords c (now (buffer .entry)) (now (buffer .exit)) r ⌝ }
 {
     let c0 = write_puts::number(ws, source, c, true, 3, buffer, Width::W4); // pid
     let c1 = write_puts::number(ws, source, c0, true, 4, buffer, Width::W4); // tid
@@ -24,8 +26,8 @@ fn mmap(ws: &[u64], source: &[u8], c: Walked, buffer: &mut [u8]) -> Walked
 
 // 2 LOST
 fn lost(ws: &[u64], source: &[u8], c: Walked, buffer: &mut [u8]) -> Walked
-    requires { ⌜ Ready lost (now source) (now ws) 3 c (now buffer) × (56 ≤ length (now ws)) ⌝ }
-    ensures { λ r. ⌜ Placed lost (now (source .entry)) (now (ws .entry)) 3 c (now (buffer .entry)) (now (buffer .exit)) r ⌝ }
+    requires { ⌜ Ready lost (now source) (now ws) bodyWords c (now buffer) × (valueWords ≤ length (now ws)) ⌝ }
+    ensures { λ r. ⌜ Placed lost (now (source .entry)) (now (ws .entry)) bodyWords c (now (buffer .entry)) (now (buffer .exit)) r ⌝ }
 {
     let c0 = write_puts::number(ws, source, c, true, 3, buffer, Width::W8); // id
     write_puts::number(ws, source, c0, true, 4, buffer, Width::W8) // lost
@@ -33,8 +35,8 @@ fn lost(ws: &[u64], source: &[u8], c: Walked, buffer: &mut [u8]) -> Walked
 
 // 3 COMM
 fn comm(ws: &[u64], source: &[u8], c: Walked, buffer: &mut [u8]) -> Walked
-    requires { ⌜ Ready comm (now source) (now ws) 3 c (now buffer) × (56 ≤ length (now ws)) ⌝ }
-    ensures { λ r. ⌜ Placed comm (now (source .entry)) (now (ws .entry)) 3 c (now (buffer .entry)) (now (buffer .exit)) r ⌝ }
+    requires { ⌜ Ready comm (now source) (now ws) bodyWords c (now buffer) × (valueWords ≤ length (now ws)) ⌝ }
+    ensures { λ r. ⌜ Placed comm (now (source .entry)) (now (ws .entry)) bodyWords c (now (buffer .entry)) (now (buffer .exit)) r ⌝ }
 {
     let c0 = write_puts::number(ws, source, c, true, 3, buffer, Width::W4); // pid
     let c1 = write_puts::number(ws, source, c0, true, 4, buffer, Width::W4); // tid
@@ -43,8 +45,8 @@ fn comm(ws: &[u64], source: &[u8], c: Walked, buffer: &mut [u8]) -> Walked
 
 // 4 EXIT
 fn exit(ws: &[u64], source: &[u8], c: Walked, buffer: &mut [u8]) -> Walked
-    requires { ⌜ Ready exit (now source) (now ws) 3 c (now buffer) × (56 ≤ length (now ws)) ⌝ }
-    ensures { λ r. ⌜ Placed exit (now (source .entry)) (now (ws .entry)) 3 c (now (buffer .entry)) (now (buffer .exit)) r ⌝ }
+    requires { ⌜ Ready exit (now source) (now ws) bodyWords c (now buffer) × (valueWords ≤ length (now ws)) ⌝ }
+    ensures { λ r. ⌜ Placed exit (now (source .entry)) (now (ws .entry)) bodyWords c (now (buffer .entry)) (now (buffer .exit)) r ⌝ }
 {
     let c0 = write_puts::number(ws, source, c, true, 3, buffer, Width::W4); // pid
     let c1 = write_puts::number(ws, source, c0, true, 4, buffer, Width::W4); // ppid
@@ -55,8 +57,8 @@ fn exit(ws: &[u64], source: &[u8], c: Walked, buffer: &mut [u8]) -> Walked
 
 // 5 THROTTLE
 fn throttle(ws: &[u64], source: &[u8], c: Walked, buffer: &mut [u8]) -> Walked
-    requires { ⌜ Ready throttle (now source) (now ws) 3 c (now buffer) × (56 ≤ length (now ws)) ⌝ }
-    ensures { λ r. ⌜ Placed throttle (now (source .entry)) (now (ws .entry)) 3 c (now (buffer .entry)) (now (buffer .exit)) r ⌝ }
+    requires { ⌜ Ready throttle (now source) (now ws) bodyWords c (now buffer) × (valueWords ≤ length (now ws)) ⌝ }
+    ensures { λ r. ⌜ Placed throttle (now (source .entry)) (now (ws .entry)) bodyWords c (now (buffer .entry)) (now (buffer .exit)) r ⌝ }
 {
     let c0 = write_puts::number(ws, source, c, true, 3, buffer, Width::W8); // time
     let c1 = write_puts::number(ws, source, c0, true, 4, buffer, Width::W8); // id
@@ -65,8 +67,8 @@ fn throttle(ws: &[u64], source: &[u8], c: Walked, buffer: &mut [u8]) -> Walked
 
 // 8 READ, part 1
 fn read_1(ws: &[u64], source: &[u8], f: u64, c: Walked, buffer: &mut [u8]) -> Walked
-    requires { ⌜ Ready (read-1 f) (now source) (now ws) 3 c (now buffer) × (56 ≤ length (now ws)) ⌝ }
-    ensures { λ r. ⌜ Placed (read-1 f) (now (source .entry)) (now (ws .entry)) 3 c (now (buffer .entry)) (now (buffer .exit)) r ⌝ }
+    requires { ⌜ Ready (read-1 f) (now source) (now ws) bodyWords c (now buffer) × (valueWords ≤ length (now ws)) ⌝ }
+    ensures { λ r. ⌜ Placed (read-1 f) (now (source .entry)) (now (ws .entry)) bodyWords c (now (buffer .entry)) (now (buffer .exit)) r ⌝ }
 {
     let c0 = write_puts::number(ws, source, c, true, 3, buffer, Width::W4); // pid
     let c1 = write_puts::number(ws, source, c0, true, 4, buffer, Width::W4); // tid
@@ -77,7 +79,7 @@ fn read_1(ws: &[u64], source: &[u8], f: u64, c: Walked, buffer: &mut [u8]) -> Wa
 
 // 8 READ, part 2
 fn read_2(ws: &[u64], source: &[u8], f: u64, c: Walked, buffer: &mut [u8]) -> Walked
-    requires { ⌜ Ready (read-2 f) (now source) (now ws) 8 c (now buffer) × (56 ≤ length (now ws)) ⌝ }
+    requires { ⌜ Ready (read-2 f) (now source) (now ws) 8 c (now buffer) × (valueWords ≤ length (now ws)) ⌝ }
     ensures { λ r. ⌜ Placed (read-2 f) (now (source .entry)) (now (ws .entry)) 8 c (now (buffer .entry)) (now (buffer .exit)) r ⌝ }
 {
     let c0 = write_puts::number(ws, source, c, wire::has_bit(f, 1), 8, buffer, Width::W8); // time running
@@ -90,8 +92,8 @@ fn read_2(ws: &[u64], source: &[u8], f: u64, c: Walked, buffer: &mut [u8]) -> Wa
 
 // 8 READ
 fn read(ws: &[u64], source: &[u8], f: u64, c: Walked, buffer: &mut [u8]) -> Walked
-    requires { ⌜ Ready (read f) (now source) (now ws) 3 c (now buffer) × (56 ≤ length (now ws)) ⌝ }
-    ensures { λ r. ⌜ Placed (read f) (now (source .entry)) (now (ws .entry)) 3 c (now (buffer .entry)) (now (buffer .exit)) r ⌝ }
+    requires { ⌜ Ready (read f) (now source) (now ws) bodyWords c (now buffer) × (valueWords ≤ length (now ws)) ⌝ }
+    ensures { λ r. ⌜ Placed (read f) (now (source .entry)) (now (ws .entry)) bodyWords c (now (buffer .entry)) (now (buffer .exit)) r ⌝ }
 {
     let c0 = read_1(ws, source, f, c, buffer);
     read_2(ws, source, f, c0, buffer)
@@ -99,8 +101,8 @@ fn read(ws: &[u64], source: &[u8], f: u64, c: Walked, buffer: &mut [u8]) -> Walk
 
 // 10 MMAP2, part 1
 fn mmap2_1(ws: &[u64], source: &[u8], c: Walked, buffer: &mut [u8]) -> Walked
-    requires { ⌜ Ready mmap2-1 (now source) (now ws) 3 c (now buffer) × (56 ≤ length (now ws)) ⌝ }
-    ensures { λ r. ⌜ Placed mmap2-1 (now (source .entry)) (now (ws .entry)) 3 c (now (buffer .entry)) (now (buffer .exit)) r ⌝ }
+    requires { ⌜ Ready mmap2-1 (now source) (now ws) bodyWords c (now buffer) × (valueWords ≤ length (now ws)) ⌝ }
+    ensures { λ r. ⌜ Placed mmap2-1 (now (source .entry)) (now (ws .entry)) bodyWords c (now (buffer .entry)) (now (buffer .exit)) r ⌝ }
 {
     let c0 = write_puts::number(ws, source, c, true, 3, buffer, Width::W4); // pid
     let c1 = write_puts::number(ws, source, c0, true, 4, buffer, Width::W4); // tid
@@ -111,7 +113,7 @@ fn mmap2_1(ws: &[u64], source: &[u8], c: Walked, buffer: &mut [u8]) -> Walked
 
 // 10 MMAP2, part 2
 fn mmap2_2(ws: &[u64], source: &[u8], misc: u64, c: Walked, buffer: &mut [u8]) -> Walked
-    requires { ⌜ Ready (mmap2-2 misc) (now source) (now ws) 8 c (now buffer) × (56 ≤ length (now ws)) ⌝ }
+    requires { ⌜ Ready (mmap2-2 misc) (now source) (now ws) 8 c (now buffer) × (valueWords ≤ length (now ws)) ⌝ }
     ensures { λ r. ⌜ Placed (mmap2-2 misc) (now (source .entry)) (now (ws .entry)) 8 c (now (buffer .entry)) (now (buffer .exit)) r ⌝ }
 {
     let c0 = write_puts::number(
@@ -155,7 +157,7 @@ fn mmap2_2(ws: &[u64], source: &[u8], misc: u64, c: Walked, buffer: &mut [u8]) -
 
 // 10 MMAP2, part 3
 fn mmap2_3(ws: &[u64], source: &[u8], misc: u64, c: Walked, buffer: &mut [u8]) -> Walked
-    requires { ⌜ Ready (mmap2-3 misc) (now source) (now ws) 13 c (now buffer) × (56 ≤ length (now ws)) ⌝ }
+    requires { ⌜ Ready (mmap2-3 misc) (now source) (now ws) 13 c (now buffer) × (valueWords ≤ length (now ws)) ⌝ }
     ensures { λ r. ⌜ Placed (mmap2-3 misc) (now (source .entry)) (now (ws .entry)) 13 c (now (buffer .entry)) (now (buffer .exit)) r ⌝ }
 {
     let c0 = write_puts::ignored(ws, source, c, wire::has_bit(misc, 14), 13, buffer, 3); // reserved
@@ -167,8 +169,8 @@ fn mmap2_3(ws: &[u64], source: &[u8], misc: u64, c: Walked, buffer: &mut [u8]) -
 
 // 10 MMAP2
 fn mmap2(ws: &[u64], source: &[u8], misc: u64, c: Walked, buffer: &mut [u8]) -> Walked
-    requires { ⌜ Ready (mmap2 misc) (now source) (now ws) 3 c (now buffer) × (56 ≤ length (now ws)) ⌝ }
-    ensures { λ r. ⌜ Placed (mmap2 misc) (now (source .entry)) (now (ws .entry)) 3 c (now (buffer .entry)) (now (buffer .exit)) r ⌝ }
+    requires { ⌜ Ready (mmap2 misc) (now source) (now ws) bodyWords c (now buffer) × (valueWords ≤ length (now ws)) ⌝ }
+    ensures { λ r. ⌜ Placed (mmap2 misc) (now (source .entry)) (now (ws .entry)) bodyWords c (now (buffer .entry)) (now (buffer .exit)) r ⌝ }
 {
     let c0 = mmap2_1(ws, source, c, buffer);
     let c1 = mmap2_2(ws, source, misc, c0, buffer);
@@ -177,8 +179,8 @@ fn mmap2(ws: &[u64], source: &[u8], misc: u64, c: Walked, buffer: &mut [u8]) -> 
 
 // 12 ITRACE_START
 fn itrace_start(ws: &[u64], source: &[u8], c: Walked, buffer: &mut [u8]) -> Walked
-    requires { ⌜ Ready itrace-start (now source) (now ws) 3 c (now buffer) × (56 ≤ length (now ws)) ⌝ }
-    ensures { λ r. ⌜ Placed itrace-start (now (source .entry)) (now (ws .entry)) 3 c (now (buffer .entry)) (now (buffer .exit)) r ⌝ }
+    requires { ⌜ Ready itrace-start (now source) (now ws) bodyWords c (now buffer) × (valueWords ≤ length (now ws)) ⌝ }
+    ensures { λ r. ⌜ Placed itrace-start (now (source .entry)) (now (ws .entry)) bodyWords c (now (buffer .entry)) (now (buffer .exit)) r ⌝ }
 {
     let c0 = write_puts::number(ws, source, c, true, 3, buffer, Width::W4); // pid
     write_puts::number(ws, source, c0, true, 4, buffer, Width::W4) // tid
@@ -186,16 +188,16 @@ fn itrace_start(ws: &[u64], source: &[u8], c: Walked, buffer: &mut [u8]) -> Walk
 
 // 13 LOST_SAMPLES
 fn lost_samples(ws: &[u64], source: &[u8], c: Walked, buffer: &mut [u8]) -> Walked
-    requires { ⌜ Ready lost-samples (now source) (now ws) 3 c (now buffer) × (56 ≤ length (now ws)) ⌝ }
-    ensures { λ r. ⌜ Placed lost-samples (now (source .entry)) (now (ws .entry)) 3 c (now (buffer .entry)) (now (buffer .exit)) r ⌝ }
+    requires { ⌜ Ready lost-samples (now source) (now ws) bodyWords c (now buffer) × (valueWords ≤ length (now ws)) ⌝ }
+    ensures { λ r. ⌜ Placed lost-samples (now (source .entry)) (now (ws .entry)) bodyWords c (now (buffer .entry)) (now (buffer .exit)) r ⌝ }
 {
     write_puts::number(ws, source, c, true, 3, buffer, Width::W8) // lost
 }
 
 // 16 NAMESPACES
 fn namespaces(ws: &[u64], source: &[u8], c: Walked, buffer: &mut [u8]) -> Walked
-    requires { ⌜ Ready namespaces (now source) (now ws) 3 c (now buffer) × (56 ≤ length (now ws)) ⌝ }
-    ensures { λ r. ⌜ Placed namespaces (now (source .entry)) (now (ws .entry)) 3 c (now (buffer .entry)) (now (buffer .exit)) r ⌝ }
+    requires { ⌜ Ready namespaces (now source) (now ws) bodyWords c (now buffer) × (valueWords ≤ length (now ws)) ⌝ }
+    ensures { λ r. ⌜ Placed namespaces (now (source .entry)) (now (ws .entry)) bodyWords c (now (buffer .entry)) (now (buffer .exit)) r ⌝ }
 {
     let c0 = write_puts::number(ws, source, c, true, 3, buffer, Width::W4); // pid
     let c1 = write_puts::number(ws, source, c0, true, 4, buffer, Width::W4); // tid
@@ -205,8 +207,8 @@ fn namespaces(ws: &[u64], source: &[u8], c: Walked, buffer: &mut [u8]) -> Walked
 
 // 17 KSYMBOL
 fn ksymbol(ws: &[u64], source: &[u8], c: Walked, buffer: &mut [u8]) -> Walked
-    requires { ⌜ Ready ksymbol (now source) (now ws) 3 c (now buffer) × (56 ≤ length (now ws)) ⌝ }
-    ensures { λ r. ⌜ Placed ksymbol (now (source .entry)) (now (ws .entry)) 3 c (now (buffer .entry)) (now (buffer .exit)) r ⌝ }
+    requires { ⌜ Ready ksymbol (now source) (now ws) bodyWords c (now buffer) × (valueWords ≤ length (now ws)) ⌝ }
+    ensures { λ r. ⌜ Placed ksymbol (now (source .entry)) (now (ws .entry)) bodyWords c (now (buffer .entry)) (now (buffer .exit)) r ⌝ }
 {
     let c0 = write_puts::number(ws, source, c, true, 3, buffer, Width::W8); // addr
     let c1 = write_puts::number(ws, source, c0, true, 4, buffer, Width::W4); // len
@@ -217,8 +219,8 @@ fn ksymbol(ws: &[u64], source: &[u8], c: Walked, buffer: &mut [u8]) -> Walked
 
 // 18 BPF_EVENT
 fn bpf_event(ws: &[u64], source: &[u8], c: Walked, buffer: &mut [u8]) -> Walked
-    requires { ⌜ Ready bpf-event (now source) (now ws) 3 c (now buffer) × (56 ≤ length (now ws)) ⌝ }
-    ensures { λ r. ⌜ Placed bpf-event (now (source .entry)) (now (ws .entry)) 3 c (now (buffer .entry)) (now (buffer .exit)) r ⌝ }
+    requires { ⌜ Ready bpf-event (now source) (now ws) bodyWords c (now buffer) × (valueWords ≤ length (now ws)) ⌝ }
+    ensures { λ r. ⌜ Placed bpf-event (now (source .entry)) (now (ws .entry)) bodyWords c (now (buffer .entry)) (now (buffer .exit)) r ⌝ }
 {
     let c0 = write_puts::number(ws, source, c, true, 3, buffer, Width::W2); // type
     let c1 = write_puts::number(ws, source, c0, true, 4, buffer, Width::W2); // flags
@@ -228,8 +230,8 @@ fn bpf_event(ws: &[u64], source: &[u8], c: Walked, buffer: &mut [u8]) -> Walked
 
 // 19 CGROUP
 fn cgroup(ws: &[u64], source: &[u8], c: Walked, buffer: &mut [u8]) -> Walked
-    requires { ⌜ Ready cgroup (now source) (now ws) 3 c (now buffer) × (56 ≤ length (now ws)) ⌝ }
-    ensures { λ r. ⌜ Placed cgroup (now (source .entry)) (now (ws .entry)) 3 c (now (buffer .entry)) (now (buffer .exit)) r ⌝ }
+    requires { ⌜ Ready cgroup (now source) (now ws) bodyWords c (now buffer) × (valueWords ≤ length (now ws)) ⌝ }
+    ensures { λ r. ⌜ Placed cgroup (now (source .entry)) (now (ws .entry)) bodyWords c (now (buffer .entry)) (now (buffer .exit)) r ⌝ }
 {
     let c0 = write_puts::number(ws, source, c, true, 3, buffer, Width::W8); // id
     write_puts::name(ws, source, c0, true, 4, buffer) // name
@@ -237,8 +239,8 @@ fn cgroup(ws: &[u64], source: &[u8], c: Walked, buffer: &mut [u8]) -> Walked
 
 // 20 TEXT_POKE
 fn text_poke(ws: &[u64], source: &[u8], c: Walked, buffer: &mut [u8]) -> Walked
-    requires { ⌜ Ready text-poke (now source) (now ws) 3 c (now buffer) × (56 ≤ length (now ws)) ⌝ }
-    ensures { λ r. ⌜ Placed text-poke (now (source .entry)) (now (ws .entry)) 3 c (now (buffer .entry)) (now (buffer .exit)) r ⌝ }
+    requires { ⌜ Ready text-poke (now source) (now ws) bodyWords c (now buffer) × (valueWords ≤ length (now ws)) ⌝ }
+    ensures { λ r. ⌜ Placed text-poke (now (source .entry)) (now (ws .entry)) bodyWords c (now (buffer .entry)) (now (buffer .exit)) r ⌝ }
 {
     let c0 = write_puts::number(ws, source, c, true, 3, buffer, Width::W8); // addr
     let c1 = write_puts::count(ws, source, c0, true, 4, buffer, Width::W2); // old length
@@ -250,8 +252,8 @@ fn text_poke(ws: &[u64], source: &[u8], c: Walked, buffer: &mut [u8]) -> Walked
 
 // the trailer, part 1
 fn trailer_1(ws: &[u64], source: &[u8], x: u64, c: Walked, buffer: &mut [u8]) -> Walked
-    requires { ⌜ Ready (trailer-1 x) (now source) (now ws) 48 c (now buffer) × (56 ≤ length (now ws)) ⌝ }
-    ensures { λ r. ⌜ Placed (trailer-1 x) (now (source .entry)) (now (ws .entry)) 48 c (now (buffer .entry)) (now (buffer .exit)) r ⌝ }
+    requires { ⌜ Ready (trailer-1 x) (now source) (now ws) trailWords c (now buffer) × (valueWords ≤ length (now ws)) ⌝ }
+    ensures { λ r. ⌜ Placed (trailer-1 x) (now (source .entry)) (now (ws .entry)) trailWords c (now (buffer .entry)) (now (buffer .exit)) r ⌝ }
 {
     let c0 = write_puts::number(ws, source, c, wire::has_bit(x, 1), 48, buffer, Width::W4); // pid
     let c1 = write_puts::number(ws, source, c0, wire::has_bit(x, 1), 49, buffer, Width::W4); // tid
@@ -261,7 +263,7 @@ fn trailer_1(ws: &[u64], source: &[u8], x: u64, c: Walked, buffer: &mut [u8]) ->
 
 // the trailer, part 2
 fn trailer_2(ws: &[u64], source: &[u8], x: u64, c: Walked, buffer: &mut [u8]) -> Walked
-    requires { ⌜ Ready (trailer-2 x) (now source) (now ws) 52 c (now buffer) × (56 ≤ length (now ws)) ⌝ }
+    requires { ⌜ Ready (trailer-2 x) (now source) (now ws) 52 c (now buffer) × (valueWords ≤ length (now ws)) ⌝ }
     ensures { λ r. ⌜ Placed (trailer-2 x) (now (source .entry)) (now (ws .entry)) 52 c (now (buffer .entry)) (now (buffer .exit)) r ⌝ }
 {
     let c0 = write_puts::number(ws, source, c, wire::has_bit(x, 9), 52, buffer, Width::W8); // stream id
@@ -272,8 +274,8 @@ fn trailer_2(ws: &[u64], source: &[u8], x: u64, c: Walked, buffer: &mut [u8]) ->
 
 // the trailer
 fn trailer(ws: &[u64], source: &[u8], x: u64, c: Walked, buffer: &mut [u8]) -> Walked
-    requires { ⌜ Ready (trailer x) (now source) (now ws) 48 c (now buffer) × (56 ≤ length (now ws)) ⌝ }
-    ensures { λ r. ⌜ Placed (trailer x) (now (source .entry)) (now (ws .entry)) 48 c (now (buffer .entry)) (now (buffer .exit)) r ⌝ }
+    requires { ⌜ Ready (trailer x) (now source) (now ws) trailWords c (now buffer) × (valueWords ≤ length (now ws)) ⌝ }
+    ensures { λ r. ⌜ Placed (trailer x) (now (source .entry)) (now (ws .entry)) trailWords c (now (buffer .entry)) (now (buffer .exit)) r ⌝ }
 {
     let c0 = trailer_1(ws, source, x, c, buffer);
     trailer_2(ws, source, x, c0, buffer)
@@ -289,8 +291,8 @@ pub fn fields(
     c: Walked,
     buffer: &mut [u8],
 ) -> Walked
-    requires { ⌜ Ready (schema kind misc a) (now source) (now ws) 3 c (now buffer) × (56 ≤ length (now ws)) ⌝ }
-    ensures { λ r. ⌜ Placed (schema kind misc a) (now (source .entry)) (now (ws .entry)) 3 c (now (buffer .entry)) (now (buffer .exit)) r ⌝ }
+    requires { ⌜ Ready (schema kind misc a) (now source) (now ws) bodyWords c (now buffer) × (valueWords ≤ length (now ws)) ⌝ }
+    ensures { λ r. ⌜ Placed (schema kind misc a) (now (source .entry)) (now (ws .entry)) bodyWords c (now (buffer .entry)) (now (buffer .exit)) r ⌝ }
 {
     let x = a.sample;
     let f = a.format;
@@ -299,27 +301,27 @@ pub fn fields(
     let interrupt = a.interrupt;
     match kind {
         0 => c,
-        1 => mmap(ws, source, c, buffer),
-        2 => lost(ws, source, c, buffer),
-        3 => comm(ws, source, c, buffer),
-        4 => exit(ws, source, c, buffer),
-        5 => throttle(ws, source, c, buffer),
-        6 => throttle(ws, source, c, buffer),
-        7 => exit(ws, source, c, buffer),
-        8 => read(ws, source, f, c, buffer),
-        9 => sample_puts::sample(ws, source, x, f, b, user, interrupt, c, buffer),
-        10 => mmap2(ws, source, misc, c, buffer),
-        11 => throttle(ws, source, c, buffer),
-        12 => itrace_start(ws, source, c, buffer),
-        13 => lost_samples(ws, source, c, buffer),
-        14 => c,
-        15 => itrace_start(ws, source, c, buffer),
-        16 => namespaces(ws, source, c, buffer),
-        17 => ksymbol(ws, source, c, buffer),
-        18 => bpf_event(ws, source, c, buffer),
-        19 => cgroup(ws, source, c, buffer),
-        20 => text_poke(ws, source, c, buffer),
-        21 => lost_samples(ws, source, c, buffer),
+        types::MMAP => mmap(ws, source, c, buffer),
+        types::LOST => lost(ws, source, c, buffer),
+        types::COMM => comm(ws, source, c, buffer),
+        types::EXIT => exit(ws, source, c, buffer),
+        types::THROTTLE => throttle(ws, source, c, buffer),
+        types::UNTHROTTLE => throttle(ws, source, c, buffer),
+        types::FORK => exit(ws, source, c, buffer),
+        types::READ => read(ws, source, f, c, buffer),
+        types::SAMPLE => sample_puts::sample(ws, source, x, f, b, user, interrupt, c, buffer),
+        types::MMAP2 => mmap2(ws, source, misc, c, buffer),
+        types::AUX => throttle(ws, source, c, buffer),
+        types::ITRACE_START => itrace_start(ws, source, c, buffer),
+        types::LOST_SAMPLES => lost_samples(ws, source, c, buffer),
+        types::SWITCH => c,
+        types::SWITCH_CPU_WIDE => itrace_start(ws, source, c, buffer),
+        types::NAMESPACES => namespaces(ws, source, c, buffer),
+        types::KSYMBOL => ksymbol(ws, source, c, buffer),
+        types::BPF_EVENT => bpf_event(ws, source, c, buffer),
+        types::CGROUP => cgroup(ws, source, c, buffer),
+        types::TEXT_POKE => text_poke(ws, source, c, buffer),
+        types::AUX_OUTPUT_HW_ID => lost_samples(ws, source, c, buffer),
         _ => c,
     }
 }
@@ -333,8 +335,8 @@ pub fn trail(
     c: Walked,
     buffer: &mut [u8],
 ) -> Walked
-    requires { ⌜ Ready (trailerOf kind a) (now source) (now ws) 48 c (now buffer) × (56 ≤ length (now ws)) ⌝ }
-    ensures { λ r. ⌜ Placed (trailerOf kind a) (now (source .entry)) (now (ws .entry)) 48 c (now (buffer .entry)) (now (buffer .exit)) r ⌝ }
+    requires { ⌜ Ready (trailerOf kind a) (now source) (now ws) trailWords c (now buffer) × (valueWords ≤ length (now ws)) ⌝ }
+    ensures { λ r. ⌜ Placed (trailerOf kind a) (now (source .entry)) (now (ws .entry)) trailWords c (now (buffer .entry)) (now (buffer .exit)) r ⌝ }
 {
     trailer(ws, source, layouts::trailer_bits(kind, a), c, buffer)
 }

@@ -78,7 +78,8 @@ width-last k w a b c = eqb-true k 8 (simp (ne-eqb k 1 a, ne-eqb k 2 b, ne-eqb k 
 there-by : (w : Width) (xs : List ℕ) (at : ℕ) (t : Bool) → leb (at + bytes w) (length xs) ≡ t → (isWidth (bytes w) && leb (at + bytes w) (length xs)) ≡ t
 there-by w xs at t e = rw (width-is w) e
 
--- a field is the step over an item that is a number
+-- a field is the step over an item that is a number. Kept, with `field-content`: `fieldAt` is a definition of its own, and one that reads otherwise than
+-- document 01's items is refused here
 pub field-step : (w : Width) (xs : List ℕ) (at n old : ℕ)
     → step xs (always (Number w)) (cursor at n old 0) ≡ cursor (fieldAt (bytes w) xs at .next) n old (fieldAt (bytes w) xs at .why)
 unfolding step shapeStep span part rule settle holds past counted before
@@ -115,15 +116,6 @@ header-whole xs h =
     let m = field-there 2 xs 4 (le-leb 6 (length xs) (omega arith)) in
     let s = field-there 2 xs 6 (le-leb 8 (length xs) (omega arith)) in
     rw (k, m, s)
-
--- and 30 where it is not
-pub header-short : (xs : List ℕ) → length xs < 8 → headerAt xs 0 .why ≡ 30
-header-short xs h = go (leb 4 (length xs)) (leb 6 (length xs)) refl refl
-  where
-    go : (t u : Bool) → leb 4 (length xs) ≡ t → leb 6 (length xs) ≡ u → headerAt xs 0 .why ≡ 30
-    go false u e f = rw (field-passes 4 xs 0 e)
-    go true false e f = rw (field-there 4 xs 0 e, field-passes 2 xs 4 f)
-    go true true e f = rw (field-there 4 xs 0 e, field-there 2 xs 4 f, field-passes 2 xs 6 (lt-leb 8 (length xs) h))
 
 -- what a header that was read holds of a record that has one
 pub record Headed (xs : List ℕ) (h : Header) : Type 0 where

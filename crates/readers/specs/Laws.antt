@@ -1,5 +1,5 @@
 -- What the tail that is handed to the kernel keeps: it passes neither reader's tail, it is one of the two, and it does not go back. Assumes nothing.
-use mathlib.Core.Path.{_≡_, refl, sym, ap, _∙_, subst}
+use mathlib.Core.Path.{_≡_, refl, sym, ap, subst}
 use mathlib.Core.Bool.{Bool, true, false, cond, not}
 use mathlib.Core.List.{List, _++_}
 use mathlib.Core.Logic.{_⊎_, inl, inr, ⊎-elim}
@@ -13,7 +13,7 @@ use Rattle.meaning.specs.Ring.{Asked, asking, askingWith, lengthAllowed, distan
 use Rattle.meaning.specs.Drain.{start, run}
 use Rattle.laws.specs.Bytes.{le-or-lt}
 use Rattle.laws.specs.Rows.{or-false, passed-by, first-passed, first-stops}
-use Rattle.laws.specs.Rings.{distance-step}
+use Rattle.laws.specs.Rings.{distance-on}
 use Rattle.runs.specs.Forward.{run-counted}
 use Rattle.readers.specs.declared.Readers.{Readers}
 use Rattle.readers.specs.declared.Published.{Published}
@@ -152,13 +152,13 @@ module _ (n head : ℕ) (r : Readers) where
 pub first-moves-on : (head : ℕ) (r : Readers) (bytes : ℕ) → head < 2 ^ 64 → r .first < 2 ^ 64 → bytes ≤ distance head (r .first)
     → distance head (furtherTail head (firstMoved r bytes)) ≤ distance head (furtherTail head r)
 first-moves-on head r bytes hd tl h =
-    let s = distance-step head (r .first) bytes hd tl h in
+    let s = distance-on head (r .first) bytes tl h in
     never-back head r (firstMoved r bytes) (omega (arith, s)) (omega arith)
 
 pub second-moves-on : (head : ℕ) (r : Readers) (bytes : ℕ) → head < 2 ^ 64 → r .second < 2 ^ 64 → bytes ≤ distance head (r .second)
     → distance head (furtherTail head (secondMoved r bytes)) ≤ distance head (furtherTail head r)
 second-moves-on head r bytes hd tl h =
-    let s = distance-step head (r .second) bytes hd tl h in
+    let s = distance-on head (r .second) bytes tl h in
     never-back head r (secondMoved r bytes) (omega arith) (omega (arith, s))
 
 -- the bytes that a drain tells are what its reader moves by: then it stands at the drain's new tail. With one attribute set or a table: any judge

@@ -22,7 +22,7 @@ use Rattle.meaning.specs.Records.{layout, kindOf, miscOf, room, origin, fieldsO
 use Rattle.meaning.specs.Values.{width, valueWords, recordWords}
 use Rattle.table.specs.Rows.{rows, itemOf}
 
--- as record check; then 40 if the words do not fit
+-- the answer that record check shares with the readers, without its 44; then 40 if the words do not fit
 unfoldable pub readIntoAnswer : List Known → ℕ → Attributes → List ℕ → List ℕ → ℕ
 readIntoAnswer ks e a xs ws = orElse (check ks e a xs) (cond (leb valueWords (length ws)) 0 40)
 

@@ -2,7 +2,7 @@
 -- what an accepted record gives whoever fills its words, and that the words so put are the record's. Assumes nothing.
 use mathlib.Core.Path.{_≡_, refl, sym, ap, ap₂, _∙_, subst}
 use mathlib.Core.Bool.{cond}
-use mathlib.Core.List.{List, [], _∷_, _++_}
+use mathlib.Core.List.{List, _∷_, _++_}
 use Prim.Native.Nat.{ℕ, _+_, _-_, _<_, _≤_}
 use native.Mathlib.Omega.{arith}
 use lib.ListN.{length, take}
@@ -18,7 +18,7 @@ use Rattle.meaning.specs.Items.{walk}
 use Rattle.meaning.specs.Schema.{schema, trailer}
 use Rattle.meaning.specs.Editions.{known}
 use Rattle.meaning.specs.Records.{layout, kindOf, miscOf, sizeOf, room, origin, fieldsOf, fieldsAnswer, check}
-use Rattle.meaning.specs.Values.{width, flagWords, bodyWords, trailWords, valueWords, words, wordsBy, recordWords, readAnswered, read}
+use Rattle.meaning.specs.Values.{width, flagWords, bodyWords, valueWords, words, wordsBy, recordWords, readAnswered, read}
 use Rattle.laws.specs.Fixed.{fixed-run}
 use Rattle.laws.specs.Answers.{fields-zero}
 use Rattle.laws.specs.Every.{trailer-fixed}

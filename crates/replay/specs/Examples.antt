@@ -4,7 +4,6 @@ use Prim.Native.Nat.{ℕ, _-_, _^_}
 use mathlib.Core.Bool.{Bool, true, false, _&&_}
 use mathlib.Core.List.{List, [], _∷_, _++_}
 use lib.ListN.{length}
-use lib.Dec.{eqb}
 use Rattle.meaning.specs.declared.Attributes.{Attributes}
 use Rattle.meaning.specs.Bytes.{num, spell, bit, ones, zeros, put}
 use Rattle.meaning.specs.Refusals.{first}
@@ -13,11 +12,11 @@ use Rattle.meaning.specs.Editions.{editions, known, unreadable}
 use Rattle.meaning.specs.Records.{layout, kindOf, miscOf, sizeOf, roomShape, room, fieldsOf, closed, fieldsAnswer, judge}
 use Rattle.meaning.specs.Ring.{asking, askingWith, lengthAllowed, distance, recordAt, stopped, sized, frame, scratchAfter}
 use Rattle.meaning.specs.Drain.{journalKind, entry, run}
+use Rattle.laws.specs.Bytes.{sameBytes}
 use Rattle.runs.specs.Cutting.{cutBy, total}
-use Rattle.entries.specs.declared.Entry.{Entry}
 use Rattle.entries.specs.Entries.{entryBytes, isWhole, entryAt}
 use Rattle.replay.specs.declared.Replayed.{Replayed}
-use Rattle.replay.specs.Replay.{Happened, Bench, bench, offeredBy, droppedBy, drainedBy, sum, held, putRound, offer, drainsOff, faultAt, effect, Played, play, replay, half, ofStore, told}
+use Rattle.replay.specs.Replay.{bench, offeredBy, droppedBy, drainedBy, sum, held, putRound, offer, drainsOff, faultAt, effect, Played, play, replay, half, ofStore, told}
 
 abbrev nothingSelected : Attributes
 nothingSelected = record { sample = 0; format = 0; all = false; user = 0; interrupt = 0; branch = 0 }
@@ -55,12 +54,6 @@ after n = play ofStore (asking true) rules trace n 0 (bench (zeros 64) (2 ^ 64 -
 abbrev whole : Played
 whole = replay ofStore (asking true) rules trace (zeros 64) (2 ^ 64 - 8) (zeros 64) (zeros 50)
 
-abbrev same : List ℕ → List ℕ → Bool
-same [] [] = true
-same [] (y ∷ ys) = false
-same (x ∷ xs) [] = false
-same (x ∷ xs) (y ∷ ys) = eqb x y && same xs ys
-
 -- head, tail, entries, offered, drained, dropped, held: after n entries
 abbrev counts : Played → List ℕ
 counts p =
@@ -69,18 +62,18 @@ counts p =
 
 pub along-the-trace : Bool
 along-the-trace =
-    same (counts (after 0)) ((2 ^ 64 - 8) ∷ (2 ^ 64 - 8) ∷ 0 ∷ 0 ∷ 0 ∷ 0 ∷ 0 ∷ [])
-    && (same (counts (after 2)) (24 ∷ (2 ^ 64 - 8) ∷ 0 ∷ 32 ∷ 0 ∷ 0 ∷ 32 ∷ [])
-    && (same (held (after 2 .now)) (switch ++ lost)
-    && (same (counts (after 3)) (24 ∷ 0 ∷ 1 ∷ 32 ∷ 8 ∷ 0 ∷ 24 ∷ [])
-    && (same (counts (after 5)) (64 ∷ 0 ∷ 1 ∷ 96 ∷ 8 ∷ 24 ∷ 64 ∷ [])
-    && (same (held (after 5 .now)) (lost ++ long)
-    && (same (counts whole) (64 ∷ 64 ∷ 3 ∷ 96 ∷ 72 ∷ 24 ∷ 0 ∷ [])
-    && (same (whole .answer ∷ whole .at ∷ []) (52 ∷ 140 ∷ [])
-    && same (whole .now .journal) (entry 14 0 (2 ^ 64 - 8) ++ (entry 2 0 0 ++ (entry 2 31 24 ++ zeros 2))))))))))
+    sameBytes (counts (after 0)) ((2 ^ 64 - 8) ∷ (2 ^ 64 - 8) ∷ 0 ∷ 0 ∷ 0 ∷ 0 ∷ 0 ∷ [])
+    && (sameBytes (counts (after 2)) (24 ∷ (2 ^ 64 - 8) ∷ 0 ∷ 32 ∷ 0 ∷ 0 ∷ 32 ∷ [])
+    && (sameBytes (held (after 2 .now)) (switch ++ lost)
+    && (sameBytes (counts (after 3)) (24 ∷ 0 ∷ 1 ∷ 32 ∷ 8 ∷ 0 ∷ 24 ∷ [])
+    && (sameBytes (counts (after 5)) (64 ∷ 0 ∷ 1 ∷ 96 ∷ 8 ∷ 24 ∷ 64 ∷ [])
+    && (sameBytes (held (after 5 .now)) (lost ++ long)
+    && (sameBytes (counts whole) (64 ∷ 64 ∷ 3 ∷ 96 ∷ 72 ∷ 24 ∷ 0 ∷ [])
+    && (sameBytes (whole .answer ∷ whole .at ∷ []) (52 ∷ 140 ∷ [])
+    && sameBytes (whole .now .journal) (entry 14 0 (2 ^ 64 - 8) ++ (entry 2 0 0 ++ (entry 2 31 24 ++ zeros 2))))))))))
 
 pub along-the-trace-holds : along-the-trace ≡ true
-unfolding along-the-trace num spell bit ones put first Items.span Items.rule Items.holds Items.counted Items.before Items.past Items.part Items.settle Items.shapeStep Items.step Items.walk known unreadable layout kindOf miscOf sizeOf roomShape room fieldsOf closed fieldsAnswer judge lengthAllowed distance recordAt stopped sized frame scratchAfter journalKind entry run cutBy total entryBytes isWhole entryAt sum putRound offer drainsOff faultAt effect play replay
+unfolding along-the-trace num spell bit ones put first Items.span Items.rule Items.holds Items.counted Items.before Items.past Items.part Items.settle Items.shapeStep Items.step Items.walk known unreadable layout kindOf miscOf sizeOf roomShape room fieldsOf closed fieldsAnswer judge lengthAllowed distance recordAt stopped sized frame scratchAfter journalKind entry run cutBy total entryBytes isWhole entryAt sum putRound offer drainsOff faultAt effect play replay sameBytes
 along-the-trace-holds = refl
 
 -- what is told at its end: six entries, bytes offered, drained, dropped and held, records taken and dropped, head, tail, why it ended
@@ -88,17 +81,18 @@ abbrev fields : Replayed → List ℕ
 fields t =
     t .entries ∷ t .«offered_bytes» ∷ t .«drained_bytes» ∷ t .«dropped_bytes» ∷ t .«held_bytes» ∷ t .taken ∷ t .dropped ∷ t .head ∷ t .tail ∷ t .answer ∷ []
 
-pub told-whole : same (fields (told whole)) (6 ∷ 96 ∷ 72 ∷ 24 ∷ 0 ∷ 3 ∷ 1 ∷ 64 ∷ 64 ∷ 52 ∷ []) ≡ true
-unfolding num spell bit ones put first Items.span Items.rule Items.holds Items.counted Items.before Items.past Items.part Items.settle Items.shapeStep Items.step Items.walk known unreadable layout kindOf miscOf sizeOf roomShape room fieldsOf closed fieldsAnswer judge lengthAllowed distance recordAt stopped sized frame scratchAfter journalKind entry run cutBy total entryBytes isWhole entryAt sum putRound offer drainsOff faultAt effect play replay
+pub told-whole : sameBytes (fields (told whole)) (6 ∷ 96 ∷ 72 ∷ 24 ∷ 0 ∷ 3 ∷ 1 ∷ 64 ∷ 64 ∷ 52 ∷ []) ≡ true
+unfolding num spell bit ones put first Items.span Items.rule Items.holds Items.counted Items.before Items.past Items.part Items.settle Items.shapeStep Items.step Items.walk known unreadable layout kindOf miscOf sizeOf roomShape room fieldsOf closed fieldsAnswer judge lengthAllowed distance recordAt stopped sized frame scratchAfter journalKind entry run cutBy total entryBytes isWhole entryAt sum putRound offer drainsOff faultAt effect play replay sameBytes
 told-whole = refl
 
 -- after five entries the ring is full, and nothing of it is drained but the first record
-pub told-full : same (fields (told (after 5))) (5 ∷ 96 ∷ 8 ∷ 24 ∷ 64 ∷ 1 ∷ 1 ∷ 64 ∷ 0 ∷ 0 ∷ []) ≡ true
-unfolding num spell bit ones put first Items.span Items.rule Items.holds Items.counted Items.before Items.past Items.part Items.settle Items.shapeStep Items.step Items.walk known unreadable layout kindOf miscOf sizeOf roomShape room fieldsOf closed fieldsAnswer judge lengthAllowed distance recordAt stopped sized frame scratchAfter journalKind entry run cutBy total entryBytes isWhole entryAt sum putRound offer drainsOff faultAt effect play replay
+pub told-full : sameBytes (fields (told (after 5))) (5 ∷ 96 ∷ 8 ∷ 24 ∷ 64 ∷ 1 ∷ 1 ∷ 64 ∷ 0 ∷ 0 ∷ []) ≡ true
+unfolding num spell bit ones put first Items.span Items.rule Items.holds Items.counted Items.before Items.past Items.part Items.settle Items.shapeStep Items.step Items.walk known unreadable layout kindOf miscOf sizeOf roomShape room fieldsOf closed fieldsAnswer judge lengthAllowed distance recordAt stopped sized frame scratchAfter journalKind entry run cutBy total entryBytes isWhole entryAt sum putRound offer drainsOff faultAt effect play replay sameBytes
 told-full = refl
 
 -- of an odd length there is no half
-pub halves : same (half 128 ∷ half 127 ∷ half 1 ∷ half 0 ∷ []) (64 ∷ 0 ∷ 0 ∷ 0 ∷ []) ≡ true
+pub halves : sameBytes (half 128 ∷ half 127 ∷ half 1 ∷ half 0 ∷ []) (64 ∷ 0 ∷ 0 ∷ 0 ∷ []) ≡ true
+unfolding sameBytes
 halves = refl
 
 -- ---- faulty entries, and what comes before any
@@ -134,6 +128,6 @@ answers =
     ∷ answerOf true true 64 0 (offers (header 2 72 ++ zeros 64))
     ∷ []
 
-pub answers-are : same answers (0 ∷ 0 ∷ 1 ∷ 2 ∷ 5 ∷ 11 ∷ 51 ∷ 51 ∷ 51 ∷ 51 ∷ 51 ∷ 52 ∷ 51 ∷ 53 ∷ 53 ∷ 53 ∷ 53 ∷ 0 ∷ []) ≡ true
-unfolding answers num spell bit ones put first Items.span Items.rule Items.holds Items.counted Items.before Items.past Items.part Items.settle Items.shapeStep Items.step Items.walk known unreadable layout kindOf miscOf sizeOf roomShape room fieldsOf closed fieldsAnswer judge lengthAllowed distance recordAt stopped sized frame scratchAfter journalKind entry run cutBy total entryBytes isWhole entryAt sum putRound offer drainsOff faultAt effect play replay
+pub answers-are : sameBytes answers (0 ∷ 0 ∷ 1 ∷ 2 ∷ 5 ∷ 11 ∷ 51 ∷ 51 ∷ 51 ∷ 51 ∷ 51 ∷ 52 ∷ 51 ∷ 53 ∷ 53 ∷ 53 ∷ 53 ∷ 0 ∷ []) ≡ true
+unfolding answers num spell bit ones put first Items.span Items.rule Items.holds Items.counted Items.before Items.past Items.part Items.settle Items.shapeStep Items.step Items.walk known unreadable layout kindOf miscOf sizeOf roomShape room fieldsOf closed fieldsAnswer judge lengthAllowed distance recordAt stopped sized frame scratchAfter journalKind entry run cutBy total entryBytes isWhole entryAt sum putRound offer drainsOff faultAt effect play replay sameBytes
 answers-are = refl

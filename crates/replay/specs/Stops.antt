@@ -8,23 +8,14 @@ use native.Mathlib.Omega.{arith}
 use borrow.Author.Tests.{le-ltb, eq-eqb, ne-eqb}
 use lib.Dec.{ltb, eqb}
 use lib.ListN.{length, length-append}
-use Rattle.meaning.specs.declared.Frame.{Frame}
 use Rattle.meaning.specs.Bytes.{numberAt}
 use Rattle.meaning.specs.Records.{sizeOf}
 use Rattle.meaning.specs.Ring.{asking, lengthAllowed, distance, recordAt, whole, stopAt, goAt, stopped, sizeRows, sized, frame}
 use Rattle.laws.specs.Rows.{stopped-passed}
-use Rattle.laws.specs.Rings.{length-bounds, header-whole, record-number, record-length}
+use Rattle.laws.specs.Numbers.{size-is}
+use Rattle.laws.specs.Rings.{length-bounds, header-whole, record-number, record-length, distance-self, distance-none}
 use Rattle.runs.specs.Cutting.{framed}
-use Rattle.runs.specs.Scratches.{distance-self}
 use Rattle.runs.specs.Streams.{framed-says, framed-size}
-
-distance-none : (h t : ℕ) → h < 2 ^ 64 → t < 2 ^ 64 → distance h t ≡ 0 → h ≡ t
-unfolding distance
-distance-none h t a b e = omega arith
-
-number-size : (xs : List ℕ) → numberAt 2 xs 6 ≡ sizeOf xs
-unfolding sizeOf
-number-size xs = refl
 
 and-no : (a b : Bool) → b ≡ false → (a && b) ≡ false
 and-no true b e = e
@@ -77,7 +68,7 @@ module _ (ring : List ℕ) (head tail left room scratch : ℕ) (p : Ready ring h
       let y : distance head tail ≡ 0 = ap (λ (h : ℕ). distance h tail) z ∙ distance-self tail (p .tail-fits) in omega arith) in
       let h : tail % length ring + 8 ≤ length ring = header-whole tail (length ring) (p .allowed) (p .tail-eight) in
       let z : numberAt 2 ring (tail % length ring + 6) ≡ length r =
-      sym (record-number ring (tail % length ring) (distance head tail) 2 6 (omega arith) (omega arith)) ∙ number-size _ ∙ ap sizeOf e ∙ framed-size r rest f in
+      sym (record-number ring (tail % length ring) (distance head tail) 2 6 (omega arith) (omega arith)) ∙ size-is _ ∙ ap sizeOf e ∙ framed-size r rest f in
       let k : sized ring (tail % length ring) (distance head tail) scratch ≡ goAt (tail % length ring) (length r) =
       sized-passes ring (tail % length ring) (distance head tail) scratch (length r) z low (ap (λ (x : ℕ). x % 8) (sym (g .size)) ∙ g .eight) (omega arith)
       (omega (arith, p .near, p .scratch-long)) in

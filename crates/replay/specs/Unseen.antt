@@ -8,9 +8,8 @@ use lib.Dec.{leb, eqb}
 use lib.ListN.{length, drop}
 use Rattle.meaning.specs.Bytes.{numberAt, put}
 use Rattle.meaning.specs.Ring.{asking, lengthAllowed, distance, frame}
-use Rattle.meaning.specs.declared.Frame.{Frame}
 use Rattle.meaning.specs.Drain.{End}
-use Rattle.runs.specs.Cutting.{Cut, Cuts, entries, total}
+use Rattle.runs.specs.Cutting.{entries, total}
 use Rattle.runs.specs.Runs.{run-cut}
 use Rattle.runs.specs.Forward.{run-counted, frame-roomy}
 use Rattle.entries.specs.declared.Entry.{Entry}
@@ -19,7 +18,7 @@ use Rattle.replay.specs.Replay.{Happened, wentIn, wasDropped, drained, B
 use Rattle.replay.specs.Round.{round-length}
 use Rattle.replay.specs.Queue.{took}
 use Rattle.replay.specs.Along.{Holds, holds-start, holds-effect}
-use Rattle.replay.specs.Promises.{Stopped, drain-why, drain-takes, why}
+use Rattle.replay.specs.Promises.{drain-why, drain-takes, why}
 
 -- two benches that differ in the bytes of ring and scratch alone
 pub record Alike (b c : Bench) : Type 0 where

@@ -164,25 +164,25 @@ covering-low p low end (h ∷ hs) s q =
     let r = s .0 in
     omega (arith, within-low p h (omega arith), covering-low p (h .start + h .length + 1) end hs (s .3) (omega arith))
 
-abbrev Stands : ℕ → List Run → Run → Type 0
-Stands low hs h = (low ≤ h .start) × Longest hs h
+abbrev LongestFrom : ℕ → List Run → Run → Type 0
+LongestFrom low hs h = (low ≤ h .start) × Longest hs h
 
-spaced-longest : (low end : ℕ) (hs : List Run) → Spaced low hs end → AllRuns (Stands low hs) hs
+spaced-longest : (low end : ℕ) (hs : List Run) → Spaced low hs end → AllRuns (LongestFrom low hs) hs
 unfolding covering
 spaced-longest low end [] s = tt
 spaced-longest low end (h ∷ hs) s =
     let l = s .0 in
     let n = s .1 in
-    let first : Stands low (h ∷ hs) h = (
+    let first : LongestFrom low (h ∷ hs) h = (
       l,
       record {
         before = λ k e. omega (arith, within-low k h (omega arith), covering-low k (h .start + h .length + 1) end hs (s .3) (omega arith));
         after = omega (arith, within-high (h .start + h .length) h (omega arith), covering-low (h .start + h .length) (h .start + h .length + 1) end hs (s .3) (omega arith));
       },
     ) in
-    (first, all-runs (Stands (h .start + h .length + 1) hs) (Stands low (h ∷ hs)) hs further (spaced-longest (h .start + h .length + 1) end hs (s .3)))
+    (first, all-runs (LongestFrom (h .start + h .length + 1) hs) (LongestFrom low (h ∷ hs)) hs further (spaced-longest (h .start + h .length + 1) end hs (s .3)))
   where
-    further : (x : Run) → Stands (h .start + h .length + 1) hs x → Stands low (h ∷ hs) x
+    further : (x : Run) → LongestFrom (h .start + h .length + 1) hs x → LongestFrom low (h ∷ hs) x
     further x a =
         let l = s .0 in
         let g = a .0 in (
@@ -194,7 +194,7 @@ spaced-longest low end (h ∷ hs) s =
         )
 
 pub longest : (end : ℕ) (hs : List Run) → Spaced 0 hs end → AllRuns (Longest hs) hs
-longest end hs s = all-runs (Stands 0 hs) (Longest hs) hs (λ h a. a .1) (spaced-longest 0 end hs s)
+longest end hs s = all-runs (LongestFrom 0 hs) (Longest hs) hs (λ h a. a .1) (spaced-longest 0 end hs s)
 
 -- ---- how many places are tried in a pass: one for each 8 bytes at most
 pub tries : (judge : List ℕ → ℕ) (xs : List ℕ) → 8 * length (pieces judge (length xs) xs) ≤ length xs + 7

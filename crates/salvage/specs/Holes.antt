@@ -10,7 +10,7 @@ use lib.ListN.{length, take, drop, length-append, take-append-drop}
 use lib.Seq.{drop-drop, take-add, take-append-seam, drop-append-seam}
 use Rattle.laws.specs.Bytes.{take-length-by}
 use Rattle.runs.specs.Streams.{joined}
-use Rattle.salvage.specs.Salvage.{keeps, step, Piece, piece, pieces, keptIn, Run, run, join, holesIn, dropped, output, holes}
+use Rattle.salvage.specs.Salvage.{keeps, step, Piece, piece, pieces, keptIn, Run, run, join, holesIn, dropped}
 use Rattle.salvage.specs.Steps.{Accepted, AllAccepted, kept-accepted, step-kept, step-low, steps}
 
 -- holes from a place on, before an end: none is empty, each starts after the last one's end and does not touch it

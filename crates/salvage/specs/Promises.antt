@@ -37,11 +37,6 @@ output-is-rest judge xs = along-from judge xs 0 .rest
 pub kept-are-accepted : (judge : List ℕ → ℕ) (xs : List ℕ) → AllAccepted judge (keptRecords judge xs)
 kept-are-accepted judge xs = along-from judge xs 0 .records
 
--- no hole: the stream comes back byte for byte
-pub no-hole : (judge : List ℕ → ℕ) (xs : List ℕ) → holes judge xs ≡ [] → output judge xs ≡ xs
-unfolding without
-no-hole judge xs e = output-is-rest judge xs ∙ ap (λ (hs : List Run). without 0 hs xs) e
-
 -- ---- a stream of accepted records
 
 abbrev keptAll : List (List ℕ) → List Piece

@@ -1,6 +1,6 @@
 -- What the tests of bytes say, case by case. Assumes nothing.
-use mathlib.Core.Path.{_≡_, refl, ap, _∙_}
-use mathlib.Core.Bool.{Bool, true, false, _&&_}
+use mathlib.Core.Path.{_≡_, sym, ap, _∙_}
+use mathlib.Core.Bool.{Bool, true, false, _&&_, and-false}
 use mathlib.Core.List.{List}
 use Prim.Native.Nat.{ℕ, _+_, _-_, _*_, _<_, _≤_}
 use native.Mathlib.Omega.{arith}
@@ -13,10 +13,6 @@ use Rattle.laws.specs.Bytes.{and-true}
 use Rattle.compare.specs.Compared.{sameBytes}
 use Rattle.same_parts.specs.Parts.{sameSpan, sameButFour, aroundRes, nameSame, buildSame, textSame}
 
-no-and : (b : Bool) → false ≡ (b && false)
-no-and true = refl
-no-and false = refl
-
 module _ (s t : List ℕ) where
   pub span-back : (i j : ℕ) → j < i → false ≡ sameSpan s t i j
   unfolding sameSpan
@@ -24,11 +20,11 @@ module _ (s t : List ℕ) where
 
   pub span-past : (i j : ℕ) → length s < j → false ≡ sameSpan s t i j
   unfolding sameSpan
-  span-past i j h = rw (lt-leb j (length s) h) (no-and (leb i j))
+  span-past i j h = rw (lt-leb j (length s) h) (sym (and-false (leb i j)))
 
   pub span-past-right : (i j : ℕ) → length t < j → false ≡ sameSpan s t i j
   unfolding sameSpan
-  span-past-right i j h = rw (lt-leb j (length t) h) (no-and (leb i j) ∙ ap (λ (b : Bool). leb i j && b) (no-and (leb j (length s))))
+  span-past-right i j h = rw (lt-leb j (length t) h) (sym (and-false (leb i j)) ∙ ap (λ (b : Bool). leb i j && b) (sym (and-false (leb j (length s)))))
 
   pub span-is : (i j : ℕ) → i ≤ j → j ≤ length s → j ≤ length t → sameBytes (take (j - i) (drop i s)) (take (j - i) (drop i t)) ≡ sameSpan s t i j
   unfolding sameSpan

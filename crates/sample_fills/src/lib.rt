@@ -1,13 +1,14 @@
 // The words of SAMPLE's fields: a call for each item, in the order of the schema.
 // Written by tools/chains.py from the rows of crate table.
+ghost use Rattle.meaning.specs.Values.{bodyWords};
 ghost use Rattle.layouts.specs.Lists.{sample-1, sample-2, sample-3, sample-4, sample-5, sample-6, sample-7, sample};
 ghost use Rattle.fills.specs.Chains.{Ready, Filling};
 use meaning::Cursor;
 
 // 9 SAMPLE, part 1
 fn sample_1(s: &[u8], x: u64, c: Cursor, out: &mut [u64]) -> Cursor
-    requires { ⌜ Ready (sample-1 x) (now s) c (now out) 3 ⌝ }
-    ensures { λ r. ⌜ Filling (sample-1 x) (now (s .entry)) c (now (out .entry)) 3 (now (out .exit)) r ⌝ }
+    requires { ⌜ Ready (sample-1 x) (now s) c (now out) bodyWords ⌝ }
+    ensures { λ r. ⌜ Filling (sample-1 x) (now (s .entry)) c (now (out .entry)) bodyWords (now (out .exit)) r ⌝ }
 {
     let c0 = fills::number8(s, c, wire::has_bit(x, 16), out, 3); // identifier
     let c1 = fills::number8(s, c0, wire::has_bit(x, 0), out, 4); // ip
@@ -114,8 +115,8 @@ pub fn sample(
     c: Cursor,
     out: &mut [u64],
 ) -> Cursor
-    requires { ⌜ Ready (sample x f b user interrupt) (now s) c (now out) 3 ⌝ }
-    ensures { λ r. ⌜ Filling (sample x f b user interrupt) (now (s .entry)) c (now (out .entry)) 3 (now (out .exit)) r ⌝ }
+    requires { ⌜ Ready (sample x f b user interrupt) (now s) c (now out) bodyWords ⌝ }
+    ensures { λ r. ⌜ Filling (sample x f b user interrupt) (now (s .entry)) c (now (out .entry)) bodyWords (now (out .exit)) r ⌝ }
 {
     let c0 = sample_1(s, x, c, out);
     let c1 = sample_2(s, x, f, c0, out);

@@ -2,6 +2,7 @@
 // Written by tools/write_chains.py from the rows of crate table.
 ghost use Prim.Native.Nat.{_≤_};
 ghost use lib.ListN.{length};
+ghost use Rattle.meaning.specs.Values.{bodyWords, valueWords};
 ghost use Rattle.layouts.specs.Lists.{sample-1, sample-2, sample-3, sample-4, sample-5, sample-6, sample-7, sample};
 ghost use Rattle.write_puts.specs.Puts.{Ready, Placed};
 use meaning::Width;
@@ -9,8 +10,8 @@ use write_fits::Walked;
 
 // 9 SAMPLE, part 1
 fn sample_1(ws: &[u64], source: &[u8], x: u64, c: Walked, buffer: &mut [u8]) -> Walked
-    requires { ⌜ Ready (sample-1 x) (now source) (now ws) 3 c (now buffer) × (56 ≤ length (now ws)) ⌝ }
-    ensures { λ r. ⌜ Placed (sample-1 x) (now (source .entry)) (now (ws .entry)) 3 c (now (buffer .entry)) (now (buffer .exit)) r ⌝ }
+    requires { ⌜ Ready (sample-1 x) (now source) (now ws) bodyWords c (now buffer) × (valueWords ≤ length (now ws)) ⌝ }
+    ensures { λ r. ⌜ Placed (sample-1 x) (now (source .entry)) (now (ws .entry)) bodyWords c (now (buffer .entry)) (now (buffer .exit)) r ⌝ }
 {
     let c0 = write_puts::number(ws, source, c, wire::has_bit(x, 16), 3, buffer, Width::W8); // identifier
     let c1 = write_puts::number(ws, source, c0, wire::has_bit(x, 0), 4, buffer, Width::W8); // ip
@@ -22,7 +23,7 @@ fn sample_1(ws: &[u64], source: &[u8], x: u64, c: Walked, buffer: &mut [u8]) -> 
 
 // 9 SAMPLE, part 2
 fn sample_2(ws: &[u64], source: &[u8], x: u64, f: u64, c: Walked, buffer: &mut [u8]) -> Walked
-    requires { ⌜ Ready (sample-2 x f) (now source) (now ws) 9 c (now buffer) × (56 ≤ length (now ws)) ⌝ }
+    requires { ⌜ Ready (sample-2 x f) (now source) (now ws) 9 c (now buffer) × (valueWords ≤ length (now ws)) ⌝ }
     ensures { λ r. ⌜ Placed (sample-2 x f) (now (source .entry)) (now (ws .entry)) 9 c (now (buffer .entry)) (now (buffer .exit)) r ⌝ }
 {
     let c0 = write_puts::number(ws, source, c, wire::has_bit(x, 6), 9, buffer, Width::W8); // id
@@ -36,7 +37,7 @@ fn sample_2(ws: &[u64], source: &[u8], x: u64, f: u64, c: Walked, buffer: &mut [
 
 // 9 SAMPLE, part 3
 fn sample_3(ws: &[u64], source: &[u8], x: u64, f: u64, c: Walked, buffer: &mut [u8]) -> Walked
-    requires { ⌜ Ready (sample-3 x f) (now source) (now ws) 14 c (now buffer) × (56 ≤ length (now ws)) ⌝ }
+    requires { ⌜ Ready (sample-3 x f) (now source) (now ws) 14 c (now buffer) × (valueWords ≤ length (now ws)) ⌝ }
     ensures { λ r. ⌜ Placed (sample-3 x f) (now (source .entry)) (now (ws .entry)) 14 c (now (buffer .entry)) (now (buffer .exit)) r ⌝ }
 {
     let on0 = wire::has_bit(x, 4) & wire::has_bit(f, 3);
@@ -55,7 +56,7 @@ fn sample_3(ws: &[u64], source: &[u8], x: u64, f: u64, c: Walked, buffer: &mut [
 
 // 9 SAMPLE, part 4
 fn sample_4(ws: &[u64], source: &[u8], x: u64, b: u64, c: Walked, buffer: &mut [u8]) -> Walked
-    requires { ⌜ Ready (sample-4 x b) (now source) (now ws) 20 c (now buffer) × (56 ≤ length (now ws)) ⌝ }
+    requires { ⌜ Ready (sample-4 x b) (now source) (now ws) 20 c (now buffer) × (valueWords ≤ length (now ws)) ⌝ }
     ensures { λ r. ⌜ Placed (sample-4 x b) (now (source .entry)) (now (ws .entry)) 20 c (now (buffer .entry)) (now (buffer .exit)) r ⌝ }
 {
     let c0 = write_puts::count(ws, source, c, wire::has_bit(x, 5), 20, buffer, Width::W8); // callchain: n
@@ -69,7 +70,7 @@ fn sample_4(ws: &[u64], source: &[u8], x: u64, b: u64, c: Walked, buffer: &mut [
 
 // 9 SAMPLE, part 5
 fn sample_5(ws: &[u64], source: &[u8], x: u64, user: u64, c: Walked, buffer: &mut [u8]) -> Walked
-    requires { ⌜ Ready (sample-5 x user) (now source) (now ws) 26 c (now buffer) × (56 ≤ length (now ws)) ⌝ }
+    requires { ⌜ Ready (sample-5 x user) (now source) (now ws) 26 c (now buffer) × (valueWords ≤ length (now ws)) ⌝ }
     ensures { λ r. ⌜ Placed (sample-5 x user) (now (source .entry)) (now (ws .entry)) 26 c (now (buffer .entry)) (now (buffer .exit)) r ⌝ }
 {
     let c0 = write_puts::times(ws, source, c, wire::has_bit(x, 11), 26, buffer, 24); // n entries
@@ -89,7 +90,7 @@ fn sample_6(
     c: Walked,
     buffer: &mut [u8],
 ) -> Walked
-    requires { ⌜ Ready (sample-6 x interrupt) (now source) (now ws) 33 c (now buffer) × (56 ≤ length (now ws)) ⌝ }
+    requires { ⌜ Ready (sample-6 x interrupt) (now source) (now ws) 33 c (now buffer) × (valueWords ≤ length (now ws)) ⌝ }
     ensures { λ r. ⌜ Placed (sample-6 x interrupt) (now (source .entry)) (now (ws .entry)) 33 c (now (buffer .entry)) (now (buffer .exit)) r ⌝ }
 {
     let on0 = wire::has_bit(x, 14) | wire::has_bit(x, 24);
@@ -103,7 +104,7 @@ fn sample_6(
 
 // 9 SAMPLE, part 7
 fn sample_7(ws: &[u64], source: &[u8], x: u64, c: Walked, buffer: &mut [u8]) -> Walked
-    requires { ⌜ Ready (sample-7 x) (now source) (now ws) 40 c (now buffer) × (56 ≤ length (now ws)) ⌝ }
+    requires { ⌜ Ready (sample-7 x) (now source) (now ws) 40 c (now buffer) × (valueWords ≤ length (now ws)) ⌝ }
     ensures { λ r. ⌜ Placed (sample-7 x) (now (source .entry)) (now (ws .entry)) 40 c (now (buffer .entry)) (now (buffer .exit)) r ⌝ }
 {
     let c0 = write_puts::number(ws, source, c, wire::has_bit(x, 21), 40, buffer, Width::W8); // cgroup
@@ -125,8 +126,8 @@ pub fn sample(
     c: Walked,
     buffer: &mut [u8],
 ) -> Walked
-    requires { ⌜ Ready (sample x f b user interrupt) (now source) (now ws) 3 c (now buffer) × (56 ≤ length (now ws)) ⌝ }
-    ensures { λ r. ⌜ Placed (sample x f b user interrupt) (now (source .entry)) (now (ws .entry)) 3 c (now (buffer .entry)) (now (buffer .exit)) r ⌝ }
+    requires { ⌜ Ready (sample x f b user interrupt) (now source) (now ws) bodyWords c (now buffer) × (valueWords ≤ length (now ws)) ⌝ }
+    ensures { λ r. ⌜ Placed (sample x f b user interrupt) (now (source .entry)) (now (ws .entry)) bodyWords c (now (buffer .entry)) (now (buffer .exit)) r ⌝ }
 {
     let c0 = sample_1(ws, source, x, c, buffer);
     let c1 = sample_2(ws, source, x, f, c0, buffer);

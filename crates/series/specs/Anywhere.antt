@@ -13,13 +13,13 @@ use Rattle.meaning.specs.Ring.{Asked, stopAt, frame}
 use Rattle.meaning.specs.Drain.{State, End, start, frameAt}
 use Rattle.laws.specs.Rings.{frame-stop, scratch-length}
 use Rattle.runs.specs.Cutting.{Cut, Cuts, begin, halt, entries, Chained}
-use Rattle.runs.specs.Runs.{cut-stop}
+use Rattle.runs.specs.Runs.{cut-stop, entries-append}
 use Rattle.runs.specs.Forward.{frame-paid}
 use Rattle.runs.specs.Enough.{run-ends}
 use Rattle.series.specs.Series.{Step, Given, drainAt, entriesOf, from, series, seriesTo, reach, Steady, oneDrain, Same, GoesOn}
 use Rattle.series.specs.Goings.{reach-most}
 use Rattle.series.specs.Stops.{lasting, stop-eight, stop-again, nothing-again, staying, stop-later}
-use Rattle.series.specs.Chains.{cutsOf, drain-reads, entries-append, chain-cuts}
+use Rattle.series.specs.Chains.{cutsOf, drain-reads, chain-cuts}
 use Rattle.series.specs.Steps.{Along, along-step, along-series, along-from, along-to, bytes-later}
 
 -- a drain that stops at once

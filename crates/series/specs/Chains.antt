@@ -1,6 +1,6 @@
 -- Records one after the other in a ring under a head: where a drain has budget and room for them it takes them, and goes on after them. Assumes nothing.
 use mathlib.Core.Path.{_≡_, refl, sym, ap, _∙_, subst}
-use mathlib.Core.List.{List, [], _∷_, _++_, append-assoc}
+use mathlib.Core.List.{List, [], _∷_, _++_}
 use mathlib.Core.Bool.{Bool, true, false}
 use Prim.Native.Nat.{ℕ, zero, suc, _+_, _-_, _*_, _%_, _^_, _≤_}
 use native.Mathlib.Nat.{zero-add}
@@ -10,7 +10,7 @@ use lib.Seq.{take-at}
 use Rattle.meaning.specs.declared.Frame.{Frame}
 use Rattle.meaning.specs.Bytes.{put}
 use Rattle.meaning.specs.Ring.{Asked, goAt, frame, recordAt}
-use Rattle.meaning.specs.Drain.{End, entryFor}
+use Rattle.meaning.specs.Drain.{End}
 use Rattle.laws.specs.Put.{put-start}
 use Rattle.laws.specs.Rings.{scratch-length}
 use Rattle.runs.specs.Cutting.{Cut, Spot, Cuts, add, spotFrame, cutAt, spotAfter, halt, cutBy, cuttingBy, entries, total, Chained, All}
@@ -23,22 +23,6 @@ use Rattle.series.specs.Goings.{There, there-frame}
 pub record Link (asked : Asked) (ring : List ℕ) (head scratch : ℕ) (c : Cut) : Type 0 where
   pub there : There asked ring head (c .tail) scratch (length (c .record-bytes))
   pub bytes : c .record-bytes ≡ recordAt ring (c .tail % length ring) (length (c .record-bytes))
-
--- ---- of lists of records
-pub chained-on : (t middle end : ℕ) (cs ds : List Cut) → Chained t cs middle → Chained middle ds end → Chained t (cs ++ ds) end
-chained-on t middle end [] ds a b = subst (λ (x : ℕ). Chained x ds end) (sym a) b
-chained-on t middle end (c ∷ cs) ds a b = (a .0, chained-on ((t + length (c .record-bytes)) % 2 ^ 64) middle end cs ds (a .1) b)
-
-pub all-append : (P : Cut → Type 0) (cs ds : List Cut) → All P cs → All P ds → All P (cs ++ ds)
-all-append P [] ds a b = b
-all-append P (c ∷ cs) ds a b = (a .0, all-append P cs ds (a .1) b)
-
-pub entries-append : (judge : List ℕ → ℕ) (cs ds : List Cut) → entries judge (cs ++ ds) ≡ entries judge cs ++ entries judge ds
-unfolding entries
-entries-append judge [] ds = refl
-entries-append judge (c ∷ cs) ds =
-    ap (λ (x : List ℕ). entryFor judge (c .record-bytes) (c .tail) ++ x) (entries-append judge cs ds)
-    ∙ sym (append-assoc (entryFor judge (c .record-bytes) (c .tail)) (entries judge cs) (entries judge ds))
 
 -- each takes 8 bytes at least
 pub total-low : (asked : Asked) (ring : List ℕ) (head scratch : ℕ) (cs : List Cut) → All (Link asked ring head scratch) cs → 8 * length cs ≤ total cs

@@ -11,6 +11,7 @@ use Rattle.meaning.specs.Bytes.{num, spell, zeros, put}
 use Rattle.meaning.specs.Records.{kindOf}
 use Rattle.meaning.specs.Ring.{Asked, asking, lengthAllowed, distance, recordAt, stopped, sized, frame, scratchAfter}
 use Rattle.meaning.specs.Drain.{End, journalKind, entry, run}
+use Rattle.laws.specs.Bytes.{sameBytes}
 use Rattle.series.specs.Series.{Step, Given, drainAt, entriesOf, from, onward, series, seriesTo, reach, Steady, oneDrain, Same}
 use Rattle.series.specs.Anywhere.{drains-cut-anywhere}
 
@@ -115,15 +116,9 @@ pub record Case : Type 0 where
   pub stop : ℕ
   pub one : Step
 
-abbrev same : List ℕ → List ℕ → Bool
-same [] [] = true
-same (x ∷ xs) (y ∷ ys) = eqb x y && same xs ys
-same [] (y ∷ ys) = false
-same (x ∷ xs) [] = false
-
 -- the four parts of `Same`
 abbrev pub agree : Given → End → Bool
-agree g d = (eqb (d .state .taken) (g .taken) && same (entriesOf d) (g .entries)) && (eqb (d .state .tail) (g .tail) && eqb (d .stop) (g .stop))
+agree g d = (eqb (d .state .taken) (g .taken) && sameBytes (entriesOf d) (g .entries)) && (eqb (d .state .tail) (g .tail) && eqb (d .stop) (g .stop))
 
 -- the series ended as said, and the one drain gives something else
 pub parts : Case → Bool
@@ -179,7 +174,7 @@ cases =
     ∷ []
 
 pub every-case : all parts cases ≡ true
-unfolding all parts cases series run entry journalKind kindOf frame stopped sized lengthAllowed distance recordAt scratchAfter put num spell
+unfolding all parts cases series run entry journalKind kindOf frame stopped sized lengthAllowed distance recordAt scratchAfter put num spell sameBytes
 every-case = refl
 
 -- "heads that never go back", and what `agrees-before` asks besides
@@ -206,7 +201,7 @@ cases-stopped =
     ∷ []
 
 pub every-case-stopped : all parts cases-stopped ≡ true
-unfolding all parts cases-stopped series run entry journalKind kindOf frame stopped sized lengthAllowed distance recordAt scratchAfter put num spell
+unfolding all parts cases-stopped series run entry journalKind kindOf frame stopped sized lengthAllowed distance recordAt scratchAfter put num spell sameBytes
 every-case-stopped = refl
 
 -- "every drain used the same .. table, edition": the first drain under another judge, the series ended with 0, and the entries are not those of one drain
@@ -217,7 +212,7 @@ abbrev pub mixed : Given
 mixed = onward known judge (series known other (from 0) (step ring-4 8 9 64 ∷ [])) (step ring-4 16 9 64)
 
 pub other-judge : (mixed .stop ≡ 0) × (agree mixed (drainAt known judge 0 (step ring-4 16 9 64)) ≡ false)
-unfolding series run entry journalKind kindOf frame stopped sized lengthAllowed distance recordAt scratchAfter put num spell
+unfolding series run entry journalKind kindOf frame stopped sized lengthAllowed distance recordAt scratchAfter put num spell sameBytes
 other-judge = (refl, refl)
 
 -- "each starting at the last one's tail": the second drain starts at the first tail again

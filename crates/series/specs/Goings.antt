@@ -15,8 +15,7 @@ use Rattle.meaning.specs.Bytes.{numberAt}
 use Rattle.meaning.specs.Ring.{Asked, lengthAllowed, distance, recordAt, goAt, frame}
 use Rattle.laws.specs.Bytes.{le-or-lt}
 use Rattle.laws.specs.Put.{part-of}
-use Rattle.laws.specs.Rings.{Goes, goes-frame, frame-going, length-bounds, place-moves, header-whole, record-number}
-use Rattle.runs.specs.Scratches.{distance-self}
+use Rattle.laws.specs.Rings.{Goes, goes-frame, frame-going, length-bounds, place-moves, header-whole, record-number, distance-on, apart-counts}
 use Rattle.series.specs.Series.{Step, reach, between}
 
 -- ---- a record that is there: a budget of one and the room of one entry suffice for it
@@ -48,10 +47,6 @@ pub there-frame : (asked : Asked) (ring : List ℕ) (head tail left room scratch
     → frame asked ring head tail left room scratch ≡ goAt (tail % length ring) size
 there-frame asked ring head tail left room scratch size w l j =
     goes-frame asked ring head tail left room scratch size (with-means asked ring head tail 1 16 left room scratch size w l j)
-
--- something lies between two counts that are not one
-pub apart-counts : (head tail : ℕ) → tail < 2 ^ 64 → 0 < distance head tail → head ≡ tail → ⊥
-apart-counts head tail tl h e = absurd (omega (arith, h, ap (λ (x : ℕ). distance x tail) e, distance-self tail tl))
 
 pub frame-there : (asked : Asked) (ring : List ℕ) (head tail left room scratch : ℕ) (f : Frame) → f ≡ frame asked ring head tail left room scratch → f .go ≡ true
     → tail < 2 ^ 64 → There asked ring head tail scratch (f .size)
@@ -104,11 +99,6 @@ there-later asked ring later head onhead tail scratch size w tl q h8 near far sa
     }
 
 -- ---- places
-
--- a tail that moves on by n has n less before it; the head may be any number
-pub distance-on : (h t n : ℕ) → t < 2 ^ 64 → n ≤ distance h t → n + distance h ((t + n) % 2 ^ 64) ≡ distance h t
-unfolding distance
-distance-on h t n b k = omega arith
 
 -- the same bytes once round
 once-round : (ring : List ℕ) (k n : ℕ) → k + n ≤ length ring → take n (drop (length ring + k) (ring ++ ring)) ≡ take n (drop k (ring ++ ring))

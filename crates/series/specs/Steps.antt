@@ -8,13 +8,14 @@ use native.Mathlib.Omega.{arith}
 use lib.ListN.{length, take, drop, length-append}
 use Rattle.meaning.specs.declared.Frame.{Frame}
 use Rattle.meaning.specs.Ring.{Asked, lengthAllowed, distance, frame, recordAt}
-use Rattle.laws.specs.Rings.{length-bounds, frame-stop, going-length, record-length, scratch-length}
+use Rattle.laws.specs.Rings.{length-bounds, frame-stop, going-length, record-length, scratch-length, distance-on}
 use Rattle.runs.specs.Cutting.{Cut, Spot, begin, spotFrame, cutAt, entries, Chained, All}
+use Rattle.runs.specs.Runs.{entries-append, chained-on, all-append}
 use Rattle.runs.specs.Along.{Steps as Stepping, along}
 use Rattle.runs.specs.Forward.{frame-paid, frame-roomy, frame-going}
 use Rattle.series.specs.Series.{Step, Given, from, drainAt, entriesOf, onward, series, reach, Stays, Steady}
-use Rattle.series.specs.Goings.{There, frame-there, there-later, distance-on, between-part, reach-near, reach-past, reach-most}
-use Rattle.series.specs.Chains.{Link, chained-on, all-append, total-low, cutsOf, drain-reads, entries-append}
+use Rattle.series.specs.Goings.{There, frame-there, there-later, between-part, reach-near, reach-past, reach-most}
+use Rattle.series.specs.Chains.{Link, total-low, cutsOf, drain-reads}
 
 module _ (asked : Asked) (tail : ℕ) (tl : tail < 2 ^ 64) (z : Step) (eight : z .head % 8 ≡ 0) where
   -- the count that lies x bytes past the first tail

@@ -13,9 +13,8 @@ use Rattle.meaning.specs.Refusals.{Refusal, refusal}
 use Rattle.meaning.specs.Editions.{isIn}
 use Rattle.meaning.specs.Ring.{Asked, lengthAllowed, distance, recordAt, stopAt, goAt, stopped, sizeRows, sized, callRows, leftRows, frame}
 use Rattle.laws.specs.Bytes.{apart}
-use Rattle.laws.specs.Rows.{or-false, every, in-each, Passed, passed-by, passed-others, quiet-passed, stopped-yes, stopped-no, stopped-append, stopped-passed}
-use Rattle.laws.specs.Rings.{header-whole, record-number}
-use Rattle.series.specs.Goings.{apart-counts}
+use Rattle.laws.specs.Rows.{or-false, every, in-each, others, Passed, passed-by, passed-others, quiet-passed, stopped-yes, stopped-no, stopped-append, stopped-passed}
+use Rattle.laws.specs.Rings.{header-whole, record-number, apart-counts}
 
 -- ---- a stop with a number that no row of these has: they were passed
 abbrev numbered : List Refusal → ℕ → Bool
@@ -74,7 +73,7 @@ module _ (asked : Asked) (ring : List ℕ) (head tail left room scratch k : ℕ)
       eqb-true (head % 8) 0 (not-false (eqb (head % 8) 0) (eights .0))
 
   -- it stays where the rows of budget and room are passed, if they are asked at all
-  left-again : (left′ room′ : ℕ) → (size-frame ≡ stopAt k → Passed (drop 1 (leftRows head tail left′ room′)))
+  left-again : (left′ room′ : ℕ) → (size-frame ≡ stopAt k → Passed (others (0 ∷ []) (leftRows head tail left′ room′)))
       → frame asked ring head tail left′ room′ scratch ≡ stopAt k
   left-again left′ room′ means =
       frame-parts asked ring head tail left′ room′ scratch
@@ -84,8 +83,8 @@ module _ (asked : Asked) (ring : List ℕ) (head tail left room scratch k : ℕ)
       by : (b : Bool) → eqb head tail ≡ b → stopped (leftRows head tail left′ room′) size-frame ≡ stopAt k
       by true q = stopped-yes _ _ size-frame q ∙ sym (stopped-yes _ _ size-frame q) ∙ call-passed .1
       by false q =
-          let r = past-listed lasting (drop 1 (leftRows head tail left room)) size-frame k h refl (sym (stopped-no _ _ size-frame q) ∙ call-passed .1) .1 in
-          stopped-no _ _ size-frame q ∙ stopped-passed (drop 1 (leftRows head tail left′ room′)) size-frame (means r) ∙ r
+          let r = past-listed lasting (others (0 ∷ []) (leftRows head tail left room)) size-frame k h refl (sym (stopped-no _ _ size-frame q) ∙ call-passed .1) .1 in
+          stopped-no _ _ size-frame q ∙ stopped-passed (others (0 ∷ []) (leftRows head tail left′ room′)) size-frame (means r) ∙ r
 
   -- with budget and room the same stop
   pub stop-again : (left′ room′ : ℕ) → 0 < left′ → 16 ≤ room′ → frame asked ring head tail left′ room′ scratch ≡ stopAt k

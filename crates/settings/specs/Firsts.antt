@@ -6,13 +6,7 @@ use Prim.Native.Nat.{ℕ, _<_}
 use native.Mathlib.Omega.{arith}
 use borrow.Author.Tests.{ne-eqb}
 use Rattle.laws.specs.Bytes.{apart}
-use Rattle.meaning.specs.Refusals.{Refusal, refusal, first, orElse}
-
--- where the answer is 0 the row does not hold
-pub passed : (b : Bool) (k : ℕ) (rs : List Refusal) (rest : ℕ) → 0 < k → first (refusal b k ∷ rs) rest ≡ 0 → (b ≡ false) × (first rs rest ≡ 0)
-unfolding first
-passed true k rs rest h e = absurd (omega arith)
-passed false k rs rest h e = (refl, e)
+use Rattle.meaning.specs.Refusals.{Refusal, first, orElse}
 
 -- rows with no number 0: the answer of the rows, else the rest
 abbrev pub Positive : List Refusal → Type 0

@@ -5,12 +5,12 @@ use mathlib.Core.List.{List, [], _∷_, _++_, append-nil, append-assoc}
 use Prim.Native.Nat.{ℕ, zero, suc, _+_, _-_, _<_, _≤_}
 use native.Mathlib.Nat.{zero-add}
 use native.Mathlib.Omega.{arith}
-use lib.Dec.{eqb, ltb}
+use lib.Dec.{eqb}
 use lib.ListN.{length, take, drop, length-append, length-drop, take-append-drop}
 use lib.Seq.{take-add, take-all}
 use borrow.Author.Tests.{not-false, eq-eqb, eqb-true, eqb-false, ltb-false}
 use Rattle.meaning.specs.Bytes.{numberAt, spell, small}
-use Rattle.meaning.specs.Refusals.{first}
+use Rattle.meaning.specs.Refusals.{Refusal, first}
 use Rattle.meaning.specs.declared.Known.{Known}
 use Rattle.meaning.specs.Editions.{allowed}
 use Rattle.meaning.specs.Ring.{lengthAllowed}
@@ -22,10 +22,10 @@ use Rattle.entries.specs.Laws.{stands, bytes-again}
 use Rattle.meaning.specs.Events.{eventsOf, sound}
 use Rattle.settings.specs.declared.Version.{Version}
 use Rattle.settings.specs.Versions.{versionOf, isKnown, rowLength, placeOf}
-use Rattle.settings.specs.Reading.{showsVersion, isEvent, isLast, isEventOf, fits, inTurn, turnsFrom, countOf, rowFrom, rowsOf, lastRows, afterRows, tableRows, restAnswer, shown, storeAnswer}
+use Rattle.settings.specs.Reading.{showsVersion, isEvent, isLast, isEventOf, fits, inTurn, turnsFrom, countOf, rowFrom, rowsOf, firstRows, lastRows, afterRows, tableRows, restAnswer, shown, storeAnswer}
 use Rattle.settings.specs.Writing.{wordBytes, rowBytes, rowsBytes, lastBytes, storeBytes}
-use Rattle.laws.specs.Rows.{first-none}
-use Rattle.settings.specs.Firsts.{passed, or-first}
+use Rattle.laws.specs.Rows.{or-false, passed-by, first-through, first-passed}
+use Rattle.settings.specs.Firsts.{or-first}
 
 -- ---- an entry that is whole, of a kind and a length that are known
 
@@ -210,6 +210,53 @@ known-number (v ∷ vs) k h = by (eqb k (v .number)) refl (known-number vs k)
         ap (λ (t : Bool). cond t v (versionOf vs k) .number) q
         ∙ g (sym (ap (λ (t : Bool). isKnown (cond t v (versionOf vs k))) q) ∙ h)
 
+-- ---- what rows that are passed say: the first entry's, the last one's with what follows it
+
+pub record Headed (vs : List Version) (xs : List ℕ) : Type 0 where
+  pub known : isKnown (shown vs xs) ≡ true
+  pub head : Is (entryAt xs 0) 1 2
+  pub long : 8 ≤ length xs
+
+pub head-passed : (vs : List Version) (xs : List ℕ) (rest : ℕ) → first (firstRows vs xs) rest ≡ 0 → Headed vs xs × (rest ≡ 0)
+head-passed vs xs rest h =
+    let e : Entry = entryAt xs 0 in
+    let p = first-through (firstRows vs xs) rest refl h in
+    let row = passed-by (firstRows vs xs) (p .0) in
+    let i = fits-first vs e (not-false (fits vs e) (row 51)) (eqb-true _ _ (not-false (eqb (e .kind) 1) (row 52))) in
+    let s : showsVersion e ≡ true =
+    true-and (e .whole) (eqb (e .kind) 1 && eqb (e .length) 2) (i .whole)
+    (true-and (eqb (e .kind) 1) (eqb (e .length) 2) (eq-eqb _ _ (i .kind-is)) (eq-eqb _ _ (i .length-is))) in
+    let k : isKnown (shown vs xs) ≡ true = not-false (isKnown (shown vs xs)) (sym (ap (λ (t : Bool). t && not (isKnown (shown vs xs))) s) ∙ row 50) in
+    (record { known = k; head = i; long = omega (arith, entry-room xs 0 2 (i .whole) (i .length-is)) }, p .1)
+
+pub record Ended (v : Version) (ks : List Known) (xs : List ℕ) (at : ℕ) : Type 0 where
+  pub tail : Is (entryAt xs at) 3 13
+  pub ring-allowed : lengthAllowed (numberAt 8 xs (at + 6)) ≡ true
+  pub edition-allowed : allowed ks (numberAt 1 xs (at + 14)) ≡ true
+  pub ends : at + 19 ≡ length xs
+
+pub end-passed : (v : Version) (ks : List Known) (xs : List ℕ) (at rest : ℕ) → first (lastRows v ks xs at) (first (afterRows v xs (at + 19)) rest) ≡ 0
+    → Ended v ks xs at × (rest ≡ 0)
+end-passed v ks xs at rest h =
+    let e : Entry = entryAt xs at in
+    let ring : Bool = lengthAllowed (numberAt 8 xs (at + 6)) in
+    let edition : Bool = allowed ks (numberAt 1 xs (at + 14)) in
+    let p = first-through (lastRows v ks xs at) (first (afterRows v xs (at + 19)) rest) refl h in
+    let q = first-through (afterRows v xs (at + 19)) rest refl (p .1) in
+    let row = passed-by (lastRows v ks xs at) (p .0) in
+    let a = or-false (not (eqb (e .kind) 3)) (not ring || not edition) (row 52) in
+    let b = or-false (not ring) (not edition) (a .1) in (
+      record {
+        tail = fits-last (v ∷ []) e (not-false (fits (v ∷ []) e) (row 51)) (eqb-true _ _ (not-false (eqb (e .kind) 3) (a .0)));
+        ring-allowed = not-false ring (b .0);
+        edition-allowed = not-false edition (b .1);
+        ends = eqb-true _ _ (not-false (eqb (at + 19) (length xs)) (passed-by (afterRows v xs (at + 19)) (q .0) 52));
+      },
+      q .1,
+    )
+
+-- ---- a store that reads
+
 pub record Accepted (v : Version) (ks : List Known) (xs : List ℕ) (n lent : ℕ) : Type 0 where
   pub known : isKnown v ≡ true
   pub head : Is (entryAt xs 0) 1 2
@@ -226,38 +273,20 @@ unfolding storeAnswer restAnswer
 accepted vs ks xs lent h =
     let v : Version = shown vs xs in
     let n : ℕ = countOf v xs in
-    let p : ℕ = placeOf v n in
-    let f1 = passed (showsVersion (entryAt xs 0) && not (isKnown v)) 50 _ _ (omega arith) h in
-    let f2 = passed (not (fits vs (entryAt xs 0))) 51 _ _ (omega arith) (f1 .1) in
-    let f3 = passed (not (eqb (entryAt xs 0 .kind) 1)) 52 _ _ (omega arith) (f2 .1) in
-    let l0 : first (lastRows v ks xs p) (first (afterRows v xs (p + 19)) (first (tableRows (v .limit) (rowsOf v xs n) n lent) 0)) ≡ 0 = sym (first-none _) ∙ f3 .1 in
-    let l1 = passed (not (fits (v ∷ []) (entryAt xs p))) 51 _ _ (omega arith) l0 in
-    let l2 = passed (not (eqb (entryAt xs p .kind) 3)) 52 _ _ (omega arith) (l1 .1) in
-    let l3 = passed (not (lengthAllowed (numberAt 8 xs (p + 6)))) 52 _ _ (omega arith) (l2 .1) in
-    let l4 = passed (not (allowed ks (numberAt 1 xs (p + 14)))) 52 _ _ (omega arith) (l3 .1) in
-    let a0 : first (afterRows v xs (p + 19)) (first (tableRows (v .limit) (rowsOf v xs n) n lent) 0) ≡ 0 = sym (first-none _) ∙ l4 .1 in
-    let a1 = passed (not (eqb (p + 19) (length xs)) && not (fits (v ∷ []) (entryAt xs (p + 19)))) 51 _ _ (omega arith) a0 in
-    let a2 = passed (not (eqb (p + 19) (length xs))) 52 _ _ (omega arith) (a1 .1) in
-    let t0 : first (tableRows (v .limit) (rowsOf v xs n) n lent) 0 ≡ 0 = sym (first-none _) ∙ a2 .1 in
-    let t1 = passed (not (sound (v .limit) (eventsOf (rowsOf v xs n)))) 11 _ _ (omega arith) t0 in
-    let t2 = passed (ltb lent n) 40 _ _ (omega arith) (t1 .1) in
-    let k1 : entryAt xs 0 .kind ≡ 1 = eqb-true _ _ (not-false (eqb (entryAt xs 0 .kind) 1) (f3 .0)) in
-    let i1 = fits-first vs (entryAt xs 0) (not-false (fits vs (entryAt xs 0)) (f2 .0)) k1 in
-    let s1 : showsVersion (entryAt xs 0) ≡ true =
-    true-and (entryAt xs 0 .whole) (eqb (entryAt xs 0 .kind) 1 && eqb (entryAt xs 0 .length) 2) (i1 .whole)
-    (true-and (eqb (entryAt xs 0 .kind) 1) (eqb (entryAt xs 0 .length) 2) (eq-eqb _ _ (i1 .kind-is)) (eq-eqb _ _ (i1 .length-is))) in
-    let k : isKnown v ≡ true = not-false (isKnown v) (sym (ap (λ (t : Bool). t && not (isKnown v)) s1) ∙ f1 .0) in
-    let k3 : entryAt xs p .kind ≡ 3 = eqb-true _ _ (not-false (eqb (entryAt xs p .kind) 3) (l2 .0)) in
+    let rs : List Refusal = tableRows (v .limit) (rowsOf v xs n) n lent in
+    let f = head-passed vs xs (restAnswer v ks xs n lent) h in
+    let l = end-passed v ks xs (placeOf v n) (first rs 0) (f .1) in
+    let row = passed-by rs (first-passed rs refl (l .1)) in
     record {
-      known = k;
-      head = i1;
-      number = known-number vs (numberAt 2 xs 6) k;
-      tail = fits-last (v ∷ []) (entryAt xs p) (not-false (fits (v ∷ []) (entryAt xs p)) (l1 .0)) k3;
-      ring-allowed = not-false (lengthAllowed (numberAt 8 xs (p + 6))) (l3 .0);
-      edition-allowed = not-false (allowed ks (numberAt 1 xs (p + 14))) (l4 .0);
-      ends = eqb-true _ _ (not-false (eqb (p + 19) (length xs)) (a2 .0));
-      sound = not-false (sound (v .limit) (eventsOf (rowsOf v xs n))) (t1 .0);
-      room = ltb-false lent n (t2 .0);
+      known = f .0 .known;
+      head = f .0 .head;
+      number = known-number vs (numberAt 2 xs 6) (f .0 .known);
+      tail = l .0 .tail;
+      ring-allowed = l .0 .ring-allowed;
+      edition-allowed = l .0 .edition-allowed;
+      ends = l .0 .ends;
+      sound = not-false (sound (v .limit) (eventsOf (rowsOf v xs n))) (row 11);
+      room = ltb-false lent n (row 40);
     }
 
 -- ---- the only encoding

@@ -23,8 +23,8 @@ use Rattle.settings.specs.Versions.{one, two, versionOf, placeOf}
 use Rattle.settings.specs.Reading.{countOf, rowsOf, firstRows, lastRows, afterRows, tableRows, restAnswer, shown, storeAnswer, settingsAt, refused, readStore, rowsAfter}
 use Rattle.settings.specs.Writing.{storeBytes, writeRows, writeAnswer, stored, writeStore, bufferAfter}
 use Rattle.meaning.specs.Refusals.{Refusal, refusal, first}
-use Rattle.laws.specs.Rows.{gives, before, Passed, stopped-reason, first-passed, first-stops, first-in, first-no, first-none}
-use Rattle.settings.specs.Firsts.{passed, first-app}
+use Rattle.laws.specs.Rows.{gives, before, Passed, passed-by, stopped-reason, first-passed, first-stops, first-in, first-no, first-none}
+use Rattle.settings.specs.Firsts.{first-app}
 use Rattle.settings.specs.Turns.{keptRows, Words, Proper}
 use Rattle.settings.specs.Back.{Writable, settings, reads-back, other-edition}
 use Rattle.settings.specs.Puts.{store-length, write-refused, write-given}
@@ -136,8 +136,9 @@ room-for : (v : Version) (ks : List Known) (rows : List (List ℕ)) (ring editio
     → writeAnswer v ks rows ring edition budget room ≡ 0 → length (storeBytes v rows ring edition budget) ≤ room
 unfolding writeAnswer
 room-for v ks rows ring edition budget room h =
-    let p = first-passed (writeRows v ks rows ring edition (length (storeBytes v rows ring edition budget)) room) refl h in
-    ltb-false room (length (storeBytes v rows ring edition budget)) (p .1 .1 .1 .0)
+    let n : ℕ = length (storeBytes v rows ring edition budget) in
+    let rs : List Refusal = writeRows v ks rows ring edition n room in
+    ltb-false room n (passed-by rs (first-passed rs refl h) 40)
 
 module _ (v : Version) (ks : List Known) (rows : List (List ℕ)) (ring edition budget : ℕ) where
   pub write-told : (room : ℕ) → writeStore v ks rows ring edition budget room .answer ≡ writeAnswer v ks rows ring edition budget room
@@ -198,19 +199,17 @@ pub writer-takes : (v : Version) (ks : List Known) (rows : List (List ℕ)) (rin
     → writeAnswer v ks rows ring edition budget room ≡ 0 → Writable v ks rows ring edition budget × (length (storeBytes v rows ring edition budget) ≤ room)
 unfolding writeAnswer
 writer-takes v ks rows ring edition budget room few w b h =
-    let r1 = passed (not (sound (v .limit) (eventsOf rows))) 11 _ _ (omega arith) h in
-    let r2 = passed (not (lengthAllowed ring)) 1 _ _ (omega arith) (r1 .1) in
-    let r3 = passed (not (allowed ks edition)) 2 _ _ (omega arith) (r2 .1) in
-    let r4 = passed (ltb room (length (storeBytes v rows ring edition budget))) 40 _ _ (omega arith) (r3 .1) in (
+    let rs : List Refusal = writeRows v ks rows ring edition (length (storeBytes v rows ring edition budget)) room in
+    let row = passed-by rs (first-passed rs refl h) in (
       record {
         words = w;
-        sound = not-false (sound (v .limit) (eventsOf rows)) (r1 .0);
-        ring-allowed = not-false (lengthAllowed ring) (r2 .0);
-        edition-allowed = not-false (allowed ks edition) (r3 .0);
-        edition-byte = omega (arith, few, leb-true edition (length ks) (and-true (leb 1 edition) (leb edition (length ks)) (not-false (allowed ks edition) (r3 .0)) .1));
+        sound = not-false (sound (v .limit) (eventsOf rows)) (row 11);
+        ring-allowed = not-false (lengthAllowed ring) (row 1);
+        edition-allowed = not-false (allowed ks edition) (row 2);
+        edition-byte = omega (arith, few, leb-true edition (length ks) (and-true (leb 1 edition) (leb edition (length ks)) (not-false (allowed ks edition) (row 2)) .1));
         budget-word = b;
       },
-      ltb-false _ _ (r4 .0),
+      ltb-false _ _ (row 40),
     )
 
 -- "Write the table, ring length, edition and budget into lent bytes, and read them back": whatever the writer takes, in a version that a

@@ -9,7 +9,7 @@ use native.Mathlib.Omega.{arith}
 use lib.Dec.{eqb, ltb}
 use lib.ListN.{length, drop, set, getD}
 use lib.Seq.{drop-cons, set-at, append-snoc}
-use borrow.Author.Tests.{not-false, eq-eqb, ne-eqb, eqb-true, eqb-false, lt-ltb, le-ltb}
+use borrow.Author.Tests.{eq-eqb, ne-eqb, eqb-true, eqb-false, lt-ltb, le-ltb}
 use Rattle.meaning.specs.Bytes.{numberAt, bit}
 use Rattle.meaning.specs.Refusals.{Refusal, refusal, first, orElse}
 use Rattle.meaning.specs.declared.Known.{Known}
@@ -26,7 +26,7 @@ use Rattle.settings.specs.Versions.{versions, versionOf, isKnown, rowLen
 use Rattle.settings.specs.Narrow.{Narrow}
 use Rattle.settings.specs.Reading.{showsVersion, isEvent, isLast, isEventOf, fits, inTurn, turnsFrom, countOf, rowFrom, rowsOf, firstRows, lastRows, afterRows, tableRows, restAnswer, shown, storeAnswer, settingsAt, refused, readStore, rowsAfter}
 use Rattle.laws.specs.Rows.{first-no, first-yes, first-none}
-use Rattle.settings.specs.Firsts.{passed, first-or, first-app, or-left, and-no}
+use Rattle.settings.specs.Firsts.{first-or, first-app, or-left, and-no}
 use Rattle.settings.specs.Only.{Is, is-by, entry-room, fits-first, fits-last, rows-length}
 
 -- ---- the first entry
@@ -202,34 +202,9 @@ pub all-narrow : AllNarrow versions
 all-narrow =
     (record { low = omega arith; high = omega arith; most = omega arith }, (record { low = omega arith; high = omega arith; most = omega arith }, tt))
 
-pub head-passed : (vs : List Version) (xs : List ℕ) → first (firstRows vs xs) 0 ≡ 0 → (isKnown (shown vs xs) ≡ true) × (8 ≤ length xs)
-head-passed vs xs h =
-    let e : Entry = entryAt xs 0 in
-    let f1 = passed (showsVersion e && not (isKnown (shown vs xs))) 50 _ _ (omega arith) h in
-    let f2 = passed (not (fits vs e)) 51 _ _ (omega arith) (f1 .1) in
-    let f3 = passed (not (eqb (e .kind) 1)) 52 _ _ (omega arith) (f2 .1) in
-    let i = fits-first vs e (not-false (fits vs e) (f2 .0)) (eqb-true _ _ (not-false (eqb (e .kind) 1) (f3 .0))) in
-    let s : showsVersion e ≡ true =
-    true-and (e .whole) (eqb (e .kind) 1 && eqb (e .length) 2) (i .whole)
-    (true-and (eqb (e .kind) 1) (eqb (e .length) 2) (eq-eqb _ _ (i .kind-is)) (eq-eqb _ _ (i .length-is))) in (
-      not-false (isKnown (shown vs xs)) (sym (ap (λ (t : Bool). t && not (isKnown (shown vs xs))) s) ∙ f1 .0),
-      omega (arith, entry-room xs 0 2 (i .whole) (i .length-is)),
-    )
-
 -- the rows of the last entry and of what follows it, in one list
 abbrev pub endRows : Version → List Known → List ℕ → ℕ → List Refusal
 endRows v ks xs at = lastRows v ks xs at ++ afterRows v xs (at + 19)
-
-pub end-passed : (v : Version) (ks : List Known) (xs : List ℕ) (at : ℕ) → first (lastRows v ks xs at) (first (afterRows v xs (at + 19)) 0) ≡ 0 → at + 19 ≡ length xs
-end-passed v ks xs at h =
-    let l1 = passed (not (fits (v ∷ []) (entryAt xs at))) 51 _ _ (omega arith) h in
-    let l2 = passed (not (eqb (entryAt xs at .kind) 3)) 52 _ _ (omega arith) (l1 .1) in
-    let l3 = passed (not (lengthAllowed (numberAt 8 xs (at + 6)))) 52 _ _ (omega arith) (l2 .1) in
-    let l4 = passed (not (allowed ks (numberAt 1 xs (at + 14)))) 52 _ _ (omega arith) (l3 .1) in
-    let a0 : first (afterRows v xs (at + 19)) 0 ≡ 0 = sym (first-none _) ∙ l4 .1 in
-    let a1 = passed (not (eqb (at + 19) (length xs)) && not (fits (v ∷ []) (entryAt xs (at + 19)))) 51 _ _ (omega arith) a0 in
-    let a2 = passed (not (eqb (at + 19) (length xs))) 52 _ _ (omega arith) (a1 .1) in
-    eqb-true _ _ (not-false (eqb (at + 19) (length xs)) (a2 .0))
 
 -- ---- the whole answer, part by part
 

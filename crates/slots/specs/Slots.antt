@@ -2,10 +2,10 @@
 use mathlib.Core.Path.{_≡_, refl, sym, ap, _∙_, subst}
 use mathlib.Core.Bool.{Bool, true, false, cond, not, _||_}
 use mathlib.Core.List.{List, [], _∷_}
-use Prim.Native.Nat.{ℕ, _+_, _*_, _/_, _%_, _<_, _≤_}
+use Prim.Native.Nat.{ℕ, _+_, _-_, _*_, _/_, _%_, _^_, _<_, _≤_}
 use native.Mathlib.Omega.{arith}
-use lib.Bits.{bitAnd}
-use lib.Dec.{leb, ltb, eqb}
+use lib.Bits.{bitAnd, and-le-r}
+use lib.Dec.{ltb, eqb}
 use lib.ListN.{length, getD, set, replicate, length-set, length-replicate, getD-replicate}
 use lib.Seq.{getD-set-same, getD-set-other}
 use borrow.Author.Tests.{eqb-true, eqb-false, ne-eqb, le-ltb, lt-ltb, le-leb, lt-leb, ltb-false}
@@ -14,39 +14,47 @@ use Rattle.meaning.specs.declared.Event.{Event}
 use Rattle.meaning.specs.declared.Known.{Known}
 use Rattle.meaning.specs.Bytes.{bit, ones}
 use Rattle.meaning.specs.Refusals.{first}
-use Rattle.meaning.specs.Editions.{knows, sampleBit, isIn, unreadable}
+use Rattle.meaning.specs.Editions.{isIn, unreadable}
 use Rattle.meaning.specs.Records.{layout, kindOf, judge}
 use Rattle.meaning.specs.Events.{attributesOf, eventAt, eventOf, eventsOf, identifiers, distinct, identifierOf, indexOf, layoutFor, judgeEvents}
 use Rattle.laws.specs.Bytes.{apart}
 use Rattle.laws.specs.Lookup.{identifiers-length, identifier-at, in-there, in-none, index-unique, rows-length, row-at}
-use Rattle.sums.specs.Sums.{sumOver, sumsOf, ones-most, trail-small, first-small, last-small}
+use Rattle.sums.specs.Sums.{sumOver, earlyBits, afterBits, timeBits, sumsOf, ones-most, trail-small, first-small, last-small}
 use Rattle.marks.specs.Marks.{Marked}
 
 -- ---- eight sums in two words
 
+-- a sum is below it, so that four stand in one word
+abbrev pub quarter : ℕ
+quarter = 2 ^ 16
+
 -- the four numbers in one word, 16 bits each
 unfoldable pub Four : ℕ → ℕ → ℕ → ℕ → ℕ → Type 0
-Four a b c d x = (x % 65536 ≡ a) × (x / 65536 % 65536 ≡ b) × (x / 4294967296 % 65536 ≡ c) × (x / 281474976710656 ≡ d)
+Four a b c d x = (x % quarter ≡ a) × (x / quarter % quarter ≡ b) × (x / 2 ^ 32 % quarter ≡ c) × (x / 2 ^ 48 ≡ d)
 
 abbrev pub unpacked : ℕ → ℕ → List ℕ
 unpacked x y =
-    x % 65536
-    ∷ (x / 65536 % 65536)
-    ∷ (x / 4294967296 % 65536)
-    ∷ (x / 281474976710656)
-    ∷ (y % 65536)
-    ∷ (y / 65536 % 65536)
-    ∷ (y / 4294967296 % 65536)
-    ∷ (y / 281474976710656)
+    x % quarter
+    ∷ (x / quarter % quarter)
+    ∷ (x / 2 ^ 32 % quarter)
+    ∷ (x / 2 ^ 48)
+    ∷ (y % quarter)
+    ∷ (y / quarter % quarter)
+    ∷ (y / 2 ^ 32 % quarter)
+    ∷ (y / 2 ^ 48)
     ∷ []
+
+-- where the slot of an identifier is, of n slots
+pub slot-inside : (id n : ℕ) → 1 ≤ n → bitAnd id (n - 1) < n
+slot-inside id n h = omega (arith, h, and-le-r id (n - 1))
 
 -- the sums in a slot
 abbrev pub sumsIn : List ℕ → List ℕ
 sumsIn s = unpacked (getD s 6 0) (getD s 7 0)
 
 module _ (a : Attributes) (sums : List ℕ) (e : sums ≡ sumsOf a) where
-  -- each sum is below 65,536
-  pub narrow : (getD sums 0 0 < 65536) × (getD sums 1 0 < 65536) × (getD sums 2 0 < 65536) × (getD sums 3 0 < 65536) × (getD sums 4 0 < 65536) × (getD sums 5 0 < 65536) × (getD sums 6 0 < 65536) × (getD sums 7 0 < 65536)
+  -- each sum fits
+  pub narrow : (getD sums 0 0 < quarter) × (getD sums 1 0 < quarter) × (getD sums 2 0 < quarter) × (getD sums 3 0 < quarter) × (getD sums 4 0 < quarter) × (getD sums 5 0 < quarter) × (getD sums 6 0 < quarter) × (getD sums 7 0 < quarter)
   unfolding sumsOf
   narrow =
       let t = trail-small a sums e in
@@ -56,22 +64,22 @@ module _ (a : Attributes) (sums : List ℕ) (e : sums ≡ sumsOf a) where
         omega (arith, f),
         omega (arith, l),
         below 3 (masked (bit (a .sample) 12) (a .user)),
-        below 4 (counted (a .sample) 16957440),
-        below 5 (counted (a .sample) 15204352),
+        below 4 (counted (a .sample) earlyBits),
+        below 5 (counted (a .sample) afterBits),
         below 6 (masked (bit (a .sample) 18) (a .interrupt)),
         below 7 (fixed (a .format)),
       )
     where
-      below : (i : ℕ) → getD (sumsOf a) i 0 < 65536 → getD sums i 0 < 65536
-      below i h = subst (λ (l : List ℕ). getD l i 0 < 65536) (sym e) h
+      below : (i : ℕ) → getD (sumsOf a) i 0 < quarter → getD sums i 0 < quarter
+      below i h = subst (λ (l : List ℕ). getD l i 0 < quarter) (sym e) h
 
-      counted : (x m : ℕ) → sumOver x m < 65536
+      counted : (x m : ℕ) → sumOver x m < quarter
       counted x m = let h = ones-most 64 (bitAnd x m) in omega (arith, h)
 
-      fixed : (x : ℕ) → 8 + sumOver x 3 < 65536
-      fixed x = let h = ones-most 64 (bitAnd x 3) in omega (arith, h)
+      fixed : (x : ℕ) → 8 + sumOver x timeBits < quarter
+      fixed x = let h = ones-most 64 (bitAnd x timeBits) in omega (arith, h)
 
-      masked : (b : Bool) (x : ℕ) → cond b (ones 64 x * 8) 0 < 65536
+      masked : (b : Bool) (x : ℕ) → cond b (ones 64 x * 8) 0 < quarter
       masked true x = let h = ones-most 64 x in omega (arith, h)
       masked false x = omega arith
 

@@ -7,15 +7,22 @@ ghost use mathlib.Core.Path.{_≡_};
 ghost use Prim.Native.Nat.{_<_};
 ghost use lib.ListN.{length};
 ghost use Rattle.meaning.specs.Events.{identifiers, eventsOf, indexOf};
-ghost use Rattle.slots.specs.Slots.{Four, Filled};
+ghost use Rattle.slots.specs.Slots.{quarter, Four, Filled};
 use meaning::Known;
+
+// The first number that 16, 32 and 48 bits do not hold.
+pub const QUARTER: u64 = 65536;
+
+pub const HALF: u64 = QUARTER * QUARTER;
+
+pub const THREE_QUARTERS: u64 = QUARTER * HALF;
 
 // Four sums in one word, the first lowest: of the first four that is the trailer's.
 fn packed(a: u64, b: u64, c: u64, d: u64) -> u64
-    requires { ⌜ (a < 65536) × (b < 65536) × (c < 65536) × (d < 65536) ⌝ }
+    requires { ⌜ (a < quarter) × (b < quarter) × (c < quarter) × (d < quarter) ⌝ }
     ensures { λ r. ⌜ Four a b c d r ⌝ }
 {
-    a + b * 65536 + c * 4294967296 + d * 281474976710656
+    a + b * QUARTER + c * HALF + d * THREE_QUARTERS
 }
 
 // The slot of an identifier that is in the table, at index i, under an edition that knows bit 16.

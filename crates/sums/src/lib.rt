@@ -4,7 +4,7 @@ ghost use mathlib.Core.Bool.{cond};
 ghost use Prim.Native.Nat.{_*_, _≤_};
 ghost use Rattle.meaning.specs.Bytes.{ones};
 ghost use Rattle.exact.specs.Stretches.{groupFixed};
-ghost use Rattle.sums.specs.Sums.{sumOver, readSum, readsOf, sumsOf};
+ghost use Rattle.sums.specs.Sums.{sumOver, sumMost, readMost, readSum, readsOf, sumsOf};
 use meaning::Attributes;
 
 // Identifier (16), ip, pid and tid, time, addr (0 to 3), id, cpu, period, stream id (6 to 9).
@@ -15,11 +15,11 @@ const EARLY_BITS: u64 = 16957440;
 
 const AFTER_BITS: u64 = 15204352;
 
-const LAST_BITS: u64 = 32161792;
+const LAST_BITS: u64 = EARLY_BITS + AFTER_BITS;
 
 // Counting the ones of a number costs a dozen instructions, so it is asked first whether there are any.
 fn eights(x: u64, mask: u64) -> u64
-    ensures { λ r. ⌜ (r ≡ sumOver x mask) × (r ≤ 512) ⌝ }
+    ensures { λ r. ⌜ (r ≡ sumOver x mask) × (r ≤ sumMost) ⌝ }
 {
     let y = x & mask;
     if y == 0 {
@@ -35,14 +35,14 @@ const TIME_BITS: u64 = 3;
 
 // Read values that are no group: the value, and a word for each of bits 0, 1, 2 and 4.
 pub fn read_values(a: Attributes) -> u64
-    ensures { λ r. ⌜ (r ≡ readSum a) × (r ≤ 520) ⌝ }
+    ensures { λ r. ⌜ (r ≡ readSum a) × (r ≤ readMost) ⌝ }
 {
     8 + eights(a.format, READ_BITS)
 }
 
 // Those of a SAMPLE.
 fn reads(a: Attributes) -> u64
-    ensures { λ r. ⌜ (r ≡ readsOf a) × (r ≤ 520) ⌝ }
+    ensures { λ r. ⌜ (r ≡ readsOf a) × (r ≤ readMost) ⌝ }
 {
     if wire::has_bit(a.sample, 4) & !wire::has_bit(a.format, 3) {
         read_values(a)
@@ -64,7 +64,7 @@ fn registers(on: bool, mask: u64) -> u64
 
 // Of a group: its count, and the times.
 pub fn group(a: Attributes) -> u64
-    ensures { λ r. ⌜ (r ≡ groupFixed (a .format)) × (r ≤ 520) ⌝ }
+    ensures { λ r. ⌜ (r ≡ groupFixed (a .format)) × (r ≤ readMost) ⌝ }
 {
     8 + eights(a.format, TIME_BITS)
 }

@@ -7,32 +7,28 @@ use Prim.Native.Nat.{ℕ, _+_, _-_, _*_, _<_, _≤_}
 use native.Mathlib.Omega.{arith}
 use lib.Bits.{bitAnd}
 use lib.Dec.{eqb}
-use lib.ListN.{length, drop}
+use lib.ListN.{length, take}
 use borrow.Author.Tests.{eqb-true, le-leb, lt-leb}
 use Rattle.meaning.specs.declared.Attributes.{Attributes}
 use Rattle.meaning.specs.declared.Cursor.{Cursor}
 use Rattle.meaning.specs.declared.Item.{Item}
 use Rattle.meaning.specs.declared.Shape.the-variants.{Number, Ignored, Count, Times, Earlier, Limit, Listed, Pad, Name}
 use Rattle.meaning.specs.declared.Width.the-variants.{W2, W4, W8}
-use Rattle.meaning.specs.Bytes.{bit, ones, numberAt, zeroIn}
-use Rattle.meaning.specs.Items.{cursor, bytes, span, rule, holds, counted, before, step, walk}
-use Rattle.meaning.specs.Schema.{item, always, selected, u16, u32, u64, sample, readValues, sampleLists, sampleLast, mmap2, schema, trailer}
+use Rattle.meaning.specs.Bytes.{bit, ones, numberAt}
+use Rattle.meaning.specs.Items.{cursor, span, rule, holds, counted, before, step, walk}
+use Rattle.meaning.specs.Schema.{item, always, selected, u16, u32, u64, sample, sampleFirst, readValues, sampleLists, sampleLast, mmap2, schema, trailer}
 use Rattle.meaning.specs.Records.{origin}
 use Rattle.laws.specs.Bytes.{apart, and-true, le-or-lt}
 use Rattle.laws.specs.Again.{fine}
 use Rattle.laws.specs.Counting.{bitsFrom, eights, eights-ones}
 use Rattle.laws.specs.Shapes.{shape-in, shape-bad}
 use Rattle.blocks.specs.Seen.{walk-append}
-use Rattle.blocks.specs.Steady.{oneWidth, widthOf, steady, total, steady-in}
-use Rattle.blocks.specs.Blocks.{count-in, times-in, goes}
+use Rattle.blocks.specs.Steady.{oneWidth, widthOf, steady, total, two-fours, steady-in}
+use Rattle.blocks.specs.Blocks.{buildFront, protFlags, count-in, times-in, goes}
 use Rattle.twins.specs.Twins.{Twins}
 use Rattle.same_parts.specs.Parts.{sameSpan, sameButFour, aroundRes, nameSame, buildSame, textSame, nameAt, beforeRes, bodySame}
-use Rattle.twins.specs.Same.{trailBits}
-use Rattle.twins.specs.Pieces.{read-ignored, read-pad, read-listed, abreast-take, abreast-all, span-abreast, twins-one, twins-append, twins-all, twins-within, front-is, after-fine, front-twins, twins-around, twins-name}
-
-twice : (b : Bool) → cond b 4 0 + cond b 4 0 ≡ cond b 8 0
-twice true = refl
-twice false = refl
+use Rattle.twins.specs.Same.{trailBits, trailBefore}
+use Rattle.twins.specs.Pieces.{read-ignored, read-pad, read-listed, abreast-take, abreast-all, span-abreast, twins-one, twins-append, twins-all, twins-within, front-is, after-fine, twins-around, twins-name}
 
 module _ (s t : List ℕ) (long : length t ≡ length s) where
   -- no byte is ignored
@@ -54,17 +50,7 @@ module _ (s t : List ℕ) (long : length t ≡ length s) where
   -- ---- SAMPLE
 
   abbrev resFront : Attributes → List Item
-  resFront a =
-      selected a 16 (Number W8)
-      ∷ selected a 0 (Number W8)
-      ∷ selected a 1 (Number W4)
-      ∷ selected a 1 (Number W4)
-      ∷ selected a 2 (Number W8)
-      ∷ selected a 3 (Number W8)
-      ∷ selected a 6 (Number W8)
-      ∷ selected a 9 (Number W8)
-      ∷ selected a 7 (Number W4)
-      ∷ []
+  resFront a = take 9 (sampleFirst a)
 
   abbrev afterRes : Attributes → List Item
   afterRes a = selected a 8 (Number W8) ∷ (readValues a (bit (a .sample) 4) ++ (sampleLists a ++ sampleLast a))
@@ -73,7 +59,7 @@ module _ (s t : List ℕ) (long : length t ≡ length s) where
   unfolding total widthOf span bitsFrom eights
   before-count a h =
       let e : 8 * ones 64 (bitAnd (a .sample) beforeRes) ≡ eights (a .sample) (0 ∷ 1 ∷ 2 ∷ 3 ∷ 6 ∷ 9 ∷ 16 ∷ []) = eights-ones (a .sample) beforeRes in
-      let p = twice (bit (a .sample) 1) in
+      let p = two-fours (bit (a .sample) 1) in
       rw h (omega (arith, e, p))
 
   sample-twins : (a : Attributes) → walk s (sample a) (origin 8) .why ≡ 0 → aroundRes s t (a .sample) beforeRes 8 ≡ true → Twins s t (sample a) (origin 8)
@@ -85,11 +71,11 @@ module _ (s t : List ℕ) (long : length t ≡ length s) where
   abbrev trailFront : ℕ → List Item
   trailFront x = item (bit x 1) (Number W4) ∷ item (bit x 1) (Number W4) ∷ item (bit x 2) (Number W8) ∷ item (bit x 6) (Number W8) ∷ item (bit x 9) (Number W8) ∷ item (bit x 7) (Number W4) ∷ []
 
-  trail-count : (x : ℕ) → bit x 7 ≡ true → total (trailFront x) ≡ ones 64 (bitAnd x 582) * 8 + 4
+  trail-count : (x : ℕ) → bit x 7 ≡ true → total (trailFront x) ≡ ones 64 (bitAnd x trailBefore) * 8 + 4
   unfolding total widthOf span bitsFrom eights
   trail-count x h =
-      let e : 8 * ones 64 (bitAnd x 582) ≡ eights x (1 ∷ 2 ∷ 6 ∷ 9 ∷ []) = eights-ones x 582 in
-      let p = twice (bit x 1) in
+      let e : 8 * ones 64 (bitAnd x trailBefore) ≡ eights x (1 ∷ 2 ∷ 6 ∷ 9 ∷ []) = eights-ones x trailBefore in
+      let p = two-fours (bit x 1) in
       rw h (omega (arith, e, p))
 
   abbrev trailItems : Bool → Bool → ℕ → List Item
@@ -104,17 +90,17 @@ module _ (s t : List ℕ) (long : length t ≡ length s) where
       ∷ item (u && not v && bit x 16) (Number W8)
       ∷ []
 
-  none-res : (is : List Item) (end : ℕ) → aroundRes s t 0 582 end ≡ true → Twins s t is (origin end)
+  none-res : (is : List Item) (end : ℕ) → aroundRes s t 0 trailBefore end ≡ true → Twins s t is (origin end)
   unfolding aroundRes bit
   none-res is end h = twins-plain is end h
 
-  trail-by : (u v : Bool) (x end : ℕ) → walk s (trailItems u v x) (origin end) .why ≡ 0 → aroundRes s t (cond (u && not v) x 0) 582 end ≡ true → Twins s t (trailItems u v x) (origin end)
+  trail-by : (u v : Bool) (x end : ℕ) → walk s (trailItems u v x) (origin end) .why ≡ 0 → aroundRes s t (cond (u && not v) x 0) trailBefore end ≡ true → Twins s t (trailItems u v x) (origin end)
   unfolding steady oneWidth
   trail-by true true x end z h = none-res (trailItems true true x) end h
-  trail-by true false x end z h = twins-res (trailFront x) (item (bit x 16) (Number W8) ∷ []) end x 582 refl (trail-count x) z h
+  trail-by true false x end z h = twins-res (trailFront x) (item (bit x 16) (Number W8) ∷ []) end x trailBefore refl (trail-count x) z h
   trail-by false v x end z h = none-res (trailItems false v x) end h
 
-  pub trail-twins : (kind : ℕ) (a : Attributes) (end : ℕ) → walk s (trailer kind a) (origin end) .why ≡ 0 → aroundRes s t (trailBits kind a) 582 end ≡ true → Twins s t (trailer kind a) (origin end)
+  pub trail-twins : (kind : ℕ) (a : Attributes) (end : ℕ) → walk s (trailer kind a) (origin end) .why ≡ 0 → aroundRes s t (trailBits kind a) trailBefore end ≡ true → Twins s t (trailer kind a) (origin end)
   unfolding trailBits
   trail-twins kind a end z h = trail-by (a .all) (eqb kind 9) (a .sample) end z h
 
@@ -131,18 +117,6 @@ module _ (s t : List ℕ) (long : length t ≡ length s) where
       let e = shape-bad (Limit 20) s (cursor at n old 0) 1 refl 32 (omega (arith, l)) (rw (lt-leb (numberAt 1 s at) 20 g)) (λ q. omega (arith, q)) in
       absurd (let q = ap (λ (c : Cursor). c .why) e ∙ z in omega (arith, q)))
       (le-or-lt (numberAt 1 s at) 20)
-
-  abbrev buildFront : List Item
-  buildFront =
-      u32 ∷ u32 ∷ u64 ∷ u64 ∷ u64
-      ∷ item false (Number W4)
-      ∷ item false (Number W4)
-      ∷ item false (Number W8)
-      ∷ item false (Number W8)
-      ∷ []
-
-  abbrev protFlags : List Item
-  protFlags = u32 ∷ u32 ∷ []
 
   build-twins : walk s (mmap2 true) (origin 8) .why ≡ 0 → buildSame s t ≡ true → Twins s t (mmap2 true) (origin 8)
   unfolding buildSame steady oneWidth total widthOf span walk

@@ -3,7 +3,7 @@ use mathlib.Core.Path.{_≡_, refl, sym, ap, ap₂, _∙_, subst}
 use mathlib.Core.Bool.{Bool, true, false, cond, _&&_}
 use mathlib.Core.List.{List, [], _∷_, _++_}
 use mathlib.Core.Logic.{⊎-elim}
-use Prim.Native.Nat.{ℕ, suc, _+_, _-_, _*_, _<_, _≤_, min}
+use Prim.Native.Nat.{ℕ, suc, _+_, _-_, _<_, _≤_, min}
 use native.Mathlib.Nat.{add-zero}
 use native.Mathlib.Numerals.{add-one}
 use native.Mathlib.Omega.{arith}
@@ -18,12 +18,11 @@ use Rattle.meaning.specs.declared.Shape.the-variants.{Ignored, Listed, Pad, Nam
 use Rattle.meaning.specs.Bytes.{zeroIn}
 use Rattle.meaning.specs.Items.{Con, con, cursor, refuse, span, rule, holds, past, part, settle, shapeStep, step, walk, content, contents}
 use Rattle.meaning.specs.Records.{origin}
-use Rattle.laws.specs.Bytes.{apart, and-true, le-or-lt}
+use Rattle.laws.specs.Bytes.{and-true, le-or-lt}
 use Rattle.laws.specs.There.{item}
 use Rattle.laws.specs.Again.{fine, stepped, ItemPassed, item-passed, outcome}
 use Rattle.blocks.specs.Seen.{walk-append}
 use Rattle.blocks.specs.Steady.{steady, total, steady-in, steady-out}
-use Rattle.compare.specs.Compared.{sameBytes}
 use Rattle.compare.specs.Pairs.{same-bytes}
 use Rattle.twins.specs.Twins.{Abreast, Read, Twins}
 use Rattle.same_parts.specs.Parts.{sameSpan, sameButFour, nameSame}

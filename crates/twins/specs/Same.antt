@@ -17,8 +17,12 @@ trailBits kind a = cond (a .all && not (eqb kind 9)) (a .sample) 0
 abbrev pub endOf : List ℕ → ℕ → Attributes → ℕ
 endOf xs kind a = length xs - room (trailer kind a)
 
--- the whole record, and the flag of a name. Before a trailer's res: pid and tid, time, id, stream id (1, 2, 6, 9)
+-- what stands before a trailer's res, but for the cpu: pid and tid, time, id, stream id (1, 2, 6, 9)
+abbrev pub trailBefore : ℕ
+trailBefore = 582
+
+-- the whole record, and the flag of a name
 unfoldable pub sameBut : List ℕ → List ℕ → ℕ → ℕ → Attributes → Bool
 sameBut xs ys kind misc a =
     bodySame (take (endOf xs kind a) xs) (take (endOf xs kind a) ys) kind misc (a .sample)
-    && (aroundRes xs ys (trailBits kind a) 582 (endOf xs kind a) && eqb (orDirty 0 a xs) (orDirty 0 a ys))
+    && (aroundRes xs ys (trailBits kind a) trailBefore (endOf xs kind a) && eqb (orDirty 0 a xs) (orDirty 0 a ys))

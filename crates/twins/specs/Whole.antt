@@ -20,7 +20,7 @@ use Rattle.laws.specs.Fixed.{fixed-run}
 use Rattle.record.specs.Into.{orDirty, recordFlag, nameDirty}
 use Rattle.twins.specs.Twins.{Twins, Beside, Like}
 use Rattle.same_parts.specs.Parts.{aroundRes, bodySame}
-use Rattle.twins.specs.Same.{trailBits, sameBut}
+use Rattle.twins.specs.Same.{trailBits, trailBefore, sameBut}
 use Rattle.twins.specs.Kinds.{body-twins, trail-twins}
 
 -- its flag, by record check's 44
@@ -123,5 +123,5 @@ module _ (xs ys : List ℕ) (kind misc : ℕ) (a : Attributes) (g : Beside xs ys
   unfolding sameBut
   same-like h =
       let p = and-true (bodySame (take end xs) (take end ys) kind misc (a .sample)) _ h in
-      let q = and-true (aroundRes xs ys (trailBits kind a) 582 end) (eqb (orDirty 0 a xs) (orDirty 0 a ys)) (p .1) in
+      let q = and-true (aroundRes xs ys (trailBits kind a) trailBefore end) (eqb (orDirty 0 a xs) (orDirty 0 a ys)) (p .1) in
       like-is (body-read (p .0)) (trail-twins xs ys (g .long) kind a end trailer-fine (q .0)) (q .1)

@@ -54,7 +54,6 @@ use Rattle.blocks.proofs as blocks
 use Rattle.exact.proofs as exact
 use Rattle.exact_sample.proofs as exact-sample
 use Rattle.sums.proofs as sums
-use Rattle.marks.proofs as marks
 use Rattle.plan.proofs as plan
 use Rattle.names.proofs as names
 use Rattle.ring.proofs as ring
@@ -90,9 +89,8 @@ use Rattle.comparing.proofs as comparing
 use Rattle.compare.specs.declared.Compared.{Compared}
 use Rattle.compare.specs.Compared.{Side, sideOf, scratchThen}
 use Rattle.fast_drain.proofs as fast
-use Rattle.fast_event_drain.proofs as swift
+use Rattle.fast_event_drain.proofs as fast-events
 use Rattle.window_entries.proofs as window-entries
-use Rattle.window.proofs as window
 use Rattle.rooms.proofs as rooms
 use Rattle.replay_entries.proofs as replay-entries
 use Rattle.replay_offer.proofs as replay-offer
@@ -819,13 +817,13 @@ pub event-drain-scratch : Seen eventful.drain_events.Kinds.ps eventful.drain_eve
 event-drain-scratch κs a x y s t p q = same (p .1 .1) (q .1 .1)
 
 -- the same by slots
-pub fast-event-drain-told : Result swift.drain_events.Kinds.ps swift.drain_events.Kinds.r swift.drain_events.Reads.Learnt
+pub fast-event-drain-told : Result fast-events.drain_events.Kinds.ps fast-events.drain_events.Kinds.r fast-events.drain_events.Reads.Learnt
 fast-event-drain-told κs a x y s t p q = same (p .0) (q .0)
 
-pub fast-event-drain-journal : Seen swift.drain_events.Kinds.ps swift.drain_events.Kinds.r swift.drain_events.Reads.Learnt (λ κs x s. now (s .1 .1 .1 .1 .1 .1 .1 .1 .0))
+pub fast-event-drain-journal : Seen fast-events.drain_events.Kinds.ps fast-events.drain_events.Kinds.r fast-events.drain_events.Reads.Learnt (λ κs x s. now (s .1 .1 .1 .1 .1 .1 .1 .1 .0))
 fast-event-drain-journal κs a x y s t p q = same (p .1 .0) (q .1 .0)
 
-pub fast-event-drain-scratch : Seen swift.drain_events.Kinds.ps swift.drain_events.Kinds.r swift.drain_events.Reads.Learnt (λ κs x s. now (s .1 .1 .1 .1 .1 .1 .1 .0))
+pub fast-event-drain-scratch : Seen fast-events.drain_events.Kinds.ps fast-events.drain_events.Kinds.r fast-events.drain_events.Reads.Learnt (λ κs x s. now (s .1 .1 .1 .1 .1 .1 .1 .0))
 fast-event-drain-scratch κs a x y s t p q = same (p .1 .1) (q .1 .1)
 
 -- the ring's bytes from a place on

@@ -1,7 +1,7 @@
 -- One item, as straight code tests it: the state after it where it fits, else a refusal. Assumes nothing.
 use mathlib.Core.Path.{_≡_, refl, sym, ap, ap₂, _∙_, subst}
-use mathlib.Core.Bool.{Bool, true, false, not, cond, _&&_, _||_}
-use mathlib.Core.List.{List, [], _∷_, _++_}
+use mathlib.Core.Bool.{Bool, true, false, not, cond, _&&_, _||_, and-false, or-false}
+use mathlib.Core.List.{List, [], _∷_}
 use Prim.Native.Nat.{ℕ, _+_, _-_, _*_, _%_, _^_, _<_, _≤_}
 use native.Mathlib.Nat.{add-zero, mul-le-mul-left}
 use native.Mathlib.Omega.{arith}
@@ -14,25 +14,23 @@ use Rattle.meaning.specs.declared.Item.{Item}
 use Rattle.meaning.specs.declared.Shape.{Shape}
 use Rattle.meaning.specs.declared.Shape.the-variants.{Number, Ignored, Count, Size, Times, Earlier, Registers, Filled, Abi, Limit, Listed, Bytes, Pad, Name}
 use Rattle.meaning.specs.Bytes.{small, nonzero}
-use Rattle.meaning.specs.Items.{cursor}
 use Rattle.meaning.specs.Schema.{item}
 use Rattle.meaning.specs.Writing.{next}
 use Rattle.meaning.specs.Values.{Slot, slot, held, beyond, wordsOf, width, slotTold, slotOff, lastTold, beforeTold}
 use Rattle.laws.specs.Bytes.{apart, and-true}
-use Rattle.writer_words.specs.declared.Reached.{Reached}
 use Rattle.writer_words.specs.Tellings.{givenSlot, reachedAfter}
 use Rattle.writer_forms.specs.declared.Form.{Form}
 use Rattle.writer_forms.specs.Forms.{shapeForm, form, blankForm, numberForm, listForm, nameForm, fitsForm, passesEnd, listBytes, formNext}
-use Rattle.writer_items.specs.Tries.{unfit, fitsItem, good}
-use Rattle.writer_items.specs.Fitting.{same-test, and-false, fits-is, next-is, passes-is}
+use Rattle.writer_items.specs.Tries.{unfit, fitsItem, good, mostBytes}
+use Rattle.writer_items.specs.Fitting.{same-test, fits-is, next-is, passes-is}
 use Rattle.writer_parts.specs.Parts.{tryItems, slotsFrom}
 use Rattle.writer_parts.specs.Turns.{slots-next}
 use Rattle.write_fits.specs.declared.Walked.{Walked}
-use Rattle.write_fits.specs.Steps.{walked, refused, stateOf, toldTo, slotsAt, tryFrom, Tried}
+use Rattle.write_fits.specs.Steps.{walked, refused, stateOf, toldTo, tryFrom, Tried}
 
 -- a slot fits its form at a state, and its item ends where a record may
 unfoldable pub okForm : Form → List ℕ → Slot → Cursor → Bool
-okForm f src s c = (not (passesEnd src (f .list) (f .unit) (s .place) (s .count)) && fitsForm f src s) && leb (formNext f s c .at) 65535
+okForm f src s c = (not (passesEnd src (f .list) (f .unit) (s .place) (s .count)) && fitsForm f src s) && leb (formNext f s c .at) mostBytes
 
 pub good-is : (src : List ℕ) (i : Item) (s : Slot) (c : Cursor) → small src ≡ true → s .num < 2 ^ 64 → good src i s c ≡ okForm (form i c s) src s c
 unfolding good okForm
@@ -41,12 +39,12 @@ good-is src i s c b n = go (beyond src i s) refl
     f : Form
     f = form i c s
 
-    fitting : beyond src i s ≡ false → (t : Bool) → fitsForm f src s ≡ t → t && leb (next i (held src i s) c .at) 65535 ≡ t && leb (formNext f s c .at) 65535
-    fitting o true h = ap (λ (x : Cursor). leb (x .at) 65535) (next-is i c src s h o)
+    fitting : beyond src i s ≡ false → (t : Bool) → fitsForm f src s ≡ t → t && leb (next i (held src i s) c .at) mostBytes ≡ t && leb (formNext f s c .at) mostBytes
+    fitting o true h = ap (λ (x : Cursor). leb (x .at) mostBytes) (next-is i c src s h o)
     fitting o false h = refl
 
-    go : (o : Bool) → beyond src i s ≡ o → fitsItem src i s c && (not (beyond src i s) && leb (next i (held src i s) c .at) 65535)
-        ≡ (not (passesEnd src (f .list) (f .unit) (s .place) (s .count)) && fitsForm f src s) && leb (formNext f s c .at) 65535
+    go : (o : Bool) → beyond src i s ≡ o → fitsItem src i s c && (not (beyond src i s) && leb (next i (held src i s) c .at) mostBytes)
+        ≡ (not (passesEnd src (f .list) (f .unit) (s .place) (s .count)) && fitsForm f src s) && leb (formNext f s c .at) mostBytes
     go true e = rw (e, sym (passes-is i c src s)) (rw e (and-false (fitsItem src i s c)))
     go false e = rw (sym (passes-is i c src s), e) (rw (fits-is i c src s b n e) (fitting e (fitsForm f src s) refl))
 
@@ -57,12 +55,12 @@ no-false e = absurd (apart e)
 
 -- what a slot that fits says
 pub ok-parts : (f : Form) (src : List ℕ) (s : Slot) (c : Cursor) → okForm f src s c ≡ true
-    → (passesEnd src (f .list) (f .unit) (s .place) (s .count) ≡ false) × (fitsForm f src s ≡ true) × (formNext f s c .at ≤ 65535)
+    → (passesEnd src (f .list) (f .unit) (s .place) (s .count) ≡ false) × (fitsForm f src s ≡ true) × (formNext f s c .at ≤ mostBytes)
 unfolding okForm
 ok-parts f src s c h =
-    let p = and-true (not (passesEnd src (f .list) (f .unit) (s .place) (s .count)) && fitsForm f src s) (leb (formNext f s c .at) 65535) h in
+    let p = and-true (not (passesEnd src (f .list) (f .unit) (s .place) (s .count)) && fitsForm f src s) (leb (formNext f s c .at) mostBytes) h in
     let q = and-true (not (passesEnd src (f .list) (f .unit) (s .place) (s .count))) (fitsForm f src s) (p .0) in
-    (not-true (passesEnd src (f .list) (f .unit) (s .place) (s .count)) (q .0), q .1, leb-true (formNext f s c .at) 65535 (p .1))
+    (not-true (passesEnd src (f .list) (f .unit) (s .place) (s .count)) (q .0), q .1, leb-true (formNext f s c .at) mostBytes (p .1))
 
 module _ (i : Item) (src ws : List ℕ) (w : ℕ) (c : Walked) where
   abbrev pub slotHere : Slot
@@ -101,7 +99,7 @@ module _ (i : Item) (src ws : List ℕ) (w : ℕ) (c : Walked) where
         walk-one js
         ∙ ap (λ (b : Bool). cond b (tryItems src js (slotsFrom js (reachedAfter ws (toldTo w c) i) ws) (next i (held src i slotHere) (stateOf c))) unfit) (good-here ∙ h)
 
-    pub tried-one : {c′ : Walked} → c .at ≤ 65535 → c′ ≡ cond fitsHere pastHere (refused c) → Tried (i ∷ []) src ws w c c′
+    pub tried-one : {c′ : Walked} → c .at ≤ mostBytes → c′ ≡ cond fitsHere pastHere (refused c) → Tried (i ∷ []) src ws w c c′
     unfolding width
     tried-one {c′} m e = go fitsHere refl
       where
@@ -173,16 +171,16 @@ num-narrow sh ws n old k h = narrow sh
     narrow Name = omega arith
 
 -- nothing may stand in the words of an item that is not selected
-blank-ok : (c : Walked) (src : List ℕ) (s : Slot) → c .at ≤ 65535 → okForm (blankForm (stateOf c) 0) src s (stateOf c) ≡ leb (s .num) 0 && eqb (s .count) 0
+blank-ok : (c : Walked) (src : List ℕ) (s : Slot) → c .at ≤ mostBytes → okForm (blankForm (stateOf c) 0) src s (stateOf c) ≡ leb (s .num) 0 && eqb (s .count) 0
 unfolding okForm fitsForm passesEnd formNext listBytes
-blank-ok c src s m = ap (λ (b : Bool). ((leb (s .num) 0 && true) && ((eqb (s .count) 0 || false) && true)) && b) (le-leb (c .at + (0 + 0 + 0)) 65535 (omega (arith, m))) ∙ go (leb (s .num) 0) (eqb (s .count) 0)
+blank-ok c src s m = ap (λ (b : Bool). ((leb (s .num) 0 && true) && ((eqb (s .count) 0 || false) && true)) && b) (le-leb (c .at + (0 + 0 + 0)) mostBytes (omega (arith, m))) ∙ go (leb (s .num) 0) (eqb (s .count) 0)
   where
     go : (a b : Bool) → ((a && true) && ((b || false) && true)) && true ≡ a && b
     go true true = refl
     go true false = refl
     go false b = refl
 
-module _ {on : Bool} {sh : Shape} {src ws : List ℕ} {w : ℕ} {c c′ : Walked} (bytesOnly : small src ≡ true) (words : Narrow ws) (m : c .at ≤ 65535) where
+module _ {on : Bool} {sh : Shape} {src ws : List ℕ} {w : ℕ} {c c′ : Walked} (bytesOnly : small src ≡ true) (words : Narrow ws) (m : c .at ≤ mostBytes) where
   pub tried-on : on ≡ true → c′ ≡ cond (okOn sh src ws w c) (pastOn sh ws w c) (refused c) → Tried (item on sh ∷ []) src ws w c c′
   unfolding form
   tried-on o e =
@@ -204,20 +202,16 @@ and-ones true true = refl
 and-ones true false = refl
 and-ones false b = refl
 
-or-none : (b : Bool) → (b || false) && true ≡ b
-or-none true = refl
-or-none false = refl
-
 -- a number of so many bytes, at most `top`
 abbrev pub numberOk : ℕ → ℕ → Bool → ℕ → Walked → Bool
-numberOk v width eights top c = (leb v top && cond eights (eqb ((v + width) % 8) 0) true) && leb (c .at + width) 65535
+numberOk v width eights top c = (leb v top && cond eights (eqb ((v + width) % 8) 0) true) && leb (c .at + width) mostBytes
 
 -- a list that lies in the source, as many elements as are wanted, and zero bytes after it
 abbrev pub listOk : ℕ → ℕ → ℕ → ℕ → ℕ → ℕ → Walked → Bool
-listOk room place count want unit pad c = (not (ltb room (place + count * unit)) && (eqb count want || eqb unit 0)) && leb (c .at + (count * unit + pad)) 65535
+listOk room place count want unit pad c = (not (ltb room (place + count * unit)) && (eqb count want || eqb unit 0)) && leb (c .at + (count * unit + pad)) mostBytes
 
 abbrev pub nameOk : List ℕ → ℕ → ℕ → ℕ → Walked → Bool
-nameOk src place count pad c = (not (ltb (length src) (place + count * 1)) && nonzero (take count (drop place src))) && leb (c .at + (count * 1 + pad)) 65535
+nameOk src place count pad c = (not (ltb (length src) (place + count * 1)) && nonzero (take count (drop place src))) && leb (c .at + (count * 1 + pad)) mostBytes
 
 abbrev pub stay : ℕ → Walked → Walked
 stay k c = walked (c .at + k) (c .n) (c .old) (c .told) (c .before) (c .bad)
@@ -226,14 +220,14 @@ pub number-ok : (v width top n old : ℕ) (eights : Bool) (src : List ℕ) (c : 
     → okForm (numberForm width top eights n old) src (slot v 0 0) (stateOf c) ≡ numberOk v width eights top c
 unfolding okForm fitsForm passesEnd formNext listBytes
 number-ok v width top n old eights src c =
-    ap₂ (λ (a : Bool) (k : ℕ). a && leb (c .at + k) 65535) (and-ones (leb v top) (cond eights (eqb ((v + width) % 8) 0) true))
+    ap₂ (λ (a : Bool) (k : ℕ). a && leb (c .at + k) mostBytes) (and-ones (leb v top) (cond eights (eqb ((v + width) % 8) 0) true))
     (let e : width + 0 + 0 ≡ width = omega arith in e)
 
 pub list-ok : (place count want unit pad : ℕ) (src : List ℕ) (c : Walked)
     → okForm (listForm (stateOf c) unit want pad) src (slot 0 place count) (stateOf c) ≡ listOk (length src) place count want unit pad c
 unfolding okForm fitsForm passesEnd formNext listBytes
 list-ok place count want unit pad src c =
-    ap₂ (λ (b : Bool) (k : ℕ). (not (ltb (length src) (place + count * unit)) && b) && leb (c .at + k) 65535)
+    ap₂ (λ (b : Bool) (k : ℕ). (not (ltb (length src) (place + count * unit)) && b) && leb (c .at + k) mostBytes)
     (one (eqb count want || eqb unit 0)) (let e : 0 + count * unit + pad ≡ count * unit + pad = omega arith in e)
   where
     one : (b : Bool) → b && true ≡ b
@@ -244,14 +238,14 @@ pub name-ok : (place count pad : ℕ) (src : List ℕ) (c : Walked)
     → okForm (nameForm (stateOf c) count pad) src (slot 0 place count) (stateOf c) ≡ nameOk src place count pad c
 unfolding okForm fitsForm passesEnd formNext listBytes
 name-ok place count pad src c =
-    ap₂ (λ (b : Bool) (k : ℕ). (not (ltb (length src) (place + count * 1)) && ((b || false) && nonzero (take count (drop place src)))) && leb (c .at + k) 65535)
+    ap₂ (λ (b : Bool) (k : ℕ). (not (ltb (length src) (place + count * 1)) && ((b || false) && nonzero (take count (drop place src)))) && leb (c .at + k) mostBytes)
     (eq-eqb count count refl) (let e : 0 + count * 1 + pad ≡ count * 1 + pad = omega arith in e)
 
-pub pad-ok : (pad : ℕ) (src : List ℕ) (c : Walked) → okForm (blankForm (stateOf c) pad) src (slot 0 0 0) (stateOf c) ≡ leb (c .at + pad) 65535
+pub pad-ok : (pad : ℕ) (src : List ℕ) (c : Walked) → okForm (blankForm (stateOf c) pad) src (slot 0 0 0) (stateOf c) ≡ leb (c .at + pad) mostBytes
 unfolding okForm fitsForm passesEnd formNext listBytes
-pad-ok pad src c = ap (λ (k : ℕ). leb (c .at + k) 65535) (let e : 0 + 0 + pad ≡ pad = omega arith in e)
+pad-ok pad src c = ap (λ (k : ℕ). leb (c .at + k) mostBytes) (let e : 0 + 0 + pad ≡ pad = omega arith in e)
 
-module _ {on : Bool} {sh : Shape} {src ws : List ℕ} {w : ℕ} {c c′ : Walked} (bytesOnly : small src ≡ true) (words : Narrow ws) (m : c .at ≤ 65535) (o : on ≡ true) where
+module _ {on : Bool} {sh : Shape} {src ws : List ℕ} {w : ℕ} {c c′ : Walked} (bytesOnly : small src ≡ true) (words : Narrow ws) (m : c .at ≤ mostBytes) (o : on ≡ true) where
   -- the state after it, where only the place of the form is spelled otherwise
   by-form : {f : Form} {s : Slot} {b : Bool} {at told before : ℕ} → formOn sh ws w c ≡ f → slotOn sh ws w c ≡ s → okForm f src s (stateOf c) ≡ b → formNext f s (stateOf c) .at ≡ at
       → lastTold sh (c .told) (getD (drop w ws) 0 0) ≡ told → beforeTold sh (c .told) (c .before) ≡ before
@@ -267,10 +261,10 @@ module _ {on : Bool} {sh : Shape} {src ws : List ℕ} {w : ℕ} {c c′ : Walked
 
   pub by-plain : {v width top n old told before t k : ℕ} → formOn sh ws w c ≡ numberForm width top false n old → slotOn sh ws w c ≡ slot v 0 0
       → lastTold sh (c .told) (getD (drop w ws) 0 0) ≡ told → beforeTold sh (c .told) (c .before) ≡ before → t ≡ top → k ≡ width
-      → c′ ≡ cond (leb v t && leb (c .at + k) 65535) (walked (c .at + k) n old told before (c .bad)) (refused c) → Tried (item on sh ∷ []) src ws w c c′
+      → c′ ≡ cond (leb v t && leb (c .at + k) mostBytes) (walked (c .at + k) n old told before (c .bad)) (refused c) → Tried (item on sh ∷ []) src ws w c c′
   by-plain {v} {width} {top} {n} {old} {told} {before} ef es et ep q r e =
       by-number ef es et ep
-      (e ∙ rw (q, r) (ap (λ (b : Bool). cond (b && leb (c .at + width) 65535) (walked (c .at + width) n old told before (c .bad)) (refused c)) (sym (one (leb v top)))))
+      (e ∙ rw (q, r) (ap (λ (b : Bool). cond (b && leb (c .at + width) mostBytes) (walked (c .at + width) n old told before (c .bad)) (refused c)) (sym (one (leb v top)))))
     where
       one : (b : Bool) → b && true ≡ b
       one true = refl
@@ -278,10 +272,10 @@ module _ {on : Bool} {sh : Shape} {src ws : List ℕ} {w : ℕ} {c c′ : Walked
 
   pub by-eights : {v width top n old told before t k : ℕ} → formOn sh ws w c ≡ numberForm width top true n old → slotOn sh ws w c ≡ slot v 0 0
       → lastTold sh (c .told) (getD (drop w ws) 0 0) ≡ told → beforeTold sh (c .told) (c .before) ≡ before → t ≡ top → k ≡ width
-      → c′ ≡ cond ((leb v t && eqb ((v % 8 + k) % 8) 0) && leb (c .at + k) 65535) (walked (c .at + k) n old told before (c .bad)) (refused c) → Tried (item on sh ∷ []) src ws w c c′
+      → c′ ≡ cond ((leb v t && eqb ((v % 8 + k) % 8) 0) && leb (c .at + k) mostBytes) (walked (c .at + k) n old told before (c .bad)) (refused c) → Tried (item on sh ∷ []) src ws w c c′
   by-eights {v} {width} {top} {n} {old} {told} {before} ef es et ep q r e =
       by-number ef es et ep
-      (e ∙ rw (q, r) (ap (λ (x : ℕ). cond ((leb v top && eqb x 0) && leb (c .at + width) 65535) (walked (c .at + width) n old told before (c .bad)) (refused c))
+      (e ∙ rw (q, r) (ap (λ (x : ℕ). cond ((leb v top && eqb x 0) && leb (c .at + width) mostBytes) (walked (c .at + width) n old told before (c .bad)) (refused c))
       (let z : (v % 8 + width) % 8 ≡ (v + width) % 8 = omega arith in z)))
 
   pub by-list : {place count want unit pad : ℕ} → formOn sh ws w c ≡ listForm (stateOf c) unit want pad → slotOn sh ws w c ≡ slot 0 place count
@@ -300,7 +294,7 @@ module _ {on : Bool} {sh : Shape} {src ws : List ℕ} {w : ℕ} {c c′ : Walked
 
   pub by-blank : {pad : ℕ} → formOn sh ws w c ≡ blankForm (stateOf c) pad → slotOn sh ws w c ≡ slot 0 0 0
       → lastTold sh (c .told) (getD (drop w ws) 0 0) ≡ c .told → beforeTold sh (c .told) (c .before) ≡ c .before
-      → c′ ≡ cond (leb (c .at + pad) 65535) (stay pad c) (refused c) → Tried (item on sh ∷ []) src ws w c c′
+      → c′ ≡ cond (leb (c .at + pad) mostBytes) (stay pad c) (refused c) → Tried (item on sh ∷ []) src ws w c c′
   unfolding formNext listBytes
   by-blank {pad} ef es et ep e =
       by-form ef es (pad-ok pad src c) (let q : c .at + (0 + 0 + pad) ≡ c .at + pad = omega arith in q) et ep e
@@ -317,7 +311,7 @@ word-after ws w = getD-drop w ws 1 0
 zero-test : (x : ℕ) → leb x 0 ≡ eqb x 0
 zero-test x = same-test (leb x 0) (eqb x 0) (λ e. eq-eqb x 0 (let q = leb-true x 0 e in omega (arith, q))) (λ e. le-leb x 0 (let q = eqb-true x 0 e in omega (arith, q)))
 
-module _ {on : Bool} {sh : Shape} {src ws : List ℕ} {w : ℕ} {c c′ : Walked} (bytesOnly : small src ≡ true) (words : Narrow ws) (m : c .at ≤ 65535) (o : on ≡ false) where
+module _ {on : Bool} {sh : Shape} {src ws : List ℕ} {w : ℕ} {c c′ : Walked} (bytesOnly : small src ≡ true) (words : Narrow ws) (m : c .at ≤ mostBytes) (o : on ≡ false) where
   pub off-number : {v : ℕ} → slotNone sh ws w ≡ slot v 0 0 → c′ ≡ cond (eqb v 0) c (refused c) → Tried (item on sh ∷ []) src ws w c c′
   off-number {v} es e = tried-off bytesOnly words m o (e ∙ sym (rw (es, zero-test v) (go (eqb v 0))))
     where
@@ -336,21 +330,21 @@ module _ {on : Bool} {sh : Shape} {src ws : List ℕ} {w : ℕ} {c c′ : Walked
 times-more : (n k : ℕ) → 1 ≤ k → n ≤ n * k
 times-more n k h = let q = mul-le-mul-left n h in omega (arith, q)
 
-pub list-none : (room place count want unit pad : ℕ) (c : Walked) → 1 ≤ unit → ltb 65535 count || ltb room place ≡ true → false ≡ listOk room place count want unit pad c
-list-none room place count want unit pad c u h = sym (go (ltb 65535 count) refl h)
+pub list-none : (room place count want unit pad : ℕ) (c : Walked) → 1 ≤ unit → ltb mostBytes count || ltb room place ≡ true → false ≡ listOk room place count want unit pad c
+list-none room place count want unit pad c u h = sym (go (ltb mostBytes count) refl h)
   where
-    go : (b : Bool) → ltb 65535 count ≡ b → b || ltb room place ≡ true → listOk room place count want unit pad c ≡ false
+    go : (b : Bool) → ltb mostBytes count ≡ b → b || ltb room place ≡ true → listOk room place count want unit pad c ≡ false
     go true e d =
-        let q = ltb-true 65535 count e in
+        let q = ltb-true mostBytes count e in
         let t = times-more count unit u in
-        rw (lt-leb (c .at + (count * unit + pad)) 65535 (omega (arith, q, t))) (and-false (not (ltb room (place + count * unit)) && (eqb count want || eqb unit 0)))
+        rw (lt-leb (c .at + (count * unit + pad)) mostBytes (omega (arith, q, t))) (and-false (not (ltb room (place + count * unit)) && (eqb count want || eqb unit 0)))
     go false e d = let q = ltb-true room place d in rw (lt-ltb room (place + count * unit) (omega (arith, q)))
 
-pub list-some : (room place count want unit pad : ℕ) (c : Walked) → 1 ≤ unit → ltb 65535 count || ltb room place ≡ false
-    → (leb (count * unit) (room - place) && eqb count want) && leb (c .at + (count * unit + pad)) 65535 ≡ listOk room place count want unit pad c
+pub list-some : (room place count want unit pad : ℕ) (c : Walked) → 1 ≤ unit → ltb mostBytes count || ltb room place ≡ false
+    → (leb (count * unit) (room - place) && eqb count want) && leb (c .at + (count * unit + pad)) mostBytes ≡ listOk room place count want unit pad c
 list-some room place count want unit pad c u h =
-    let p = ltb-false room place (or-false₂ (ltb 65535 count) (ltb room place) h) in
-    ap₂ (λ (a b : Bool). (a && b) && leb (c .at + (count * unit + pad)) 65535)
+    let p = ltb-false room place (or-false₂ (ltb mostBytes count) (ltb room place) h) in
+    ap₂ (λ (a b : Bool). (a && b) && leb (c .at + (count * unit + pad)) mostBytes)
     (same-test (leb (count * unit) (room - place)) (not (ltb room (place + count * unit)))
     (λ e. ap not (le-ltb room (place + count * unit) (let q = leb-true (count * unit) (room - place) e in omega (arith, p, q))))
     (λ e. le-leb (count * unit) (room - place) (let q = ltb-false room (place + count * unit) (not-true (ltb room (place + count * unit)) e) in omega (arith, p, q))))
@@ -360,32 +354,28 @@ list-some room place count want unit pad c u h =
     or-false₂ true b e = no-false (sym e)
     or-false₂ false b e = e
 
-    or-false : (b : Bool) → b || false ≡ b
-    or-false true = refl
-    or-false false = refl
-
 -- the facts of its tests
-pub list-within : (room place count : ℕ) → ltb 65535 count || ltb room place ≡ false → (count ≤ 65535) × (place ≤ room)
-list-within room place count h = go (ltb 65535 count) refl h
+pub list-within : (room place count : ℕ) → ltb mostBytes count || ltb room place ≡ false → (count ≤ mostBytes) × (place ≤ room)
+list-within room place count h = go (ltb mostBytes count) refl h
   where
-    go : (b : Bool) → ltb 65535 count ≡ b → b || ltb room place ≡ false → (count ≤ 65535) × (place ≤ room)
+    go : (b : Bool) → ltb mostBytes count ≡ b → b || ltb room place ≡ false → (count ≤ mostBytes) × (place ≤ room)
     go true e d = no-false (sym d)
-    go false e d = (ltb-false 65535 count e, ltb-false room place d)
+    go false e d = (ltb-false mostBytes count e, ltb-false room place d)
 
-pub name-none : (src : List ℕ) (place count pad : ℕ) (c : Walked) → ltb 65535 count || ltb (length src) place ≡ true → false ≡ nameOk src place count pad c
-name-none src place count pad c h = sym (go (ltb 65535 count) refl h)
+pub name-none : (src : List ℕ) (place count pad : ℕ) (c : Walked) → ltb mostBytes count || ltb (length src) place ≡ true → false ≡ nameOk src place count pad c
+name-none src place count pad c h = sym (go (ltb mostBytes count) refl h)
   where
-    go : (b : Bool) → ltb 65535 count ≡ b → b || ltb (length src) place ≡ true → nameOk src place count pad c ≡ false
+    go : (b : Bool) → ltb mostBytes count ≡ b → b || ltb (length src) place ≡ true → nameOk src place count pad c ≡ false
     go true e d =
-        let q = ltb-true 65535 count e in
-        rw (lt-leb (c .at + (count * 1 + pad)) 65535 (omega (arith, q))) (and-false (not (ltb (length src) (place + count * 1)) && nonzero (take count (drop place src))))
+        let q = ltb-true mostBytes count e in
+        rw (lt-leb (c .at + (count * 1 + pad)) mostBytes (omega (arith, q))) (and-false (not (ltb (length src) (place + count * 1)) && nonzero (take count (drop place src))))
     go false e d = let q = ltb-true (length src) place d in rw (lt-ltb (length src) (place + count * 1) (omega (arith, q)))
 
 pub name-far : (src : List ℕ) (place count pad : ℕ) (c : Walked) → length src < place + count → false ≡ nameOk src place count pad c
 name-far src place count pad c h = rw (lt-ltb (length src) (place + count * 1) (omega (arith, h)))
 
 pub name-some : (src : List ℕ) (place count pad k : ℕ) (b : Bool) (c : Walked) → place + count ≤ length src → b ≡ nonzero (take count (drop place src)) → k ≡ count + pad
-    → b && leb (c .at + k) 65535 ≡ nameOk src place count pad c
+    → b && leb (c .at + k) mostBytes ≡ nameOk src place count pad c
 name-some src place count pad k b c h e q =
     let z : k ≡ count * 1 + pad = omega (arith, q) in
     rw (le-ltb (length src) (place + count * 1) (omega (arith, h)), sym e, z)

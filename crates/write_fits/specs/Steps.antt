@@ -1,5 +1,5 @@
 -- Straight code that tests items one after the other: what each piece leaves, and how two pieces join. Assumes nothing.
-use mathlib.Core.Path.{_≡_, refl, sym, ap, ap₂, _∙_, subst}
+use mathlib.Core.Path.{_≡_, refl, sym, ap, _∙_, subst}
 use mathlib.Core.Bool.{Bool, true, false}
 use Rattle.laws.specs.Bytes.{apart}
 use mathlib.Core.List.{List, [], _∷_, _++_, append-assoc}
@@ -12,9 +12,10 @@ use Rattle.meaning.specs.declared.Shape.{Shape}
 use Rattle.meaning.specs.Items.{cursor}
 use Rattle.meaning.specs.Schema.{item}
 use Rattle.meaning.specs.Writing.{write}
-use Rattle.meaning.specs.Values.{Slot, means, wordsOf, width}
+use Rattle.meaning.specs.Values.{Slot, means, width}
+use Rattle.fills.specs.Chains.{width-append}
 use Rattle.writer_words.specs.declared.Reached.{Reached}
-use Rattle.writer_items.specs.Tries.{unfit}
+use Rattle.writer_items.specs.Tries.{unfit, mostBytes}
 use Rattle.writer_parts.specs.Parts.{tryItems, slotsFrom}
 use Rattle.write_fits.specs.declared.Walked.{Walked}
 
@@ -43,19 +44,14 @@ writeFrom src ws is w c = write is (means src is (slotsAt ws is w c)) (stateOf c
 
 -- past items that fit the walk is what is still to come; a refusal is the walk's, whatever is still to come
 pub record Tried (is : List Item) (src ws : List ℕ) (w : ℕ) (c c′ : Walked) : Type 0 where
-  pub place : c′ .at ≤ 65535
+  pub place : c′ .at ≤ mostBytes
   pub kept : c′ .bad ≡ false → c .bad ≡ false
   pub fits : c′ .bad ≡ false → (js : List Item) → tryFrom src ws (is ++ js) w c ≡ tryFrom src ws js (w + width is) c′
   pub misfits : c .bad ≡ false → c′ .bad ≡ true → (js : List Item) → tryFrom src ws (is ++ js) w c ≡ unfit
 
-pub width-append : (is js : List Item) → width (is ++ js) ≡ width is + width js
-unfolding width
-width-append [] js = omega arith
-width-append (i ∷ is) js = let h = width-append is js in omega (arith, h)
-
 -- ---- one piece after the other
 
-pub tried-none : {src ws : List ℕ} {w : ℕ} {c : Walked} → c .at ≤ 65535 → Tried [] src ws w c c
+pub tried-none : {src ws : List ℕ} {w : ℕ} {c : Walked} → c .at ≤ mostBytes → Tried [] src ws w c c
 unfolding width
 tried-none {src} {ws} {w} {c} h = record {
   place = h;

@@ -7,13 +7,15 @@ ghost use Prim.Native.Nat.{_+_, _-_, _*_, _≤_, _<_};
 ghost use lib.ListN.{length};
 ghost use lib.Dec.{leb, eqb};
 ghost use Rattle.meaning.specs.declared.Shape.the-variants.{Number, Ignored, Count, Size, Times, Earlier, Registers, Filled, Abi, Limit, Listed, Bytes, Pad, Name};
-ghost use Rattle.meaning.specs.Bytes.{ones, nonzero};
 ghost use Rattle.meaning.specs.Items.{bytes};
 ghost use Rattle.meaning.specs.Schema.{item, groupBytes};
-ghost use Rattle.writer_forms.specs.Forms.{top};
+ghost use Rattle.writer_items.specs.Tries.{mostBytes};
 ghost use Rattle.write_fits.specs.Steps.{walked, refused, Tried};
 ghost use Rattle.write_fits.specs.Items.{stay, listOk};
 use meaning::Width;
+
+// A count above this no record has room for: an element has at least one byte.
+const MOST_COUNT: u64 = writer_items::MOST_BYTES as u64;
 
 // The place in the record; the last count and the one before it; the same two as the words tell them, which the abi words do not change; and whether
 // something did not fit.
@@ -42,11 +44,11 @@ fn refuse(c: Walked) -> Walked
 
 // Past so many bytes with these counts where the item fits, unless that lies past every record's end: "a size above 65,528" is 42.
 fn past(c: Walked, fits: bool, k: usize, n: u64, old: u64, told: u64, before: u64) -> Walked
-    requires { ⌜ (c .at ≤ 65535) × (k ≤ 1099511627776) ⌝ }
-    ensures { λ r. ⌜ r ≡ cond (fits && leb (c .at + k) 65535) (walked (c .at + k) n old told before (c .bad)) (refused c) ⌝ }
+    requires { ⌜ (c .at ≤ mostBytes) × (k ≤ 1099511627776) ⌝ }
+    ensures { λ r. ⌜ r ≡ cond (fits && leb (c .at + k) mostBytes) (walked (c .at + k) n old told before (c .bad)) (refused c) ⌝ }
 {
     let at = c.at + k;
-    if fits & (at <= 65535) {
+    if fits & (at <= writer_items::MOST_BYTES) {
         return Walked {
             at,
             n,
@@ -61,8 +63,8 @@ fn past(c: Walked, fits: bool, k: usize, n: u64, old: u64, told: u64, before: u6
 
 // The same, where the counts stay.
 fn over(c: Walked, fits: bool, k: usize) -> Walked
-    requires { ⌜ (c .at ≤ 65535) × (k ≤ 1099511627776) ⌝ }
-    ensures { λ r. ⌜ r ≡ cond (fits && leb (c .at + k) 65535) (stay k c) (refused c) ⌝ }
+    requires { ⌜ (c .at ≤ mostBytes) × (k ≤ 1099511627776) ⌝ }
+    ensures { λ r. ⌜ r ≡ cond (fits && leb (c .at + k) mostBytes) (stay k c) (refused c) ⌝ }
 {
     past(c, fits, k, c.n, c.old, c.told, c.before)
 }
@@ -77,7 +79,7 @@ fn none(c: Walked, v: u64) -> Walked
 // ---- numbers
 
 pub fn number(ws: &[u64], source: &[u8], c: Walked, on: bool, w: usize, width: Width) -> Walked
-    requires { ⌜ (c .at ≤ 65535) × (w + 2 ≤ length (now ws)) ⌝ }
+    requires { ⌜ (c .at ≤ mostBytes) × (w + 2 ≤ length (now ws)) ⌝ }
     ensures { λ r. ⌜ Tried (item on (Number width) ∷ []) (now (source .entry)) (now (ws .entry)) w c r ⌝ }
 {
     let v = ws[w];
@@ -93,7 +95,7 @@ pub fn number(ws: &[u64], source: &[u8], c: Walked, on: bool, w: usize, width: W
 
 // A count leaves the one before it remembered too: TEXT_POKE has two before its two texts.
 pub fn count(ws: &[u64], source: &[u8], c: Walked, on: bool, w: usize, width: Width) -> Walked
-    requires { ⌜ (c .at ≤ 65535) × (w + 2 ≤ length (now ws)) ⌝ }
+    requires { ⌜ (c .at ≤ mostBytes) × (w + 2 ≤ length (now ws)) ⌝ }
     ensures { λ r. ⌜ Tried (item on (Count width) ∷ []) (now (source .entry)) (now (ws .entry)) w c r ⌝ }
 {
     let v = ws[w];
@@ -113,7 +115,7 @@ pub fn count(ws: &[u64], source: &[u8], c: Walked, on: bool, w: usize, width: Wi
 
 // "Raw size plus 4 is a multiple of 8; stack and aux sizes are multiples of 8."
 pub fn size(ws: &[u64], source: &[u8], c: Walked, on: bool, w: usize, width: Width) -> Walked
-    requires { ⌜ (c .at ≤ 65535) × (w + 2 ≤ length (now ws)) ⌝ }
+    requires { ⌜ (c .at ≤ mostBytes) × (w + 2 ≤ length (now ws)) ⌝ }
     ensures { λ r. ⌜ Tried (item on (Size width) ∷ []) (now (source .entry)) (now (ws .entry)) w c r ⌝ }
 {
     let v = ws[w];
@@ -135,7 +137,7 @@ pub fn size(ws: &[u64], source: &[u8], c: Walked, on: bool, w: usize, width: Wid
 
 // "Build id size at most 20."
 pub fn limit(ws: &[u64], source: &[u8], c: Walked, on: bool, w: usize) -> Walked
-    requires { ⌜ (c .at ≤ 65535) × (w + 2 ≤ length (now ws)) ⌝ }
+    requires { ⌜ (c .at ≤ mostBytes) × (w + 2 ≤ length (now ws)) ⌝ }
     ensures { λ r. ⌜ Tried (item on (Limit 20) ∷ []) (now (source .entry)) (now (ws .entry)) w c r ⌝ }
 {
     let v = ws[w];
@@ -146,7 +148,7 @@ pub fn limit(ws: &[u64], source: &[u8], c: Walked, on: bool, w: usize) -> Walked
 }
 
 pub fn abi(ws: &[u64], source: &[u8], c: Walked, on: bool, w: usize, mask: u64) -> Walked
-    requires { ⌜ (c .at ≤ 65535) × (w + 2 ≤ length (now ws)) ⌝ }
+    requires { ⌜ (c .at ≤ mostBytes) × (w + 2 ≤ length (now ws)) ⌝ }
     ensures { λ r. ⌜ Tried (item on (Abi mask) ∷ []) (now (source .entry)) (now (ws .entry)) w c r ⌝ }
 {
     let v = ws[w];
@@ -166,7 +168,7 @@ pub fn abi(ws: &[u64], source: &[u8], c: Walked, on: bool, w: usize, mask: u64) 
 
 // "Filled length at most stack size"; a stack of size 0 has none.
 pub fn filled(ws: &[u64], source: &[u8], c: Walked, on: bool, w: usize) -> Walked
-    requires { ⌜ (c .at ≤ 65535) × (w + 2 ≤ length (now ws)) ⌝ }
+    requires { ⌜ (c .at ≤ mostBytes) × (w + 2 ≤ length (now ws)) ⌝ }
     ensures { λ r. ⌜ Tried (item on Filled ∷ []) (now (source .entry)) (now (ws .entry)) w c r ⌝ }
 {
     let v = ws[w];
@@ -181,7 +183,7 @@ pub fn filled(ws: &[u64], source: &[u8], c: Walked, on: bool, w: usize) -> Walke
 
 // So many bytes that say nothing: no word.
 pub fn ignored(ws: &[u64], source: &[u8], c: Walked, on: bool, w: usize, k: usize) -> Walked
-    requires { ⌜ (c .at ≤ 65535) × (k ≤ 8) ⌝ }
+    requires { ⌜ (c .at ≤ mostBytes) × (k ≤ 8) ⌝ }
     ensures { λ r. ⌜ Tried (item on (Ignored k) ∷ []) (now (source .entry)) (now (ws .entry)) w c r ⌝ }
 {
     if !on {
@@ -192,7 +194,7 @@ pub fn ignored(ws: &[u64], source: &[u8], c: Walked, on: bool, w: usize, k: usiz
 
 // Up to the next multiple of 8: no word.
 pub fn pad(ws: &[u64], source: &[u8], c: Walked, on: bool, w: usize) -> Walked
-    requires { ⌜ c .at ≤ 65535 ⌝ }
+    requires { ⌜ c .at ≤ mostBytes ⌝ }
     ensures { λ r. ⌜ Tried (item on Pad ∷ []) (now (source .entry)) (now (ws .entry)) w c r ⌝ }
 {
     if !on {
@@ -215,11 +217,11 @@ fn list(
     unit: usize,
     pad: usize,
 ) -> Walked
-    requires { ⌜ (c .at ≤ 65535) × (1 ≤ unit) × (unit ≤ 4096) × (pad ≤ 4096) ⌝ }
+    requires { ⌜ (c .at ≤ mostBytes) × (1 ≤ unit) × (unit ≤ 4096) × (pad ≤ 4096) ⌝ }
     ensures { λ r. ⌜ r ≡ cond (listOk room place count want unit pad c) (stay (count * unit + pad) c) (refused c) ⌝ }
 {
     let from = place as usize;
-    if (65535 < count) | (room < from) {
+    if (MOST_COUNT < count) | (room < from) {
         return refuse(c);
     }
     let bytes = count as usize * unit;
@@ -228,7 +230,7 @@ fn list(
 
 // As many elements of k bytes as the last count says.
 pub fn times(ws: &[u64], source: &[u8], c: Walked, on: bool, w: usize, k: usize) -> Walked
-    requires { ⌜ (c .at ≤ 65535) × (w + 2 ≤ length (now ws)) × (1 ≤ k) × (k ≤ 4096) ⌝ }
+    requires { ⌜ (c .at ≤ mostBytes) × (w + 2 ≤ length (now ws)) × (1 ≤ k) × (k ≤ 4096) ⌝ }
     ensures { λ r. ⌜ Tried (item on (Times k) ∷ []) (now (source .entry)) (now (ws .entry)) w c r ⌝ }
 {
     if !on {
@@ -239,7 +241,7 @@ pub fn times(ws: &[u64], source: &[u8], c: Walked, on: bool, w: usize, k: usize)
 
 // The entries of a group, by the read format.
 pub fn values(ws: &[u64], source: &[u8], c: Walked, on: bool, w: usize, f: u64) -> Walked
-    requires { ⌜ (c .at ≤ 65535) × (w + 2 ≤ length (now ws)) ⌝ }
+    requires { ⌜ (c .at ≤ mostBytes) × (w + 2 ≤ length (now ws)) ⌝ }
     ensures { λ r. ⌜ Tried (item on (Times (groupBytes f)) ∷ []) (now (source .entry)) (now (ws .entry)) w c r ⌝ }
 {
     times(ws, source, c, on, w, fills::group_bytes(f))
@@ -247,7 +249,7 @@ pub fn values(ws: &[u64], source: &[u8], c: Walked, on: bool, w: usize, f: u64) 
 
 // As many bytes as the count before the last one says.
 pub fn earlier(ws: &[u64], source: &[u8], c: Walked, on: bool, w: usize) -> Walked
-    requires { ⌜ (c .at ≤ 65535) × (w + 2 ≤ length (now ws)) ⌝ }
+    requires { ⌜ (c .at ≤ mostBytes) × (w + 2 ≤ length (now ws)) ⌝ }
     ensures { λ r. ⌜ Tried (item on (Earlier 1) ∷ []) (now (source .entry)) (now (ws .entry)) w c r ⌝ }
 {
     if !on {
@@ -258,7 +260,7 @@ pub fn earlier(ws: &[u64], source: &[u8], c: Walked, on: bool, w: usize) -> Walk
 
 // Registers, their count in the next word.
 pub fn registers(ws: &[u64], source: &[u8], c: Walked, on: bool, w: usize) -> Walked
-    requires { ⌜ (c .at ≤ 65535) × (w + 2 ≤ length (now ws)) ⌝ }
+    requires { ⌜ (c .at ≤ mostBytes) × (w + 2 ≤ length (now ws)) ⌝ }
     ensures { λ r. ⌜ Tried (item on Registers ∷ []) (now (source .entry)) (now (ws .entry)) w c r ⌝ }
 {
     let count = ws[w + 1];
@@ -270,7 +272,7 @@ pub fn registers(ws: &[u64], source: &[u8], c: Walked, on: bool, w: usize) -> Wa
 
 // The bytes of a build id, as many as its size word says, and zero bytes up to twenty.
 pub fn listed(ws: &[u64], source: &[u8], c: Walked, on: bool, w: usize) -> Walked
-    requires { ⌜ (c .at ≤ 65535) × (w + 2 ≤ length (now ws)) ⌝ }
+    requires { ⌜ (c .at ≤ mostBytes) × (w + 2 ≤ length (now ws)) ⌝ }
     ensures { λ r. ⌜ Tried (item on (Listed 20) ∷ []) (now (source .entry)) (now (ws .entry)) w c r ⌝ }
 {
     if !on {
@@ -282,7 +284,7 @@ pub fn listed(ws: &[u64], source: &[u8], c: Walked, on: bool, w: usize) -> Walke
 
 // The tag of BPF_EVENT, its count in the next word.
 pub fn bytes(ws: &[u64], source: &[u8], c: Walked, on: bool, w: usize) -> Walked
-    requires { ⌜ (c .at ≤ 65535) × (w + 2 ≤ length (now ws)) ⌝ }
+    requires { ⌜ (c .at ≤ mostBytes) × (w + 2 ≤ length (now ws)) ⌝ }
     ensures { λ r. ⌜ Tried (item on (Bytes 8) ∷ []) (now (source .entry)) (now (ws .entry)) w c r ⌝ }
 {
     let count = ws[w + 1];
@@ -296,7 +298,7 @@ pub fn bytes(ws: &[u64], source: &[u8], c: Walked, on: bool, w: usize) -> Walked
 
 // A name has no zero in it; its zero, and zero bytes up to the next multiple of 8, follow it.
 pub fn name(ws: &[u64], source: &[u8], c: Walked, on: bool, w: usize) -> Walked
-    requires { ⌜ (c .at ≤ 65535) × (w + 2 ≤ length (now ws)) ⌝ }
+    requires { ⌜ (c .at ≤ mostBytes) × (w + 2 ≤ length (now ws)) ⌝ }
     ensures { λ r. ⌜ Tried (item on Name ∷ []) (now (source .entry)) (now (ws .entry)) w c r ⌝ }
 {
     let count = ws[w + 1];
@@ -305,7 +307,7 @@ pub fn name(ws: &[u64], source: &[u8], c: Walked, on: bool, w: usize) -> Walked
     }
     let room = source.len();
     let from = ws[w] as usize;
-    if (65535 < count) | (room < from) {
+    if (MOST_COUNT < count) | (room < from) {
         return refuse(c);
     }
     let many = count as usize;

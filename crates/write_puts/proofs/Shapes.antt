@@ -13,20 +13,20 @@ use Rattle.meaning.specs.declared.Item.{Item}
 use Rattle.meaning.specs.declared.Shape.{Shape}
 use Rattle.meaning.specs.Bytes.{small, nonzero, spell, zeros, put}
 use Rattle.meaning.specs.Schema.{item}
-use Rattle.meaning.specs.Writing.{emit, next, write}
-use Rattle.meaning.specs.Values.{Slot, slot, held, means, wordsOf, width, slotTold, lastTold, beforeTold}
+use Rattle.meaning.specs.Writing.{write}
+use Rattle.meaning.specs.Values.{Slot, slot, means, wordsOf, width, lastTold, beforeTold}
 use Rattle.laws.specs.Bytes.{apart, and-true}
 use Rattle.laws.specs.Put.{put-nil, put-put, length-put}
-use Rattle.writer_words.specs.Tellings.{givenSlot, reachedAfter}
+use Rattle.writer_words.specs.Tellings.{reachedAfter}
 use Rattle.writer_forms.specs.declared.Form.{Form}
-use Rattle.writer_forms.specs.Forms.{form, blankForm, numberForm, listForm, nameForm, fitsForm, passesEnd, listBytes, formBytes, formNext}
+use Rattle.writer_forms.specs.Forms.{form, blankForm, numberForm, listForm, nameForm, listBytes, formBytes, formNext}
+use Rattle.writer_items.specs.Tries.{mostBytes}
 use Rattle.writer_items.specs.Fitting.{bytes-is, next-is, passes-is, form-length}
-use Rattle.writer_items.specs.Tries.{unfit}
-use Rattle.writer_parts.specs.Parts.{tryItems, slotsFrom}
+use Rattle.writer_parts.specs.Parts.{slotsFrom}
 use Rattle.writer_parts.specs.Turns.{slots-next, tried-at}
 use Rattle.write_fits.specs.declared.Walked.{Walked}
 use Rattle.write_fits.specs.Steps.{walked, stateOf, toldTo, slotsAt, tryFrom, writeFrom}
-use Rattle.write_fits.specs.Items.{okForm, ok-parts, slotHere, formHere, pastHere, fitsHere, walk-fits, walk-misfits, slotOn, formOn, pastOn, okOn, Narrow, num-narrow, stay, numberOk, listOk, nameOk, number-ok, list-ok, name-ok, pad-ok}
+use Rattle.write_fits.specs.Items.{okForm, ok-parts, slotHere, formHere, pastHere, fitsHere, walk-fits, walk-misfits, slotOn, formOn, pastOn, okOn, Narrow, num-narrow, stay, listOk, nameOk, number-ok, list-ok, name-ok, pad-ok}
 use Rattle.write_puts.specs.Puts.{Ready, Placed}
 
 -- the place after the items never lies before their start
@@ -144,10 +144,10 @@ module _ {on : Bool} {sh : Shape} {src ws : List ℕ} {w : ℕ} {c : Walked} {b 
       unfolding formNext listBytes
       number-room = let h = room-by ef es in omega (arith, h)
 
-      pub number-most : c .at + width ≤ 65535
+      pub number-most : c .at + width ≤ mostBytes
       number-most =
           let h = sym (number-ok v width top n old eights src c) ∙ fits-by ef es in
-          leb-true (c .at + width) 65535 (and-true (leb v top && cond eights (eqb ((v + width) % 8) 0) true) (leb (c .at + width) 65535) h .1)
+          leb-true (c .at + width) mostBytes (and-true (leb v top && cond eights (eqb ((v + width) % 8) 0) true) (leb (c .at + width) mostBytes) h .1)
 
       pub number-put : {told before : ℕ} {b′ : List ℕ} {c′ : Walked} → lastTold sh (c .told) (getD (drop w ws) 0 0) ≡ told → beforeTold sh (c .told) (c .before) ≡ before
           → b′ ≡ put b (c .at) (spell width v) → c′ ≡ walked (c .at + width) n old told before (c .bad) → Placed (item on sh ∷ []) src ws w c b b′ c′
@@ -167,8 +167,8 @@ module _ {on : Bool} {sh : Shape} {src ws : List ℕ} {w : ℕ} {c : Walked} {b 
           let p = and-true (not (ltb (length src) (place + count * unit)) && (eqb count want || eqb unit 0)) _ list-tests .0 in
           ltb-false (length src) (place + count * unit) (not-true _ (and-true (not (ltb (length src) (place + count * unit))) _ p .0))
 
-      pub list-most : c .at + (count * unit + pad) ≤ 65535
-      list-most = leb-true _ 65535 (and-true (not (ltb (length src) (place + count * unit)) && (eqb count want || eqb unit 0)) (leb (c .at + (count * unit + pad)) 65535) list-tests .1)
+      pub list-most : c .at + (count * unit + pad) ≤ mostBytes
+      list-most = leb-true _ mostBytes (and-true (not (ltb (length src) (place + count * unit)) && (eqb count want || eqb unit 0)) (leb (c .at + (count * unit + pad)) mostBytes) list-tests .1)
 
       pub list-room : c .at + (count * unit + pad) ≤ length b
       unfolding formNext listBytes
@@ -192,10 +192,7 @@ module _ {on : Bool} {sh : Shape} {src ws : List ℕ} {w : ℕ} {c : Walked} {b 
           go false e h = absurd (apart h)
 
     module _ {place count unit want : ℕ} (ef : formOn sh ws w c ≡ listForm (stateOf c) unit want 0) (es : slotOn sh ws w c ≡ slot 0 place count) where
-      pub bare-room : c .at + count * unit ≤ length b
-      bare-room = let h = list-room ef es in omega (arith, h)
-
-      pub bare-most : c .at + count * unit ≤ 65535
+      pub bare-most : c .at + count * unit ≤ mostBytes
       bare-most = let h = list-most ef es in omega (arith, h)
 
       pub bare-put : {b′ : List ℕ} {c′ : Walked} → lastTold sh (c .told) (getD (drop w ws) 0 0) ≡ c .told → beforeTold sh (c .told) (c .before) ≡ c .before
@@ -212,9 +209,9 @@ module _ {on : Bool} {sh : Shape} {src ws : List ℕ} {w : ℕ} {c : Walked} {b 
           let p = and-true (not (ltb (length src) (place + count * 1)) && nonzero (take count (drop place src))) _ name-tests .0 in
           ltb-false (length src) (place + count * 1) (not-true _ (and-true (not (ltb (length src) (place + count * 1))) _ p .0))
 
-      pub name-most : c .at + (count * 1 + pad) ≤ 65535
+      pub name-most : c .at + (count * 1 + pad) ≤ mostBytes
       name-most =
-          leb-true _ 65535 (and-true (not (ltb (length src) (place + count * 1)) && nonzero (take count (drop place src))) (leb (c .at + (count * 1 + pad)) 65535) name-tests .1)
+          leb-true _ mostBytes (and-true (not (ltb (length src) (place + count * 1)) && nonzero (take count (drop place src))) (leb (c .at + (count * 1 + pad)) mostBytes) name-tests .1)
 
       pub name-room : c .at + (count * 1 + pad) ≤ length b
       unfolding formNext listBytes
@@ -229,12 +226,8 @@ module _ {on : Bool} {sh : Shape} {src ws : List ℕ} {w : ℕ} {c : Walked} {b 
 
     -- zero bytes
     module _ {pad : ℕ} (ef : formOn sh ws w c ≡ blankForm (stateOf c) pad) (es : slotOn sh ws w c ≡ slot 0 0 0) where
-      pub blank-room : c .at + pad ≤ length b
-      unfolding formNext listBytes
-      blank-room = let h = room-by ef es in omega (arith, h)
-
-      pub blank-most : c .at + pad ≤ 65535
-      blank-most = leb-true _ 65535 (sym (pad-ok pad src c) ∙ fits-by ef es)
+      pub blank-most : c .at + pad ≤ mostBytes
+      blank-most = leb-true _ mostBytes (sym (pad-ok pad src c) ∙ fits-by ef es)
 
       pub blank-put : {b′ : List ℕ} {c′ : Walked} → lastTold sh (c .told) (getD (drop w ws) 0 0) ≡ c .told → beforeTold sh (c .told) (c .before) ≡ c .before
           → b′ ≡ put b (c .at) (zeros pad) → c′ ≡ stay pad c → Placed (item on sh ∷ []) src ws w c b b′ c′

@@ -1,12 +1,11 @@
 -- Numbers put byte by byte. Assumes nothing.
-use mathlib.Core.Path.{_≡_, refl, sym, ap, ap₂, _∙_}
-use mathlib.Core.List.{List, [], _∷_, _++_, append-assoc}
-use Prim.Native.Nat.{ℕ, _+_, _-_, _/_, _%_, _≤_, _<_}
+use mathlib.Core.Path.{_≡_, sym, ap, ap₂, _∙_}
+use mathlib.Core.List.{List, [], _∷_, _++_}
+use Prim.Native.Nat.{ℕ, _+_, _/_, _%_, _≤_}
 use native.Mathlib.Omega.{arith}
-use lib.ListN.{length, take, drop, set, length-append, length-drop}
+use lib.ListN.{length, take, drop, set, length-drop}
 use lib.Seq.{length-take-le}
 use Rattle.meaning.specs.Bytes.{spell, put}
-use Rattle.laws.specs.Bytes.{length-spell}
 use Rattle.laws.specs.Put.{put-one, put-snoc, put-put}
 
 pub put-byte : (d : List ℕ) (at x : ℕ) → at + 1 ≤ length d → set d at (x % 256) ≡ put d at (spell 1 x)
@@ -33,16 +32,6 @@ unfolding spell
 halves8 x =
     let a : x / 4294967296 ≡ x / 256 / 256 / 256 / 256 = omega arith in
     ap (λ (y : ℕ). x % 256 ∷ x / 256 % 256 ∷ x / 256 / 256 % 256 ∷ x / 256 / 256 / 256 % 256 ∷ y % 256 ∷ y / 256 % 256 ∷ y / 256 / 256 % 256 ∷ y / 256 / 256 / 256 % 256 ∷ []) a
-
-pub put-header : (kind misc size : ℕ) (b b₁ b₂ b₃ : List ℕ) → 8 ≤ length b → b₁ ≡ put b 0 (spell 4 kind) → b₂ ≡ put b₁ 4 (spell 2 misc) → b₃ ≡ put b₂ 6 (spell 2 size)
-    → b₃ ≡ put b 0 (spell 4 kind ++ (spell 2 misc ++ spell 2 size))
-put-header kind misc size b b₁ b₂ b₃ h e₁ e₂ e₃ =
-    let lK = length-spell 4 kind in
-    let lM = length-spell 2 misc in
-    let lS = length-spell 2 size in
-    let lA = length-append (spell 4 kind) (spell 2 misc) in
-    two-puts b b₂ b₃ 0 6 (spell 4 kind ++ spell 2 misc) (spell 2 size) _ (omega (arith, lK, lM, lA))
-    (two-puts b b₁ b₂ 0 4 (spell 4 kind) (spell 2 misc) _ lK e₁ e₂ (omega (arith, lM, h)) refl) e₃ (omega (arith, lS, h)) (append-assoc (spell 4 kind) (spell 2 misc) (spell 2 size))
 
 -- a part that lies inside
 pub part-long : (src : List ℕ) (place n : ℕ) → place + n ≤ length src → length (take n (drop place src)) ≡ n

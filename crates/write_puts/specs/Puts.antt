@@ -1,5 +1,5 @@
 -- Straight code that puts the bytes of items one after the other: what it asks for, what it leaves, and how two pieces join. Assumes nothing.
-use mathlib.Core.Path.{_≡_, refl, sym, ap, ap₂, _∙_, subst}
+use mathlib.Core.Path.{_≡_, refl, sym, ap, _∙_, subst}
 use mathlib.Core.Bool.{Bool}
 use mathlib.Core.List.{List, [], _∷_, _++_, append-assoc, append-nil}
 use Prim.Native.Nat.{ℕ, _+_, _≤_}
@@ -12,11 +12,12 @@ use Rattle.meaning.specs.declared.Shape.{Shape}
 use Rattle.meaning.specs.Bytes.{put}
 use Rattle.meaning.specs.Schema.{item}
 use Rattle.meaning.specs.Writing.{write}
-use Rattle.meaning.specs.Values.{means, wordsOf, width}
+use Rattle.meaning.specs.Values.{wordsOf, width}
 use Rattle.laws.specs.Put.{put-nil}
-use Rattle.writer_parts.specs.Parts.{tryItems, slotsFrom}
+use Rattle.writer_parts.specs.Parts.{tryItems}
 use Rattle.write_fits.specs.declared.Walked.{Walked}
-use Rattle.write_fits.specs.Steps.{stateOf, tryFrom, writeFrom, width-append}
+use Rattle.fills.specs.Chains.{width-append}
+use Rattle.write_fits.specs.Steps.{tryFrom, writeFrom}
 
 -- the items fit, with what comes after them, and there is room for all of it
 pub record Ready (is : List Item) (src ws : List ℕ) (w : ℕ) (c : Walked) (b : List ℕ) : Type 0 where

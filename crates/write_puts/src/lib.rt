@@ -8,6 +8,7 @@ ghost use Rattle.meaning.specs.declared.Shape.the-variants.{Number, Ignored, Co
 ghost use Rattle.meaning.specs.Bytes.{spell, zeros, put};
 ghost use Rattle.meaning.specs.Items.{bytes};
 ghost use Rattle.meaning.specs.Schema.{item, groupBytes};
+ghost use Rattle.writer_items.specs.Tries.{mostBytes};
 ghost use Rattle.write_fits.specs.Items.{stay};
 ghost use Rattle.write_puts.specs.Puts.{Ready, Placed};
 use meaning::Width;
@@ -71,7 +72,7 @@ fn store(d: &mut [u8], at: usize, x: u64, width: Width)
 
 // Past so many bytes; the counts stay as they are.
 fn past(c: Walked, k: usize) -> Walked
-    requires { ⌜ c .at + k ≤ 65535 ⌝ }
+    requires { ⌜ c .at + k ≤ mostBytes ⌝ }
     ensures { λ r. ⌜ r ≡ stay k c ⌝ }
 {
     let at = c.at;

@@ -1,9 +1,9 @@
 -- The loop that tests: one item, all of them, and what its end says of `fits`. Assumes nothing.
 use mathlib.Core.Path.{_≡_, sym, ap, _∙_}
-use Prim.Native.Nat.{ℕ, _+_, _-_, _*_, _^_, _<_, _≤_}
+use Prim.Native.Nat.{ℕ, _+_, _*_, _^_, _<_, _≤_}
 use native.Mathlib.Nat.{mul-one}
 use native.Mathlib.Omega.{arith}
-use mathlib.Core.Bool.{Bool, true, false, cond}
+use mathlib.Core.Bool.{Bool, true, false, cond, and-false}
 use mathlib.Core.List.{List}
 use lib.ListN.{length}
 use lib.Dec.{leb}
@@ -15,8 +15,8 @@ use Rattle.meaning.specs.Items.{cursor}
 use Rattle.meaning.specs.Values.{Slot, beyond}
 use Rattle.writer_forms.specs.declared.Form.{Form}
 use Rattle.writer_forms.specs.Forms.{form, fitsForm, passesEnd, listBytes, formNext}
-use Rattle.writer_items.specs.Tries.{unfit, fitsItem, good, tryItem}
-use Rattle.writer_items.specs.Fitting.{inside-source, and-false, fits-is, next-is, passes-is, width-most, name-lists}
+use Rattle.writer_items.specs.Tries.{unfit, fitsItem, good, tryItem, mostBytes}
+use Rattle.writer_items.specs.Fitting.{inside-source, fits-is, next-is, passes-is, width-most, name-lists}
 
 -- ---- one item
 
@@ -31,22 +31,22 @@ module _ (src : List ℕ) (i : Item) (s : Slot) (c : Cursor) where
     try-misfit f = rw (fits-is i c src s bytesOnly narrow o, f)
 
     pub try-fit : fitsForm (form i c s) src s ≡ true
-        → cond (leb (formNext (form i c s) s c .at) 65535) (formNext (form i c s) s c) unfit ≡ tryItem src i s c
+        → cond (leb (formNext (form i c s) s c .at) mostBytes) (formNext (form i c s) s c) unfit ≡ tryItem src i s c
     unfolding tryItem good
     try-fit f = rw (fits-is i c src s bytesOnly narrow o, f, o, next-is i c src s f o)
 
 -- ---- the place after it, as the code adds it up
 
 module _ (f : Form) (s : Slot) (c : Cursor) (bytes : ℕ) (e : bytes ≡ listBytes f s) where
-  pub past-end : 65535 < c .at + (f .width + bytes + f .pad) → unfit ≡ cond (leb (formNext f s c .at) 65535) (formNext f s c) unfit
+  pub past-end : mostBytes < c .at + (f .width + bytes + f .pad) → unfit ≡ cond (leb (formNext f s c .at) mostBytes) (formNext f s c) unfit
   unfolding formNext
-  past-end h = rw (lt-leb (c .at + (f .width + listBytes f s + f .pad)) 65535 (omega (arith, h, e)))
+  past-end h = rw (lt-leb (c .at + (f .width + listBytes f s + f .pad)) mostBytes (omega (arith, h, e)))
 
-  pub before-end : c .at + (f .width + bytes + f .pad) ≤ 65535
-      → cursor (c .at + (f .width + bytes + f .pad)) (f .n) (f .old) (c .why) ≡ cond (leb (formNext f s c .at) 65535) (formNext f s c) unfit
+  pub before-end : c .at + (f .width + bytes + f .pad) ≤ mostBytes
+      → cursor (c .at + (f .width + bytes + f .pad)) (f .n) (f .old) (c .why) ≡ cond (leb (formNext f s c .at) mostBytes) (formNext f s c) unfit
   unfolding formNext
   before-end h =
-      rw (le-leb (c .at + (f .width + listBytes f s + f .pad)) 65535 (omega (arith, h, e)))
+      rw (le-leb (c .at + (f .width + listBytes f s + f .pad)) mostBytes (omega (arith, h, e)))
       (ap (λ (n : ℕ). cursor (c .at + (f .width + n + f .pad)) (f .n) (f .old) (c .why)) e)
 
 pub list-on : (f : Form) (s : Slot) → f .list ≡ true → s .count * f .unit ≡ listBytes f s

@@ -4,7 +4,7 @@ use mathlib.Core.Path.{_≡_, refl, sym, ap, _∙_}
 use Prim.Native.Nat.{ℕ, zero, suc, _+_, _-_, _*_, _%_, _^_, _<_, _≤_}
 use native.Mathlib.Nat.{add-zero, mul-one, eq-of-mul-eq-mul-right}
 use native.Mathlib.Omega.{arith}
-use mathlib.Core.Bool.{Bool, true, false, cond, _&&_, _||_}
+use mathlib.Core.Bool.{Bool, true, false, cond, _&&_, _||_, or-true, or-false}
 use mathlib.Core.List.{List, [], _∷_, _++_, append-nil}
 use lib.ListN.{length, take, drop, getD, length-append, length-drop, length-replicate}
 use lib.Seq.{length-take-le}
@@ -75,14 +75,6 @@ zero-test x = same-test (eqb x 0) (leb x 0) (λ e. le-leb x 0 (let q = eqb-true 
 blanks : (x n : ℕ) → blank (con x (zeros n)) ≡ (leb x 0 && true) && ((eqb n 0 || false) && true)
 unfolding blank
 blanks x n = rw (length-replicate {A = ℕ} n 0, zero-test x) (plain (leb x 0) (eqb n 0))
-
-or-true : (b : Bool) → b || true ≡ true
-or-true true = refl
-or-true false = refl
-
-or-false : (b : Bool) → b || false ≡ b
-or-false true = refl
-or-false false = refl
 
 and-one : (a b : Bool) → a && b ≡ (a && true) && b
 and-one true b = refl
@@ -355,7 +347,3 @@ pub small-of : (xs : List ℕ) → ((i : ℕ) → Fits w8 (getD xs i 0)) → sma
 unfolding small
 small-of [] h = refl
 small-of (x ∷ xs) h = true-and (ltb x 256) (small xs) (lt-ltb x 256 (h 0 .fits)) (small-of xs (λ i. h (suc i)))
-
-pub and-false : (b : Bool) → b && false ≡ false
-and-false true = refl
-and-false false = refl

@@ -1,2 +1,3 @@
 pub mod Tries
 pub mod Fitting
+pub mod Header

@@ -10,6 +10,10 @@ use Rattle.meaning.specs.Items.{cursor}
 use Rattle.meaning.specs.Writing.{blank, fitShape, next}
 use Rattle.meaning.specs.Values.{Slot, held, beyond}
 
+-- the most that the two bytes of a record's size can say: no item ends past it
+abbrev pub mostBytes : ℕ
+mostBytes = 65535
+
 -- no state of a writer: 42
 abbrev pub unfit : Cursor
 unfit = cursor 0 0 0 42
@@ -18,7 +22,7 @@ abbrev pub fitsItem : List ℕ → Item → Slot → Cursor → Bool
 fitsItem src i s c = cond (i .on) (fitShape (i .shape) c (held src i s)) (blank (held src i s))
 
 unfoldable pub good : List ℕ → Item → Slot → Cursor → Bool
-good src i s c = fitsItem src i s c && (not (beyond src i s) && leb (next i (held src i s) c .at) 65535)
+good src i s c = fitsItem src i s c && (not (beyond src i s) && leb (next i (held src i s) c .at) mostBytes)
 
 unfoldable pub tryItem : List ℕ → Item → Slot → Cursor → Cursor
 tryItem src i s c = cond (good src i s c) (next i (held src i s) c) unfit

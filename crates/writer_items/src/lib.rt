@@ -8,11 +8,14 @@ ghost use Rattle.meaning.specs.Bytes.{nonzero, put};
 ghost use Rattle.meaning.specs.Values.{beyond};
 ghost use Rattle.writer_words.specs.Tellings.{slotOf};
 ghost use Rattle.writer_forms.specs.Forms.{fitsForm, passesEnd, listBytes, formBytes, formNext};
-ghost use Rattle.writer_items.specs.Tries.{unfit, tryItem};
+ghost use Rattle.writer_items.specs.Tries.{unfit, tryItem, mostBytes};
 use meaning::Cursor;
 use meaning::Item;
 use writer_forms::Form;
 use writer_words::Given;
+
+// The most that the two bytes of a record's size can say: no item ends past it.
+pub const MOST_BYTES: usize = 65535;
 
 // "41 if a selected list or name, by place plus bytes unwrapped, passes the lent source's end": the place is subtracted and
 // the count compared with a quotient, so that nothing wraps.
@@ -106,18 +109,18 @@ fn list_bytes(f: Form, s: Given) -> usize
 
 // The state after an item, or none where it would lie past every record's end: "a size above 65,528" is 42.
 pub fn advance(f: Form, s: Given, c: Cursor) -> Cursor
-    requires { ⌜ (c .at ≤ 65535) × (f .width ≤ 8) × (f .list ≡ true → s .count * f .unit < 2 ^ 63) ⌝ }
-    ensures { λ r. ⌜ r ≡ cond (leb (formNext f (slotOf s) c .at) 65535) (formNext f (slotOf s) c) unfit ⌝ }
+    requires { ⌜ (c .at ≤ mostBytes) × (f .width ≤ 8) × (f .list ≡ true → s .count * f .unit < 2 ^ 63) ⌝ }
+    ensures { λ r. ⌜ r ≡ cond (leb (formNext f (slotOf s) c .at) mostBytes) (formNext f (slotOf s) c) unfit ⌝ }
 {
     let bytes = list_bytes(f, s);
-    if 65535 < bytes {
+    if MOST_BYTES < bytes {
         return unfit();
     }
-    if 65535 < f.pad {
+    if MOST_BYTES < f.pad {
         return unfit();
     }
     let end = c.at + (f.width + bytes + f.pad);
-    if 65535 < end {
+    if MOST_BYTES < end {
         return unfit();
     }
     Cursor {
@@ -129,7 +132,7 @@ pub fn advance(f: Form, s: Given, c: Cursor) -> Cursor
 }
 
 pub fn try_item(source: &[u8], i: Item, c: Cursor, s: Given) -> Cursor
-    requires { ⌜ c .at ≤ 65535 ⌝ }
+    requires { ⌜ c .at ≤ mostBytes ⌝ }
     ensures { λ r. ⌜ r ≡ tryItem (now (source .entry)) i (slotOf s) c ⌝ }
 {
     let f = writer_forms::of_item(i, c, s);

@@ -1,6 +1,6 @@
 -- Turns of the loop that puts: the bytes still to come, put where the state says, make the whole. Assumes nothing.
 use mathlib.Core.Path.{_≡_, sym, ap, ap₂, _∙_, subst}
-use Prim.Native.Nat.{ℕ, _+_, _-_, _^_, _<_, _≤_}
+use Prim.Native.Nat.{ℕ, _+_, _^_, _<_, _≤_}
 use native.Mathlib.Omega.{arith}
 use mathlib.Core.Bool.{Bool, true, false, cond}
 use mathlib.Core.List.{List, [], _++_}
@@ -20,7 +20,7 @@ use Rattle.writer_parts.specs.declared.TypePart.{TypePart}
 use Rattle.writer_words.specs.declared.Reached.{Reached}
 use Rattle.writer_forms.specs.Forms.{form, fitsForm, passesEnd, listBytes, formBytes, formNext}
 use Rattle.writer_words.specs.Tellings.{givenSlot, reachedAfter}
-use Rattle.writer_items.specs.Tries.{unfit, good}
+use Rattle.writer_items.specs.Tries.{unfit, good, mostBytes}
 use Rattle.writer_parts.specs.Parts.{tryItems, itemHere, itemsFrom, slotsFrom}
 use Rattle.writer_items.specs.Fitting.{fits-is, bytes-is, next-is, passes-is, width-most, form-length}
 use Rattle.writer_parts.specs.Turns.{tried-at, toCome, one-on, none-on, Within, within-on, good-parts, no-state, tried}
@@ -38,7 +38,7 @@ module _ (src ws : List ℕ) (p : TypePart) (first : Reached) (start : Cursor) (
     pub room : ends k t c .at ≤ length b₀
     pub long : length b ≡ length b₀
     pub within : Within p k t
-    pub place : c .at ≤ 65535
+    pub place : c .at ≤ mostBytes
 
   module _ (k : ℕ) (t : Reached) (c : Cursor) (b : List ℕ) (l : Putting k t c b) where
     module _ (i : Item) (s : Slot) (f : Form) (eᵢ : i ≡ itemHere p k) (eₛ : s ≡ givenSlot ws t i) (e : f ≡ form i c s) (h : k < p .to) (m : p .to ≤ allRows)
@@ -64,7 +64,7 @@ module _ (src ws : List ℕ) (p : TypePart) (first : Reached) (start : Cursor) (
         pub room : c .at + (f .width + listBytes f s + f .pad) ≤ length b
         pub bytes : cond (i .on) (emit (i .shape) c (held src i s)) [] ≡ formBytes f src s
         pub after : formNext f s c ≡ next i (held src i s) c
-        pub place : formNext f s c .at ≤ 65535
+        pub place : formNext f s c .at ≤ mostBytes
         pub rest : ends k t c ≡ ends (k + 1) (reachedAfter ws t i) (next i (held src i s) c)
 
       pub ready : Ready
@@ -90,12 +90,12 @@ module _ (src ws : List ℕ) (p : TypePart) (first : Reached) (start : Cursor) (
             room = omega (arith, at, q, w, n, y);
             bytes = bytes-is i c src s fits (g .1) ∙ ap (λ (x : Form). formBytes x src s) (sym e);
             after = after;
-            place = subst (λ (x : Cursor). x .at ≤ 65535) (sym after) (g .2);
+            place = subst (λ (x : Cursor). x .at ≤ mostBytes) (sym after) (g .2);
             rest = rest;
           }
 
       pub put-on : (b′ : List ℕ) (c′ : Cursor) (t′ : Reached) → b′ ≡ put b (c .at) (formBytes f src s)
-          → c′ ≡ cond (leb (formNext f s c .at) 65535) (formNext f s c) unfit → t′ ≡ reachedAfter ws t i → Putting (k + 1) t′ c′ b′
+          → c′ ≡ cond (leb (formNext f s c .at) mostBytes) (formNext f s c) unfit → t′ ≡ reachedAfter ws t i → Putting (k + 1) t′ c′ b′
       unfolding formNext
       put-on b′ c′ t′ eb ec et =
           let v : Con = held src i s in
@@ -104,7 +104,7 @@ module _ (src ws : List ℕ) (p : TypePart) (first : Reached) (start : Cursor) (
           let A : List ℕ = formBytes f src s in
           let W : List ℕ = bytesToCome (k + 1) t₁ d in
           let r : Cursor = ends (k + 1) t₁ d in
-          let q : c′ ≡ d = ec ∙ ap (λ (x : Bool). cond x (formNext f s c) unfit) (le-leb (formNext f s c .at) 65535 (ready .place)) ∙ ready .after in
+          let q : c′ ≡ d = ec ∙ ap (λ (x : Bool). cond x (formNext f s c) unfit) (le-leb (formNext f s c .at) mostBytes (ready .place)) ∙ ready .after in
           let z : r .why ≡ 0 = ap (λ (x : Cursor). x .why) (sym (ready .rest)) ∙ l .fine in
           let la : length A ≡ f .width + listBytes f s + f .pad = form-length f src s (ready .inside) in
           let at : d .at ≡ c .at + (f .width + listBytes f s + f .pad) = ap (λ (x : Cursor). x .at) (sym (ready .after)) in
@@ -125,7 +125,7 @@ module _ (src ws : List ℕ) (p : TypePart) (first : Reached) (start : Cursor) (
             room = (let o = ap (λ (x : Cursor). x .at) E in omega (arith, o, w, n));
             long = lb ∙ y;
             within = within-on p k t ws i t′ (l .within) h et;
-            place = subst (λ (x : Cursor). x .at ≤ 65535) (ready .after ∙ sym q) (ready .place);
+            place = subst (λ (x : Cursor). x .at ≤ mostBytes) (ready .after ∙ sym q) (ready .place);
           }
 
     pub put-end : p .to ≤ k → b ≡ put b₀ (start .at) (bytesToCome (p .from) first start)

@@ -1,6 +1,6 @@
 -- Turns of the loops over a part's rows: what is still to come is the whole. Assumes nothing.
 use mathlib.Core.Path.{_≡_, refl, sym, ap, ap₂, _∙_, subst}
-use Prim.Native.Nat.{ℕ, _+_, _-_, _*_, _<_, _≤_}
+use Prim.Native.Nat.{ℕ, _+_, _*_, _<_, _≤_}
 use native.Mathlib.Omega.{arith}
 use mathlib.Core.Bool.{Bool, true, false, cond, not, _&&_, _||_}
 use mathlib.Core.List.{List, [], _∷_}
@@ -22,7 +22,7 @@ use Rattle.table.specs.Turns.{rows-next, rows-over}
 use Rattle.writer_parts.specs.declared.TypePart.{TypePart}
 use Rattle.writer_words.specs.declared.Reached.{Reached}
 use Rattle.writer_words.specs.Tellings.{givenSlot, reachedAfter}
-use Rattle.writer_items.specs.Tries.{unfit, fitsItem, good, tryItem}
+use Rattle.writer_items.specs.Tries.{unfit, fitsItem, good, tryItem, mostBytes}
 use Rattle.writer_parts.specs.Parts.{tryItems, itemHere, itemsFrom, slotsFrom}
 
 pub items-next : (p : TypePart) (k : ℕ) → k < p .to → p .to ≤ allRows → itemsFrom p k ≡ itemHere p k ∷ itemsFrom p (k + 1)
@@ -104,12 +104,12 @@ next-same : (i : Item) (v : Con) (c : Cursor) → next i v c .why ≡ c .why
 next-same i v c = next-why (i .on) (i .shape) v c
 
 pub good-parts : (src : List ℕ) (i : Item) (s : Slot) (c : Cursor) → good src i s c ≡ true
-    → (fitsItem src i s c ≡ true) × (beyond src i s ≡ false) × (next i (held src i s) c .at ≤ 65535)
+    → (fitsItem src i s c ≡ true) × (beyond src i s ≡ false) × (next i (held src i s) c .at ≤ mostBytes)
 unfolding good
 good-parts src i s c h =
-    let p = and-true (fitsItem src i s c) (not (beyond src i s) && leb (next i (held src i s) c .at) 65535) h in
-    let q = and-true (not (beyond src i s)) (leb (next i (held src i s) c .at) 65535) (p .1) in
-    (p .0, not-true (beyond src i s) (q .0), leb-true (next i (held src i s) c .at) 65535 (q .1))
+    let p = and-true (fitsItem src i s c) (not (beyond src i s) && leb (next i (held src i s) c .at) mostBytes) h in
+    let q = and-true (not (beyond src i s)) (leb (next i (held src i s) c .at) mostBytes) (p .1) in
+    (p .0, not-true (beyond src i s) (q .0), leb-true (next i (held src i s) c .at) mostBytes (q .1))
 
 -- a cond whose other side is no state
 pub no-state : (b : Bool) (x : Cursor) → cond b x unfit .why ≡ 0 → (b ≡ true) × (cond b x unfit ≡ x)
@@ -129,7 +129,7 @@ module _ (src ws : List ℕ) (p : TypePart) (first : Reached) (start : Cursor) w
   pub record Trying (k : ℕ) (t : Reached) (c : Cursor) : Type 0 where
     pub same : tried k t c ≡ tried (p .from) first start
     pub within : Within p k t
-    pub place : c .at ≤ 65535
+    pub place : c .at ≤ mostBytes
     pub fine : c .why ≡ 0
 
   module _ (k : ℕ) (t : Reached) (c : Cursor) (l : Trying k t c) where
@@ -159,7 +159,7 @@ module _ (src ws : List ℕ) (p : TypePart) (first : Reached) (start : Cursor) w
             same = ap₂ (λ (x : Reached) (y : Cursor). tried (k + 1) x y) eₜ q
                 ∙ sym (try-turn ∙ ap (λ (b : Bool). cond b (tried (k + 1) (reachedAfter ws t i) (next i (held src i s) c)) unfit) (u .0));
             within = within-on p k t ws i t′ (l .within) h eₜ;
-            place = subst (λ (x : Cursor). x .at ≤ 65535) (sym q) a;
+            place = subst (λ (x : Cursor). x .at ≤ mostBytes) (sym q) a;
             fine = z;
           }
 

@@ -7,6 +7,7 @@ ghost use Rattle.meaning.specs.Bytes.{put};
 ghost use Rattle.meaning.specs.Schema.{schema, trailer};
 ghost use Rattle.meaning.specs.Values.{trailWords};
 ghost use Rattle.table.specs.Rows.{rows, allRows};
+ghost use Rattle.writer_items.specs.Tries.{mostBytes};
 ghost use Rattle.writer_parts.specs.Parts.{itemHere, Lays, beyondPart, triedPart, writtenPart};
 use meaning::Attributes;
 use meaning::Cursor;
@@ -80,7 +81,7 @@ pub fn any_beyond(ws: &[u64], source: &[u8], p: TypePart, first: Reached) -> boo
 
 // The state after all of them; or, from the first that does not fit, `unfit`.
 pub fn try_all(ws: &[u64], source: &[u8], p: TypePart, first: Reached, start: Cursor) -> Cursor
-    requires { ⌜ (p .from ≤ p .to) × (p .to ≤ allRows) × (first .at ≤ trailWords) × (start .at ≤ 65535) × (start .why ≡ 0) ⌝ }
+    requires { ⌜ (p .from ≤ p .to) × (p .to ≤ allRows) × (first .at ≤ trailWords) × (start .at ≤ mostBytes) × (start .why ≡ 0) ⌝ }
     ensures { λ r. ⌜ r ≡ triedPart (now (source .entry)) (now (ws .entry)) p first start ⌝ }
 {
     let all = table::all_rows();
@@ -111,7 +112,7 @@ pub fn put_all(
     start: Cursor,
     buffer: &mut [u8],
 )
-    requires { ⌜ (p .from ≤ p .to) × (p .to ≤ allRows) × (first .at ≤ trailWords) × (start .at ≤ 65535) × (triedPart (now source) (now ws) p first start .why ≡ 0) × (triedPart (now source) (now ws) p first start .at ≤ length (now buffer)) ⌝ }
+    requires { ⌜ (p .from ≤ p .to) × (p .to ≤ allRows) × (first .at ≤ trailWords) × (start .at ≤ mostBytes) × (triedPart (now source) (now ws) p first start .why ≡ 0) × (triedPart (now source) (now ws) p first start .at ≤ length (now buffer)) ⌝ }
     ensures { λ _. ⌜ now (buffer .exit) ≡ put (now (buffer .entry)) (start .at) (writtenPart (now (source .entry)) (now (ws .entry)) p first start) ⌝ }
 {
     let all = table::all_rows();

@@ -1,8 +1,8 @@
 -- What the two loops that test say of `fits`. Assumes nothing.
 use mathlib.Core.Path.{_≡_, refl, sym, ap, ap₂, _∙_, subst}
-use Prim.Native.Nat.{ℕ, suc, _-_, _%_, _^_, _≤_}
+use Prim.Native.Nat.{ℕ, suc, _%_, _^_, _≤_}
 use native.Mathlib.Omega.{arith}
-use mathlib.Core.Bool.{Bool, true, false, cond, not, _&&_, _||_}
+use mathlib.Core.Bool.{Bool, true, false, cond, not, _&&_, _||_, and-false}
 use mathlib.Core.List.{List, [], _∷_}
 use lib.ListN.{length, drop, getD}
 use lib.Dec.{leb, eqb, ltb}
@@ -24,10 +24,9 @@ use Rattle.meaning.specs.Schema.{trailer}
 use Rattle.writer_parts.specs.declared.TypePart.{TypePart}
 use Rattle.writer_words.specs.declared.Reached.{Reached}
 use Rattle.writer_words.specs.Tellings.{startAt}
-use Rattle.writer_items.specs.Tries.{unfit, fitsItem, good}
+use Rattle.writer_items.specs.Tries.{unfit, fitsItem, good, mostBytes}
 use Rattle.writer_parts.specs.Parts.{tryItems, itemsFrom, slotsFrom, Lays}
 use Rattle.writer_record.specs.Measures.{valueMeant, measured}
-use Rattle.writer_items.specs.Fitting.{and-false}
 use Rattle.writer_parts.specs.Turns.{good-parts, no-state, tried-is}
 
 pub slots-length : (is : List Item) (ws : List ℕ) (n old : ℕ) → length (slotsTold is ws n old) ≡ length is
@@ -52,7 +51,7 @@ or-parts false b h = (refl, h)
 
 -- and the other way: where every item fits, none passes the source's end, and the end lies where a record's may, the walk ends as a state
 pub fit-tried : (src : List ℕ) (is : List Item) (ss : List Slot) (c : Cursor) → c .why ≡ 0 → fit is (means src is ss) c ≡ true → anyBeyond src is ss ≡ false
-    → nexts is (means src is ss) c .at ≤ 65535 → tryItems src is ss c .why ≡ 0
+    → nexts is (means src is ss) c .at ≤ mostBytes → tryItems src is ss c .why ≡ 0
 unfolding tryItems fit means anyBeyond nexts good
 fit-tried src [] ss c w f o m = w
 fit-tried src (i ∷ is) [] c w f o m = w
@@ -62,7 +61,7 @@ fit-tried src (i ∷ is) (s ∷ ss) c w f o m =
     let q = or-parts (beyond src i s) (anyBeyond src is ss) o in
     let n = nexts-at is (means src is ss) (next i v c) in
     let g : good src i s c ≡ true =
-    true-and (fitsItem src i s c) _ (p .0) (true-and (not (beyond src i s)) _ (ap not (q .0)) (le-leb (next i v c .at) 65535 (omega (arith, n, m)))) in
+    true-and (fitsItem src i s c) _ (p .0) (true-and (not (beyond src i s)) _ (ap not (q .0)) (le-leb (next i v c .at) mostBytes (omega (arith, n, m)))) in
     let r = fit-tried src is ss (next i v c) (next-why (i .on) (i .shape) v c ∙ w) (p .1) (q .1) m in
     ap (λ (b : Bool). cond b (tryItems src is ss (next i v c)) unfit .why) g ∙ r
 
@@ -103,7 +102,7 @@ pub record Fits (is ts : List Item) (v : Value) : Type 0 where
   pub body : fit is (v .body) (origin 8) ≡ true
   pub tail : fit ts (v .tail) (origin (length (fieldBytes is v))) ≡ true
   pub size : v .size ≡ length (written is ts v)
-  pub most : v .size ≤ 65535
+  pub most : v .size ≤ mostBytes
   pub eights : v .size % 8 ≡ 0
 
 pub fits-parts : (is ts : List Item) (v : Value) → fitsBy is ts v ≡ true → Fits is ts v
@@ -134,13 +133,13 @@ never true n = absurd (n refl)
 never false n = refl
 
 -- a walk that ends as a state ends where a record may
-pub tried-most : (src : List ℕ) (is : List Item) (ss : List Slot) (c : Cursor) → c .at ≤ 65535 → tryItems src is ss c .why ≡ 0 → tryItems src is ss c .at ≤ 65535
+pub tried-most : (src : List ℕ) (is : List Item) (ss : List Slot) (c : Cursor) → c .at ≤ mostBytes → tryItems src is ss c .why ≡ 0 → tryItems src is ss c .at ≤ mostBytes
 unfolding tryItems
 tried-most src [] ss c m z = m
 tried-most src (i ∷ is) [] c m z = m
 tried-most src (i ∷ is) (s ∷ ss) c m z =
     let u = no-state (good src i s c) (tryItems src is ss (next i (held src i s) c)) z in
-    subst (λ (x : Cursor). x .at ≤ 65535) (sym (u .1))
+    subst (λ (x : Cursor). x .at ≤ mostBytes) (sym (u .1))
     (tried-most src is ss (next i (held src i s) c) (good-parts src i s c (u .0) .2) (ap (λ (x : Cursor). x .why) (sym (u .1)) ∙ z))
 
 module _ (is ts : List Item) (src ws : List ℕ) (plain : fixed ts ≡ true) (inside : anyBeyond src is (slotsTold is (drop bodyWords ws) 0 0) ≡ false) (c₁ : Cursor)
@@ -179,7 +178,7 @@ module _ (is ts : List Item) (src ws : List ℕ) (plain : fixed ts ≡ true) (in
         let g : tryItems src ts ss (origin o) .why ≡ 0 = fit-tried src ts ss (origin o) refl (f .tail) (fixed-inside src ts ss plain) (omega (arith, b, p, q)) in
         n (ap (λ (x : Cursor). x .why) (e₂ ∙ ap (λ (k : ℕ). tryItems src ts ss (origin k)) (sym fields-at)) ∙ g))
 
-    module _ (z₂ : c₂ .why ≡ 0) (m₁ : c₁ .at ≤ 65535) where
+    module _ (z₂ : c₂ .why ≡ 0) (m₁ : c₁ .at ≤ mostBytes) where
       pub end-at : length (written is ts (valueMeant is ts src ws)) ≡ c₂ .at
       unfolding valueMeant slotsFrom
       end-at =
@@ -189,11 +188,11 @@ module _ (is ts : List Item) (src ws : List ℕ) (plain : fixed ts ≡ true) (in
           record-end is ts (valueMeant is ts src ws)
           ∙ ap (λ (x : Cursor). x .at) (sym (q ∙ tried-is src ts ss (origin o) (ap (λ (x : Cursor). x .why) (sym q) ∙ z₂)))
 
-      end-most : c₂ .at ≤ 65535
+      end-most : c₂ .at ≤ mostBytes
       unfolding slotsFrom
       end-most =
           let ss : List Slot = slotsTold ts (drop trailWords ws) 0 0 in
-          subst (λ (x : Cursor). x .at ≤ 65535) (sym e₂) (tried-most src ts ss (origin (c₁ .at)) m₁ (ap (λ (x : Cursor). x .why) (sym e₂) ∙ z₂))
+          subst (λ (x : Cursor). x .at ≤ mostBytes) (sym e₂) (tried-most src ts ss (origin (c₁ .at)) m₁ (ap (λ (x : Cursor). x .why) (sym e₂) ∙ z₂))
 
       -- the tests of the header and of the other words
       pub record Right : Type 0 where

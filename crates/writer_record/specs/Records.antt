@@ -3,7 +3,7 @@ use mathlib.Core.Path.{_≡_, refl, sym, ap, ap₂, _∙_, subst}
 use Prim.Native.Nat.{ℕ, _+_, _-_, _<_, _≤_}
 use native.Mathlib.Omega.{arith}
 use mathlib.Core.Bool.{Bool, true, false, cond, _&&_}
-use mathlib.Core.List.{List, _++_, append-assoc}
+use mathlib.Core.List.{List, _++_}
 use lib.ListN.{length, drop, getD, length-append}
 use Rattle.meaning.specs.declared.Attributes.{Attributes}
 use Rattle.meaning.specs.declared.Cursor.{Cursor}
@@ -12,7 +12,7 @@ use Rattle.meaning.specs.Bytes.{spell, allZero, put}
 use Rattle.meaning.specs.Writing.{write}
 use Rattle.meaning.specs.Records.{Value, fixed, room, origin, header, fieldBytes, written, fitsBy}
 use Rattle.meaning.specs.Values.{Slot, means, anyBeyond, slotsTold, spareBy, bodyWords, trailWords}
-use Rattle.laws.specs.Bytes.{and-true, length-spell}
+use Rattle.laws.specs.Bytes.{and-true}
 use Rattle.laws.specs.Fixed.{fixed-write}
 use Rattle.laws.specs.Whole.{header-length}
 use Rattle.laws.specs.More.{nexts-at, fields-end, record-end}
@@ -21,6 +21,7 @@ use Rattle.laws.specs.Put.{put-put}
 use Rattle.writer_parts.specs.declared.TypePart.{TypePart}
 use Rattle.writer_words.specs.declared.Reached.{Reached}
 use Rattle.writer_words.specs.Tellings.{startAt}
+use Rattle.writer_items.specs.Tries.{mostBytes}
 use Rattle.writer_parts.specs.Parts.{tryItems, itemsFrom, slotsFrom, Lays}
 use Rattle.writer_record.specs.Measures.{valueMeant, measured}
 use Rattle.writer_record.specs.Measuring.{Fits, fits-parts, fit-tried, fixed-inside, tried-lays}
@@ -44,7 +45,7 @@ module _ (is ts : List Item) (src ws : List ℕ) (plain : fixed ts ≡ true) (in
     pub tail-why : tryItems src ts (slotsFrom ts (startAt trailWords) ws) (origin (end - room ts)) .why ≡ 0
     pub tail-end : tryItems src ts (slotsFrom ts (startAt trailWords) ws) (origin (end - room ts)) .at ≡ end
     pub before : room ts + 8 ≤ end
-    pub most : end ≤ 65535
+    pub most : end ≤ mostBytes
 
   pub sized : Sized
   unfolding measured valueMeant slotsFrom
@@ -105,23 +106,6 @@ module _ (is ts : List Item) (src ws : List ℕ) (plain : fixed ts ≡ true) (in
       ∙ ap (λ (k : ℕ). put (put b 0 F) (0 + length F) (write ts (value .tail) (origin k))) q
       ∙ put-put b 0 F T (omega (arith, lw, w, h))
 
-pub header-put : (kind misc size : ℕ) (b b₁ b₂ b₃ : List ℕ) → 8 ≤ length b → b₁ ≡ put b 0 (spell 4 kind) → b₂ ≡ put b₁ 4 (spell 2 misc) → b₃ ≡ put b₂ 6 (spell 2 size)
-    → b₃ ≡ put b 0 (spell 4 kind ++ (spell 2 misc ++ spell 2 size))
-header-put kind misc size b b₁ b₂ b₃ h e₁ e₂ e₃ =
-    let K : List ℕ = spell 4 kind in
-    let M : List ℕ = spell 2 misc in
-    let S : List ℕ = spell 2 size in
-    let lK : length K ≡ 4 = length-spell 4 kind in
-    let lM : length M ≡ 2 = length-spell 2 misc in
-    let lS : length S ≡ 2 = length-spell 2 size in
-    let lKM = length-append K M in
-    let p₂ : b₂ ≡ put b 0 (K ++ M) =
-    e₂ ∙ ap (λ (x : List ℕ). put x 4 M) e₁ ∙ ap (λ (k : ℕ). put (put b 0 K) k M) (let z : 4 ≡ 0 + length K = omega (arith, lK) in z) ∙ put-put b 0 K M (omega (arith, lK, lM, h)) in
-    e₃ ∙ ap (λ (x : List ℕ). put x 6 S) p₂
-    ∙ ap (λ (k : ℕ). put (put b 0 (K ++ M)) k S) (let z : 6 ≡ 0 + length (K ++ M) = omega (arith, lK, lM, lKM) in z)
-    ∙ put-put b 0 (K ++ M) S (omega (arith, lK, lM, lS, lKM, h))
-    ∙ ap (λ (x : List ℕ). put b 0 x) (append-assoc K M S)
-
 -- the code's loop over a part writes the part's items
 pub written-lays : (src ws : List ℕ) (p : TypePart) (a : Attributes) (kind : ℕ) (is : List Item) (first f : Reached) (start o : Cursor) (b b′ d : List ℕ) → Lays p a kind is → first ≡ f → start ≡ o
     → b ≡ d → b′ ≡ put b (start .at) (write (itemsFrom p (p .from)) (means src (itemsFrom p (p .from)) (slotsFrom (itemsFrom p (p .from)) first ws)) start)
@@ -133,8 +117,8 @@ written-lays src ws p a kind is first f start o b b′ d l e₁ e₂ e₃ e =
 
 -- what a call of that loop asks
 pub asks-lays : (src ws : List ℕ) (p : TypePart) (a : Attributes) (kind : ℕ) (is : List Item) (first : Reached) (start : Cursor) (k o n m end : ℕ) → Lays p a kind is → first ≡ startAt k → start ≡ origin o
-    → k ≤ trailWords → o ≤ 65535 → tryItems src is (slotsFrom is (startAt k) ws) (origin o) .why ≡ 0 → tryItems src is (slotsFrom is (startAt k) ws) (origin o) .at ≡ m → m ≤ end → n ≡ end
-    → (p .from ≤ p .to) × (p .to ≤ allRows) × (first .at ≤ trailWords) × (start .at ≤ 65535)
+    → k ≤ trailWords → o ≤ mostBytes → tryItems src is (slotsFrom is (startAt k) ws) (origin o) .why ≡ 0 → tryItems src is (slotsFrom is (startAt k) ws) (origin o) .at ≡ m → m ≤ end → n ≡ end
+    → (p .from ≤ p .to) × (p .to ≤ allRows) × (first .at ≤ trailWords) × (start .at ≤ mostBytes)
     × (tryItems src (itemsFrom p (p .from)) (slotsFrom (itemsFrom p (p .from)) first ws) start .why ≡ 0)
     × (tryItems src (itemsFrom p (p .from)) (slotsFrom (itemsFrom p (p .from)) first ws) start .at ≤ n)
 asks-lays src ws p a kind is first start k o n m end l e₁ e₂ h₁ h₂ w at h₃ e =

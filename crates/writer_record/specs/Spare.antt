@@ -1,6 +1,6 @@
 -- How many words the parts of a type have, and the words that no item has. Assumes nothing.
 use mathlib.Core.Path.{_≡_, refl, sym, ap, ap₂, _∙_}
-use Prim.Native.Nat.{ℕ, suc, _+_, _-_, _*_, _<_, _≤_}
+use Prim.Native.Nat.{ℕ, suc, _+_, _*_, _<_, _≤_}
 use native.Mathlib.Numerals.{add-one}
 use native.Mathlib.Omega.{arith}
 use mathlib.Core.Bool.{Bool, true, false, _&&_}
@@ -125,7 +125,7 @@ module _ (p : TypePart) (f : Fields p) where
       let a = s .1 in
       rw (named-is true (s .0)) (let q : n + 1 ≡ bodyWords + (width own + 1) = omega (arith, e, a, w) in q)
 
-  pub end-few : (n : ℕ) → n ≡ flagAt (p .kind) → (n ≡ 0 → ⊥) → n ≤ 48
+  pub end-few : (n : ℕ) → n ≡ flagAt (p .kind) → (n ≡ 0 → ⊥) → n ≤ trailWords
   end-few n e z =
       let s = flag-some (p .kind) (f .misc) (p .attributes) (λ q. z (e ∙ q)) .1 in
       let h = fields-few (p .kind) (f .misc) (p .attributes) in

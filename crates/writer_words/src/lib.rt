@@ -4,17 +4,12 @@ ghost use mathlib.Core.Bool.{cond};
 ghost use Prim.Native.Nat.{_≤_};
 ghost use lib.ListN.{getD};
 ghost use Rattle.writer_words.specs.Tellings.{unspoken, number, list, telling, slotOf, startAt, givenSlot, reachedAfter, fewWords};
+pub use fields::BODY_WORDS;
+pub use fields::FREE_WORD;
+pub use fields::TRAIL_WORDS;
+pub use fields::VALUE_WORDS;
 use meaning::Item;
 use meaning::Shape;
-
-// The words of a value: type, misc, size; the fields' from 3 on; the trailer's from 48 on, and the last one is free.
-pub const BODY_WORDS: usize = 3;
-
-pub const TRAIL_WORDS: usize = 48;
-
-pub const FREE_WORD: usize = 55;
-
-pub const VALUE_WORDS: usize = 56;
 
 // How far the words are told: the next word, and the counts remembered last and before that.
 pub struct Reached {

@@ -4,12 +4,13 @@ use mathlib.Core.Logic.{_⊎_, inl, inr, ⊎-elim}
 use Prim.Native.Nat.{ℕ, _-_, _≤_}
 use native.Mathlib.Omega.{arith}
 use lib.ListN.{length}
+use Rattle.marks.specs.Marks.{markCount}
 use Rattle.marks.specs.Bases.{Filled, fill-none, fill-more, fill-shorter}
 use Rattle.all_marks.proofs.filled.Statement.{statement}
 use Rattle.all_marks.proofs.filled.Tie as tie
 
 abbrev Inv-loop : tie.InvT-loop
-Inv-loop from to v q₀ k₀ q k = (length q₀ ≡ 32) × (from ≤ k) × Filled q₀ from k v q × ((k ≤ to) ⊎ (k ≡ from))
+Inv-loop from to v q₀ k₀ q k = (length q₀ ≡ markCount) × (from ≤ k) × Filled q₀ from k v q × ((k ≤ to) ⊎ (k ≡ from))
 
 abbrev μ-loop : tie.MeasureT-loop
 μ-loop from to v q₀ k₀ q k = to - k

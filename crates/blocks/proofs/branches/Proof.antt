@@ -7,7 +7,7 @@ use native.Mathlib.Omega.{arith}
 use Prim.Native.Nat.{ℕ, _≤_}
 use denote.Ref.{now}
 use borrow.Author.Tests.{not-true, not-false}
-use Rattle.blocks.specs.Seen.{going, as-known}
+use Rattle.blocks.specs.Seen.{sizeBound, going, as-known}
 use Rattle.blocks.specs.Blocks.{branchList, branchFixed, countedPlace, three-off, branch-ends}
 use Rattle.blocks.proofs.branches.Statement.{statement}
 use Rattle.blocks.proofs.branches.Tie as tie
@@ -16,7 +16,7 @@ fixed-is : (c : tie.Joined2) → c .if2 .fixed ≡ branchFixed (c .before .befor
 fixed-is c = ⊎-elim (λ w. w .1 ∙ sym (ap branchFixed (w .0 .taken))) (λ w. w .1 ∙ sym (ap branchFixed (w .0 .left))) (c .if2 .came)
 
 -- 8 or 16
-fixed-bound : (b : Bool) (n : ℕ) → n ≡ branchFixed b → (8 ≤ n) × (n ≤ 65536)
+fixed-bound : (b : Bool) (n : ℕ) → n ≡ branchFixed b → (8 ≤ n) × (n ≤ sizeBound)
 fixed-bound true n e = (omega (arith, e), omega (arith, e))
 fixed-bound false n e = (omega (arith, e), omega (arith, e))
 

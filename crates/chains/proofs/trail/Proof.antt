@@ -1,6 +1,5 @@
 -- `chains::trail` meets its contract: the trailer's items are those that the bits select. Assumes nothing.
 use mathlib.Core.Path.{sym, ap, _∙_}
-use Prim.Native.Nat.{ℕ}
 use Rattle.fills.specs.Chains.{ready-as, filling-as}
 use Rattle.layouts.specs.Lists as lists
 use Rattle.layouts.specs.Types.{trailer-is}

@@ -23,15 +23,15 @@ use Rattle.runs.specs.Forward.{going-framed}
 use Rattle.compare.specs.Fields.{Reads, fields}
 use Rattle.compare.specs.Compared.{alike, agree, eventReads}
 use Rattle.compare.specs.Here.{Here, PairOf, here-start, here-ends, here-pair, here-same, ensured-same}
-use Rattle.pair_fields.specs.Inner.{Stands, toGo}
-use Rattle.compare.specs.Slices.{small-of}
+use Rattle.pair_fields.specs.Inner.{FieldsStand, toGo}
+use Rattle.laws.specs.Numbers.{small-of}
 use Rattle.pair_fields.specs.Fields.{stands-on, stands-ended, stands-other}
 use Rattle.comparing.proofs.compare_rings.Statement.{statement}
 use Rattle.comparing.proofs.compare_rings.Tie as tie
 
 abbrev Inv-loop : tie.InvT-loop
 Inv-loop left lhead ltail right rhead rtail rows limit e ok table tl tr n k₀ both place size rplace rsize x y p₀ k p =
-    Stands (alike (fields (eventReads (known editions e) (eventsOf rows)) x) (fields (eventReads (known editions e) (eventsOf rows)) y))
+    FieldsStand (alike (fields (eventReads (known editions e) (eventsOf rows)) x) (fields (eventReads (known editions e) (eventsOf rows)) y))
     (agree (fields (eventReads (known editions e) (eventsOf rows)) x) (fields (eventReads (known editions e) (eventsOf rows)) y)) x y p
 
 abbrev μ-loop : tie.MeasureT-loop
@@ -59,24 +59,12 @@ right-frame c =
     let l = (c .before .before) .records in
     c .next-frame2 .ensures ∙ ap₂ (λ (ok table : Bool). frame (askingWith ok table) (now (a .right)) (a .rhead) (l .tr) 1 16 (length (l .rscratch))) ((c .before .before .before .before) .allowed .ensures) ((c .before .before .before) .sound .ensures)
 
-allowed-requires : tie.Need-allowed-requires Inv-loop μ-loop Inv-records μ-records
-allowed-requires c κs = search needs
-
 records-holds : tie.Need-records-holds Inv-loop μ-loop Inv-records μ-records
 records-holds c =
     let a = (c .before .before .before .before .before .before) .args in
     here-start (eventReads (known editions (a .e)) (eventsOf (now (a .rows)))) (askedEvents (a .limit) editions (a .e) (eventsOf (now (a .rows)))) (now (a .left)) (now (a .right)) (a .lhead) (a .rhead) (a .ltail) (a .rtail) (now (a .lscratch)) (now (a .rscratch))
     (small-of (now (a .left)) ((c .before .before .before .before .before) .shared-slice-known .given)) (small-of (now (a .right)) ((c .before .before .before) .shared-slice-known2 .given)) ((c .before .before .before .before .before .before) .fits .lhead .fits) ((c .before .before .before .before .before .before) .fits .rhead .fits)
     ((c .before .before .before .before .before .before) .fits .ltail .fits) ((c .before .before .before .before .before .before) .fits .rtail .fits)
-
-next-frame-requires : tie.Need-next-frame-requires Inv-loop μ-loop Inv-records μ-records
-next-frame-requires c κs = search needs
-
-next-frame-requires-2 : tie.Need-next-frame-requires-2 Inv-loop μ-loop Inv-records μ-records
-next-frame-requires-2 c κs = search needs
-
-ended-requires : tie.Need-ended-requires Inv-loop μ-loop Inv-records μ-records
-ended-requires c κs = search needs
 
 same-length : tie.Need-same-length Inv-loop μ-loop Inv-records μ-records
 same-length c = (c .before .before .before .before .before .before) .records .inv .u-long
@@ -117,18 +105,6 @@ left-going c = frame-going _ _ _ _ _ _ _ ((c .before .before .before .before) .n
 right-going : (c : tie.Else1 Inv-loop μ-loop Inv-records μ-records)
     → Going (askedEvents ((c .before .before .before .before .before .before .before .before .before .before .before .before) .args .limit) editions ((c .before .before .before .before .before .before .before .before .before .before .before .before) .args .e) (eventsOf (now ((c .before .before .before .before .before .before .before .before .before .before .before .before) .args .rows)))) (now ((c .before .before .before .before .before .before .before .before .before .before .before .before) .args .right)) ((c .before .before .before .before .before .before .before .before .before .before .before .before) .args .rhead) ((c .before .before .before .before .before) .records .tr) 1 16 (length ((c .before .before .before .before .before) .records .rscratch)) ((c .before .before .before) .next-frame2 .result)
 right-going c = frame-going _ _ _ _ _ _ _ ((c .before .before .before) .next-frame2 .result) (right-frame (c .before .before .before)) (both c .1)
-
-gather-requires : tie.Need-gather-requires Inv-loop μ-loop Inv-records μ-records
-gather-requires c κs = search needs
-
-gather-requires-2 : tie.Need-gather-requires-2 Inv-loop μ-loop Inv-records μ-records
-gather-requires-2 c κs = search needs
-
-shown-requires : tie.Need-shown-requires Inv-loop μ-loop Inv-records μ-records
-shown-requires c κs = search needs
-
-shown-requires-2 : tie.Need-shown-requires-2 Inv-loop μ-loop Inv-records μ-records
-shown-requires-2 c κs = search needs
 
 -- what is shown are the records
 left-bytes : (c : tie.After-shown Inv-loop μ-loop Inv-records μ-records)
@@ -175,12 +151,6 @@ loop-less c = c .next .ensures .1
 loop-again : tie.Need-loop-again Inv-loop μ-loop Inv-records μ-records
 loop-again c = stands-on (now (c .before .before .before .before .before .before .before .before .shown .result)) (now (c .before .before .before .before .before .before .shown2 .result)) _ _ (c .before .before .before .before .loop .p) (c .next .result) (c .before .before .before .before .loop .inv) (c .next .ensures .0)
 
-wrapping-add-u64-requires : tie.Need-wrapping-add-u64-requires Inv-loop μ-loop Inv-records μ-records
-wrapping-add-u64-requires c κs = search needs
-
-wrapping-add-u64-requires-2 : tie.Need-wrapping-add-u64-requires-2 Inv-loop μ-loop Inv-records μ-records
-wrapping-add-u64-requires-2 c κs = search needs
-
 add-n : tie.Need-add-n Inv-loop μ-loop Inv-records μ-records
 add-n c = omega (arith, pair-at (c .before .before .before .before .before .before .before .before .before .before .before .before .before .before .before .before .before .before .before) .count, left-going (c .before .before .before .before .before .before .before .before .before .before .before .before .before .before .before .before .before .before .before) .length-high)
 
@@ -199,9 +169,6 @@ records-again c =
     here-same R (askedEvents (a .limit) editions (a .e) (eventsOf (now (a .rows)))) (now (a .left)) (now (a .right)) (a .lhead) (a .rhead) (a .ltail) (a .rtail) (now (a .lscratch)) (now (a .rscratch))
     _ _ _ _ _ _ _ _ _ _ (sym (add-one (l .n))) (sym ((c .before) .wrapping-add-u64 .ensures)) (sym (c .wrapping-add-u642 .ensures)) (sym ((c .before .before .before .before .before .before .before .before .before .before .before .before .before .before .before .before .before) .gather .ensures)) (sym ((c .before .before .before .before .before .before .before .before .before .before .before .before .before) .gather2 .ensures))
     (pair-at e .again t)
-
-tell-requires : tie.Need-tell-requires Inv-loop μ-loop Inv-records μ-records
-tell-requires c κs = search needs
 
 same-length-3 : tie.Need-same-length-3 Inv-loop μ-loop Inv-records μ-records
 same-length-3 c = ap length ((c .before .before .before .before .before .before .before .before .before .before .before .before .before .before .before) .gather .ensures) ∙ scratch-length (now ((c .before .before .before .before .before .before .before .before .before .before .before .before .before .before .before .before .before .before .before .before .before .before .before .before .before .before .before .before .before) .args .left)) ((c .before .before .before .before .before .before .before .before .before .before .before .before .before .before .before .before .before .before .before .before .before) .next-frame .result .place) ((c .before .before .before .before .before .before .before .before .before .before .before .before .before .before .before .before .before .before .before .before .before) .next-frame .result .size) ((c .before .before .before .before .before .before .before .before .before .before .before .before .before .before .before .before .before .before .before .before .before .before) .records .lscratch) ∙ (c .before .before .before .before .before .before .before .before .before .before .before .before .before .before .before .before .before .before .before .before .before .before) .records .inv .u-long
@@ -230,30 +197,30 @@ compare-rings-spec =
     μ-loop
     Inv-records
     μ-records
-    allowed-requires
+    (λ c κs. search needs)
     (λ c κs. search needs)
     records-holds
-    next-frame-requires
-    next-frame-requires-2
-    ended-requires
+    (λ c κs. search needs)
+    (λ c κs. search needs)
+    (λ c κs. search needs)
     same-length
     same-length-2
     returns
-    gather-requires
-    gather-requires-2
-    shown-requires
-    shown-requires-2
+    (λ c κs. search needs)
+    (λ c κs. search needs)
+    (λ c κs. search needs)
+    (λ c κs. search needs)
     look-requires
     loop-holds
     next-requires
     loop-less
     loop-again
-    wrapping-add-u64-requires
-    wrapping-add-u64-requires-2
+    (λ c κs. search needs)
+    (λ c κs. search needs)
     add-n
     records-less
     records-again
-    tell-requires
+    (λ c κs. search needs)
     same-length-3
     same-length-4
     returns-2)

@@ -1,7 +1,6 @@
 -- In a SAMPLE the first word after the header, else the last eight bytes.
-use mathlib.Core.Path.{_≡_, sym, ap, _∙_}
+use mathlib.Core.Path.{sym, _∙_}
 use borrow.Author.Tests.{eq-eqb, ne-eqb}
-use Rattle.meaning.specs.Records.{kindOf}
 use Rattle.meaning.specs.Events.{identifierOf}
 use borrow.Author.Needs.{needs}
 use Rattle.event_judge.proofs.identifier_of.Statement.{statement}

@@ -1,5 +1,4 @@
 -- Each test is a row's, in the order of the rows: 20, 21, 27, 26; past them the identifier stands in the table.
-use mathlib.Core.Path.{_≡_}
 use native.Mathlib.Omega.{arith}
 use denote.Ref.{now}
 use borrow.Author.Needs.{needs}

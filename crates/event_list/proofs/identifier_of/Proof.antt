@@ -2,8 +2,7 @@
 -- of the row, its field is read, and the element is put back. A `&[Event]` is Copy: what it owns is had twice, and one copy is kept whole for the exit.
 -- Assumes nothing.
 use mathlib.Core.Path.{_≡_, refl, sym, ap}
-use Prim.Native.Nat.{ℕ, _+_, _*_, _≤_, _<_, _^_}
-use native.Mathlib.Omega.{arith}
+use Prim.Native.Nat.{ℕ, _<_, _^_}
 use mathlib.Core.List.{List, [], _∷_}
 use lib.Dec.{lit<, leb→le, nleb→lt}
 use lib.ListN.{length, getD, List·getD-eq-default}
@@ -40,6 +39,7 @@ use denote.Triple.Walked.{says, Stays, stay-none, stay-none-slice, walkOf, goes-
 use denote.Exit.{yes}
 use Rattle.meaning.specs.Events.{noEvent, eventAt}
 use Rattle.meaning.specs.declared.Event.{Event}
+use Rattle.event_list.proofs.Laws.{scaled}
 use Rattle.event_list.proofs.Walk.{returns-if}
 use Rattle.meaning.proofs.Event as T
 use Rattle.meaning.proofs.Event.Laws as T′
@@ -50,9 +50,6 @@ use Rattle.event_list.proofs.identifier_of.Code as code
 
 abbrev stayed : Stays (f.ended .signature .params) (f.ended .kept)
 stayed = (stay-none-slice (0 ∷ []) tt (plain (λ _. T.the-row)) yes, (stay-none (λ _. usize) yes, tt))
-
-scaled : (i n : ℕ) → i < n → n * 56 < 2 ^ 63 → i * 56 < 2 ^ 64
-scaled i n l g = omega arith
 
 module _ {M : Type 1} (𝓤 : URA M) (H : Heap 𝓤) (A : Atoms 𝓤) (W : Given 𝓤 H A) (mem : Memory → SProp 𝓤) (run : Routine → Fun 𝓤) (κ : Lft) (q : Share) (b o : ℕ) (γ : GName) (ys : List Event) (i : ℕ) where
   abbrev s : RefT (List Event)

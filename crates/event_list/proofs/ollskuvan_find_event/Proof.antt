@@ -4,8 +4,8 @@
 --     Held i       the context there, but for the facts. I i      the whole of it: the loop's invariant
 --     leaves       the code after the loop, from either way out
 -- Assumes nothing.
-use mathlib.Core.Path.{_≡_, refl, sym, ap, _∙_, subst}
-use Prim.Native.Nat.{ℕ, suc, _+_, _-_, _*_, _≤_, _<_, _^_}
+use mathlib.Core.Path.{_≡_, refl, sym, subst}
+use Prim.Native.Nat.{ℕ, _+_, _-_, _≤_, _<_, _^_}
 use native.Mathlib.Omega.{arith}
 use mathlib.Core.Bool.{not}
 use mathlib.Core.List.{List, [], _∷_}
@@ -47,7 +47,7 @@ use denote.Exit.{yes}
 use Rattle.meaning.specs.Events.{noEvent, identifiers, indexOf}
 use Rattle.meaning.specs.declared.Event.{Event}
 use Rattle.event_list.proofs.Walk.{Left, left-wf, tests, breaks-if}
-use Rattle.event_list.proofs.Laws.{index-end, index-here, index-next, identifier-at}
+use Rattle.event_list.proofs.Laws.{index-end, index-here, index-next, identifier-at, scaled}
 use Rattle.meaning.proofs.Event as T
 use Rattle.meaning.proofs.Event.Laws as T′
 use Rattle.event_list.proofs.ollskuvan_find_event.Key.{name as #event_list·find}
@@ -67,9 +67,6 @@ word = tyInt w64
 
 abbrev slice : Ty
 slice = sliceTy (tyRef (named 0) imm (pointee (T.the-row .written)))
-
-scaled : (i n : ℕ) → i < n → n * 56 < 2 ^ 63 → i * 56 < 2 ^ 64
-scaled i n l g = omega arith
 
 -- at the head of a turn at the index i
 abbrev Facts : ℕ → List Event → ℕ → Type 0

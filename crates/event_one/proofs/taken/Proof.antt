@@ -1,7 +1,7 @@
 -- Where the record lies whole is what the definition asks.
 use mathlib.Core.Path.{_≡_, sym, _∙_}
 use mathlib.Core.Bool.{true, false, cond}
-use Prim.Native.Nat.{ℕ, _+_, _%_, _^_}
+use Prim.Native.Nat.{_+_, _%_, _^_}
 use denote.Ref.{now}
 use borrow.Author.Needs.{needs}
 use Rattle.meaning.specs.Ring.{whole}

@@ -1,33 +1,29 @@
 -- The place is below the number of slots; the slot there is the identifier's, and tells the answer.
-use mathlib.Core.Path.{_≡_}
-use Prim.Native.Nat.{ℕ, _-_, _≤_, _<_}
+use Prim.Native.Nat.{_-_}
 use native.Mathlib.Omega.{arith}
-use lib.Bits.{bitAnd, and-le-r}
 use lib.ListN.{length}
 use denote.Ref.{now}
 use borrow.Author.Needs.{needs}
+use Rattle.slots.specs.Slots.{slot-inside}
 use Rattle.event_plan.proofs.judge.Statement.{statement}
 use Rattle.event_plan.proofs.judge.Tie as tie
-
-place : (id n : ℕ) → 1 ≤ n → bitAnd id (n - 1) < n
-place id n h = omega (arith, h, and-le-r id (n - 1))
 
 hold-requires : tie.Need-hold-requires
 hold-requires c κs =
     let s = c .before .before .before in
-    (place (c .before .identifier-of .result) (length (now (s .args .memo))) (s .pre .1 .1 .1 .1 .1 .1 .1 .0), s .pre .1 .1 .1 .1 .1 .1 .1 .1)
+    (slot-inside (c .before .identifier-of .result) (length (now (s .args .memo))) (s .pre .1 .1 .1 .1 .1 .1 .1 .0), s .pre .1 .1 .1 .1 .1 .1 .1 .1)
 
-told-requires : tie.Need-told-requires
-told-requires c κs =
+slot-answer-requires : tie.Need-slot-answer-requires
+slot-answer-requires c κs =
     let s = c .before .before .before .before .before .before in
     let p = s .pre in
     let h = c .before .before .hold .ensures in
     let i = c .before .before .before .before .identifier-of in
-    let l = place (i .result) (length (now (s .args .memo))) (p .1 .1 .1 .1 .1 .1 .1 .0) in
+    let l = slot-inside (i .result) (length (now (s .args .memo))) (p .1 .1 .1 .1 .1 .1 .1 .0) in
     (p .0, (p .1 .0, (p .1 .1 .0, (p .1 .1 .1 .0, (p .1 .1 .1 .1 .0, (p .1 .1 .1 .1 .1 .0, (p .1 .1 .1 .1 .1 .1 .0, (omega (arith, l, h .1 .0), (i .ensures, h .1 .1)))))))))
 
 returns : tie.Need-returns
-returns c = let h = c .before .before .before .hold .ensures in (c .told .ensures, (h .0, h .1 .0))
+returns c = let h = c .before .before .before .hold .ensures in (c .slot-answer .ensures, (h .0, h .1 .0))
 
 pub judge-spec : {M : Type 1} → statement M
 judge-spec =
@@ -36,6 +32,6 @@ judge-spec =
     (λ c κs. search needs)
     (λ c. search needs)
     hold-requires
-    told-requires
+    slot-answer-requires
     (λ c. search needs)
     returns)

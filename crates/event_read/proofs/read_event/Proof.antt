@@ -1,6 +1,6 @@
 -- What the match refuses is the answer, and the words stay; where it finds an event, the record is read under that event's attributes. The number
 -- inspected is that of the match.
-use mathlib.Core.Path.{_≡_, sym, ap₂, _∙_}
+use mathlib.Core.Path.{sym, ap₂, _∙_}
 use native.Mathlib.Omega.{arith}
 use denote.Ref.{now}
 use borrow.Author.Needs.{needs}

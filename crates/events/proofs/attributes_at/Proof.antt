@@ -1,5 +1,5 @@
 -- A row of the table is its event.
-use mathlib.Core.Path.{_≡_, sym, ap, _∙_}
+use mathlib.Core.Path.{sym, ap, _∙_}
 use denote.Ref.{now}
 use borrow.Author.Needs.{needs}
 use Rattle.meaning.specs.Events.{attributesOf}

@@ -1,5 +1,5 @@
 -- Field by field it is the definition.
-use mathlib.Core.Path.{_≡_, refl}
+use mathlib.Core.Path.{refl}
 use Rattle.meaning.specs.Events.{attributesOf}
 use Rattle.events.proofs.attributes_of.Statement.{statement}
 use Rattle.events.proofs.attributes_of.Tie as tie

@@ -1,5 +1,5 @@
 -- Word by word it is the definition.
-use mathlib.Core.Path.{_≡_, refl}
+use mathlib.Core.Path.{refl}
 use Rattle.meaning.specs.Events.{eventOf}
 use borrow.Author.Needs.{needs}
 use Rattle.events.proofs.event_of.Statement.{statement}

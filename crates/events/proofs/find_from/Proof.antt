@@ -1,18 +1,15 @@
 -- What is still to come is the whole: the row at hand matches, or the search goes on after it.
-use mathlib.Core.Path.{_≡_, refl, sym, ap, _∙_, subst}
-use mathlib.Core.List.{List}
-use Prim.Native.Nat.{ℕ, _+_, _-_, _<_, _≤_}
-use native.Mathlib.Nat.{zero-add}
-use native.Mathlib.Omega.{arith}
+use mathlib.Core.Path.{refl, sym, _∙_, subst}
+use Prim.Native.Nat.{ℕ, _-_, _<_, _≤_}
 use borrow.Author.Needs.{needs}
-use lib.ListN.{length, getD, drop}
+use lib.ListN.{length}
 use denote.Ref.{now}
-use Rattle.event_laws.specs.Search.{Holds, found, goes-on, none, keys, keys-length, key-at}
+use Rattle.event_laws.specs.Search.{LookupHolds, found, goes-on, none, keys, keys-length, key-at}
 use Rattle.events.proofs.find_from.Statement.{statement}
 use Rattle.events.proofs.find_from.Tie as tie
 
 abbrev Inv-loop : tie.InvT-loop
-Inv-loop rows from id i₀ i = Holds id (keys rows) from i
+Inv-loop rows from id i₀ i = LookupHolds id (keys rows) from i
 
 abbrev μ-loop : tie.MeasureT-loop
 μ-loop rows from id i₀ i = length rows - i

@@ -1,5 +1,5 @@
 -- Both tests are the definition's.
-use mathlib.Core.Path.{_≡_, ap}
+use mathlib.Core.Path.{ap}
 use mathlib.Core.Bool.{Bool, not, _&&_}
 use lib.Dec.{eqb}
 use borrow.Author.Needs.{needs}

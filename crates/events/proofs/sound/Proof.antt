@@ -1,6 +1,5 @@
 -- Too few, too many, one without its marks; then identifiers that rise are distinct, and the others are asked.
 use mathlib.Core.Path.{sym, _∙_}
-use Prim.Native.Nat.{_<_, _≤_}
 use native.Mathlib.Omega.{arith}
 use denote.Ref.{now}
 use borrow.Author.Needs.{needs}

@@ -16,128 +16,29 @@ use Rattle.extents.proofs.of_shape.Tie as tie
 sub-len : tie.Need-sub-len
 sub-len c = let a = (c .before) .args in let q = (c .before) .pre .1 .1 in let t = end-is (now (a .s)) (a .c) (a .shape) ((c .before) .pre .1 .0) in omega (arith, q, t)
 
-enum-known-shape : tie.Need-enum-known-shape
-enum-known-shape c = search needs
-
 word-at-requires : tie.Need-word-at-requires
 unfolding span
 word-at-requires c κs = let a = (c .before .before .before .before) .args in let e = (c .before) .shape .given .1 in has-width (now (a .s)) (a .c) (a .shape) ((c .before .before .before .before) .pre .1 .0) ((c .before .before .before .before) .pre .0) _ (ap (λ (sh : Shape). span sh (a .c) (length (drop (a .c .at) (now (a .s))))) e)
-
-number-field-requires : tie.Need-number-field-requires
-number-field-requires c κs = search needs
-
-enum-told : tie.Need-enum-told
-enum-told c = search needs
-
-no-field-requires : tie.Need-no-field-requires
-no-field-requires c κs = search needs
-
-enum-known-shape-2 : tie.Need-enum-known-shape-2
-enum-known-shape-2 c = search needs
 
 word-at-requires-2 : tie.Need-word-at-requires-2
 unfolding span
 word-at-requires-2 c κs = let a = (c .before .before .before .before) .args in let e = (c .before) .shape2 .given .1 in has-width (now (a .s)) (a .c) (a .shape) ((c .before .before .before .before) .pre .1 .0) ((c .before .before .before .before) .pre .0) _ (ap (λ (sh : Shape). span sh (a .c) (length (drop (a .c .at) (now (a .s))))) e)
 
-no-field-requires-2 : tie.Need-no-field-requires-2
-no-field-requires-2 c κs = search needs
-
-enum-known-shape-3 : tie.Need-enum-known-shape-3
-enum-known-shape-3 c = search needs
-
 word-at-requires-3 : tie.Need-word-at-requires-3
 unfolding span
 word-at-requires-3 c κs = let a = (c .before .before .before .before) .args in let e = (c .before) .shape3 .given .1 in has-width (now (a .s)) (a .c) (a .shape) ((c .before .before .before .before) .pre .1 .0) ((c .before .before .before .before) .pre .0) _ (ap (λ (sh : Shape). span sh (a .c) (length (drop (a .c .at) (now (a .s))))) e)
-
-no-field-requires-3 : tie.Need-no-field-requires-3
-no-field-requires-3 c κs = search needs
-
-enum-told-2 : tie.Need-enum-told-2
-enum-told-2 c = search needs
-
-list-field-requires : tie.Need-list-field-requires
-list-field-requires c κs = search needs
-
-enum-told-3 : tie.Need-enum-told-3
-enum-told-3 c = search needs
-
-list-field-requires-2 : tie.Need-list-field-requires-2
-list-field-requires-2 c κs = search needs
-
-enum-told-4 : tie.Need-enum-told-4
-enum-told-4 c = search needs
-
-no-field-requires-4 : tie.Need-no-field-requires-4
-no-field-requires-4 c κs = search needs
-
-list-field-requires-3 : tie.Need-list-field-requires-3
-list-field-requires-3 c κs = search needs
-
-enum-told-5 : tie.Need-enum-told-5
-enum-told-5 c = search needs
-
-no-field-requires-5 : tie.Need-no-field-requires-5
-no-field-requires-5 c κs = search needs
 
 u64-at-requires : tie.Need-u64-at-requires
 unfolding span
 u64-at-requires c κs = let a = (c .before .before .before .before) .args in let e = (c .before) .enum-told5 .given .1 in has-width (now (a .s)) (a .c) (a .shape) ((c .before .before .before .before) .pre .1 .0) ((c .before .before .before .before) .pre .0) _ (ap (λ (sh : Shape). span sh (a .c) (length (drop (a .c .at) (now (a .s))))) e ∙ rw (ne-eqb (a .c .n) 0 (c .if2 .left)))
 
-number-field-requires-2 : tie.Need-number-field-requires-2
-number-field-requires-2 c κs = search needs
-
-enum-told-6 : tie.Need-enum-told-6
-enum-told-6 c = search needs
-
 u64-at-requires-2 : tie.Need-u64-at-requires-2
 unfolding span
 u64-at-requires-2 c κs = let a = (c .before .before .before) .args in let e = c .enum-told6 .given .1 in has-width (now (a .s)) (a .c) (a .shape) ((c .before .before .before) .pre .1 .0) ((c .before .before .before) .pre .0) _ (ap (λ (sh : Shape). span sh (a .c) (length (drop (a .c .at) (now (a .s))))) e)
 
-number-field-requires-3 : tie.Need-number-field-requires-3
-number-field-requires-3 c κs = search needs
-
-enum-told-7 : tie.Need-enum-told-7
-enum-told-7 c = search needs
-
 u8-at-requires : tie.Need-u8-at-requires
 unfolding span
 u8-at-requires c κs = let a = (c .before .before .before) .args in let e = c .enum-told7 .given .1 in has-width (now (a .s)) (a .c) (a .shape) ((c .before .before .before) .pre .1 .0) ((c .before .before .before) .pre .0) _ (ap (λ (sh : Shape). span sh (a .c) (length (drop (a .c .at) (now (a .s))))) e)
-
-no-field-requires-6 : tie.Need-no-field-requires-6
-no-field-requires-6 c κs = search needs
-
-enum-told-8 : tie.Need-enum-told-8
-enum-told-8 c = search needs
-
-list-field-requires-4 : tie.Need-list-field-requires-4
-list-field-requires-4 c κs = search needs
-
-list-field-requires-5 : tie.Need-list-field-requires-5
-list-field-requires-5 c κs = search needs
-
-enum-told-9 : tie.Need-enum-told-9
-enum-told-9 c = search needs
-
-list-field-requires-6 : tie.Need-list-field-requires-6
-list-field-requires-6 c κs = search needs
-
-enum-told-10 : tie.Need-enum-told-10
-enum-told-10 c = search needs
-
-no-field-requires-7 : tie.Need-no-field-requires-7
-no-field-requires-7 c κs = search needs
-
-enum-told-11 : tie.Need-enum-told-11
-enum-told-11 c = search needs
-
-zero-from-requires : tie.Need-zero-from-requires
-zero-from-requires c κs = search needs
-
-sub-list-field : tie.Need-sub-list-field
-sub-list-field c = search needs
-
-list-field-requires-7 : tie.Need-list-field-requires-7
-list-field-requires-7 c κs = search needs
 
 returns : tie.Need-returns
 returns c = let a = (c .before .before .before .before .before .before) .args in let e = (c .before .before .before) .shape .given .1 in subst (λ (sh : Shape). Lies (now (a .s)) sh (a .w) (a .c) (c .number-field .result)) (sym e) (lies-number (now (a .s)) (a .w) (a .c) ((c .before .before .before .before .before .before) .pre .0) _ _ _ ((c .before) .word-at .ensures) (c .number-field .ensures))
@@ -195,45 +96,45 @@ of-shape-spec =
     tie.close
     (tie.spec
     sub-len
-    enum-known-shape
+    (λ c. search needs)
     word-at-requires
-    number-field-requires
-    enum-told
-    no-field-requires
-    enum-known-shape-2
+    (λ c κs. search needs)
+    (λ c. search needs)
+    (λ c κs. search needs)
+    (λ c. search needs)
     word-at-requires-2
-    no-field-requires-2
-    enum-known-shape-3
+    (λ c κs. search needs)
+    (λ c. search needs)
     word-at-requires-3
-    no-field-requires-3
-    enum-told-2
-    list-field-requires
-    enum-told-3
-    list-field-requires-2
-    enum-told-4
-    no-field-requires-4
-    list-field-requires-3
-    enum-told-5
-    no-field-requires-5
+    (λ c κs. search needs)
+    (λ c. search needs)
+    (λ c κs. search needs)
+    (λ c. search needs)
+    (λ c κs. search needs)
+    (λ c. search needs)
+    (λ c κs. search needs)
+    (λ c κs. search needs)
+    (λ c. search needs)
+    (λ c κs. search needs)
     u64-at-requires
-    number-field-requires-2
-    enum-told-6
+    (λ c κs. search needs)
+    (λ c. search needs)
     u64-at-requires-2
-    number-field-requires-3
-    enum-told-7
+    (λ c κs. search needs)
+    (λ c. search needs)
     u8-at-requires
-    no-field-requires-6
-    enum-told-8
-    list-field-requires-4
-    list-field-requires-5
-    enum-told-9
-    list-field-requires-6
-    enum-told-10
-    no-field-requires-7
-    enum-told-11
-    zero-from-requires
-    sub-list-field
-    list-field-requires-7
+    (λ c κs. search needs)
+    (λ c. search needs)
+    (λ c κs. search needs)
+    (λ c κs. search needs)
+    (λ c. search needs)
+    (λ c κs. search needs)
+    (λ c. search needs)
+    (λ c κs. search needs)
+    (λ c. search needs)
+    (λ c κs. search needs)
+    (λ c. search needs)
+    (λ c κs. search needs)
     returns
     returns-2
     returns-3

@@ -1,17 +1,15 @@
--- `fills::abi` meets its contract. Assumes nothing.
-use mathlib.Core.Path.{_≡_, refl, sym, ap, ap₂, _∙_}
-use mathlib.Core.List.{List, [], _∷_}
+-- `fills::abi` meets its contract: not selected nothing changes; else the one word is the number at the cursor, and the count from here on is the registers that it and the mask give. Assumes nothing.
+use mathlib.Core.Path.{refl, sym, ap, _∙_}
+use mathlib.Core.List.{[], _∷_}
 use Prim.Native.Nat.{ℕ}
 use native.Mathlib.Omega.{arith}
-use lib.ListN.{length, take, drop, length-drop, length-set}
 use lib.Dec.{eqb}
 use mathlib.Core.Bool.{cond}
-use denote.Ref.{now}
 use borrow.Author.Tests.{not-true, not-false}
 use Rattle.meaning.specs.Bytes.{ones}
 use Rattle.meaning.specs.Items.{span, part, holds, counted, before}
 use Rattle.meaning.specs.Values.{tell, slotShape}
-use Rattle.fills.proofs.Shapes.{off, took, has, room, one-word, two-words, no-word}
+use Rattle.fills.proofs.Shapes.{off, has, room, one-word}
 use borrow.Author.Needs.{needs}
 use Rattle.fills.proofs.abi.Statement.{statement}
 use Rattle.fills.proofs.abi.Tie as tie

@@ -1,16 +1,16 @@
--- `fills::filled` meets its contract. Assumes nothing.
-use mathlib.Core.Path.{_≡_, refl, sym, ap, ap₂, _∙_}
-use mathlib.Core.List.{List, [], _∷_}
+-- `fills::filled` meets its contract: not selected, or of a stack of size 0, nothing changes; else the one word is the number at the cursor. Assumes nothing.
+use mathlib.Core.Path.{_≡_, refl, sym, ap, _∙_}
+use mathlib.Core.List.{[], _∷_}
 use Prim.Native.Nat.{ℕ}
 use native.Mathlib.Omega.{arith}
-use lib.ListN.{length, take, drop, length-drop, length-set}
+use lib.ListN.{length, take, drop}
 use denote.Ref.{now}
 use borrow.Author.Tests.{not-true, not-false, ne-eqb}
 use Rattle.meaning.specs.declared.Shape.the-variants.{Filled}
 use Rattle.meaning.specs.Bytes.{num}
 use Rattle.meaning.specs.Items.{span, part, holds, counted, before}
 use Rattle.meaning.specs.Values.{tell, slotShape}
-use Rattle.fills.proofs.Shapes.{unfilled, off, took, has, room, one-word, two-words, no-word}
+use Rattle.fills.proofs.Shapes.{unfilled, off, has, room, one-word}
 use borrow.Author.Needs.{needs}
 use Rattle.fills.proofs.filled.Statement.{statement}
 use Rattle.fills.proofs.filled.Tie as tie

@@ -1,16 +1,16 @@
--- `fills::name` meets its contract. Assumes nothing.
-use mathlib.Core.Path.{_≡_, refl, sym, ap, ap₂, _∙_}
+-- `fills::name` meets its contract: not selected nothing changes; else the two words are the place and the bytes before the first zero, and the cursor stands at the end. Assumes nothing.
+use mathlib.Core.Path.{_≡_, refl, sym, ap, _∙_}
 use mathlib.Core.List.{List, [], _∷_}
 use Prim.Native.Nat.{ℕ, _+_, _-_}
 use native.Mathlib.Omega.{arith}
-use lib.ListN.{length, take, drop, length-drop, length-set}
+use lib.ListN.{length, drop, length-drop, length-set}
 use lib.Seq.{take-length}
 use denote.Ref.{now}
 use borrow.Author.Tests.{not-true, not-false}
 use Rattle.meaning.specs.Bytes.{zeroIn}
 use Rattle.meaning.specs.Items.{cursor, span, part, holds, counted, before}
 use Rattle.meaning.specs.Values.{tell, slotShape}
-use Rattle.fills.proofs.Shapes.{name-has, off, took, has, room, one-word, two-words, no-word}
+use Rattle.fills.proofs.Shapes.{name-has, off, room, two-words}
 use borrow.Author.Needs.{needs}
 use Rattle.fills.proofs.name.Statement.{statement}
 use Rattle.fills.proofs.name.Tie as tie

@@ -1,14 +1,12 @@
--- `fills::pad` meets its contract. Assumes nothing.
-use mathlib.Core.Path.{_≡_, refl, sym, ap, ap₂, _∙_}
-use mathlib.Core.List.{List, [], _∷_}
-use Prim.Native.Nat.{ℕ}
+-- `fills::pad` meets its contract: not selected nothing changes; else there is no word, and the bytes up to the next multiple of 8 are passed. Assumes nothing.
+use mathlib.Core.Path.{refl}
 use native.Mathlib.Omega.{arith}
-use lib.ListN.{length, drop, length-drop, length-set}
+use lib.ListN.{length-drop}
 use denote.Ref.{now}
 use borrow.Author.Tests.{not-true, not-false}
 use Rattle.meaning.specs.Items.{span, part, holds, counted, before}
 use Rattle.meaning.specs.Values.{tell, slotShape}
-use Rattle.fills.proofs.Shapes.{off, took, has, room, one-word, two-words, no-word}
+use Rattle.fills.proofs.Shapes.{off, took, no-word}
 use borrow.Author.Needs.{needs}
 use Rattle.fills.proofs.pad.Statement.{statement}
 use Rattle.fills.proofs.pad.Tie as tie

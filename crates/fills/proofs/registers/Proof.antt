@@ -1,14 +1,12 @@
--- `fills::registers` meets its contract. Assumes nothing.
-use mathlib.Core.Path.{_≡_, refl, sym, ap, ap₂, _∙_}
-use mathlib.Core.List.{List, [], _∷_}
-use Prim.Native.Nat.{ℕ}
+-- `fills::registers` meets its contract: not selected nothing changes; else the two words are the place and the last count, and as many registers are passed. Assumes nothing.
+use mathlib.Core.Path.{refl}
 use native.Mathlib.Omega.{arith}
-use lib.ListN.{length, drop, length-drop, length-set}
+use lib.ListN.{length-drop, length-set}
 use denote.Ref.{now}
 use borrow.Author.Tests.{not-true, not-false}
 use Rattle.meaning.specs.Items.{span, part, holds, counted, before}
 use Rattle.meaning.specs.Values.{tell, slotShape}
-use Rattle.fills.proofs.Shapes.{off, took, has, room, one-word, two-words, no-word}
+use Rattle.fills.proofs.Shapes.{off, took, room, two-words}
 use borrow.Author.Needs.{needs}
 use Rattle.fills.proofs.registers.Statement.{statement}
 use Rattle.fills.proofs.registers.Tie as tie

@@ -1,4 +1,4 @@
--- `fills::registers_by` meets its contract. Assumes nothing.
+-- `fills::registers_by` meets its contract: an abi of 0 has no registers, and else they are the ones of the mask. Assumes nothing.
 use mathlib.Core.Path.{refl, _∙_, sym}
 use borrow.Author.Tests.{eq-eqb, ne-eqb}
 use borrow.Author.Needs.{needs}

@@ -1,14 +1,12 @@
--- `fills::times` meets its contract. Assumes nothing.
-use mathlib.Core.Path.{_≡_, refl, sym, ap, ap₂, _∙_}
-use mathlib.Core.List.{List, [], _∷_}
-use Prim.Native.Nat.{ℕ}
+-- `fills::times` meets its contract: not selected nothing changes; else the one word is the place, and as many elements as the last count says are passed. Assumes nothing.
+use mathlib.Core.Path.{refl}
 use native.Mathlib.Omega.{arith}
-use lib.ListN.{length, drop, length-drop, length-set}
+use lib.ListN.{length-drop}
 use denote.Ref.{now}
 use borrow.Author.Tests.{not-true, not-false}
 use Rattle.meaning.specs.Items.{span, part, holds, counted, before}
 use Rattle.meaning.specs.Values.{tell, slotShape}
-use Rattle.fills.proofs.Shapes.{off, took, has, room, one-word, two-words, no-word}
+use Rattle.fills.proofs.Shapes.{off, took, room, one-word}
 use borrow.Author.Needs.{needs}
 use Rattle.fills.proofs.times.Statement.{statement}
 use Rattle.fills.proofs.times.Tie as tie

@@ -1,5 +1,4 @@
--- `fills::zero_of` meets its contract. Assumes nothing.
-use native.Mathlib.Omega.{arith}
+-- `fills::zero_of` meets its contract: the search finds the first zero from the place, or, where eight bytes and more follow, in the last eight, before which the contract has none. Assumes nothing.
 use denote.Ref.{now}
 use Rattle.fills.proofs.Shapes.{zero-from-end}
 use borrow.Author.Needs.{needs}

@@ -9,7 +9,6 @@ use Rattle.meaning.specs.Schema.{schema}
 use Rattle.meaning.specs.Writing.{named, ends}
 use Rattle.meaning.specs.Values.{tell, width, flagWords, bodyWidth, bodyWords}
 use Rattle.layouts.specs.Types.{no-type}
-use borrow.Author.Needs.{needs}
 use Rattle.fit_chains.proofs.own_end.Statement.{statement}
 use Rattle.fit_chains.proofs.own_end.Tie as tie
 

@@ -1,20 +1,17 @@
 -- What is noted so far is right under every edition that knows bit 16; the row at hand is the first with its identifier, since no two are equal.
 use mathlib.Core.Path.{_≡_, refl, sym, _∙_, subst}
-use mathlib.Core.List.{List, []}
+use mathlib.Core.List.{[]}
 use Prim.Native.Nat.{ℕ, _-_, _≤_, _<_}
 use native.Mathlib.Omega.{arith}
-use lib.Bits.{bitAnd, and-le-r}
+use lib.Bits.{bitAnd}
 use lib.ListN.{length, getD, length-set}
 use denote.Ref.{now}
 use borrow.Author.Needs.{needs, scaled-fits}
 use Rattle.meaning.specs.declared.Known.{Known}
 use Rattle.meaning.specs.Events.{eventsOf}
-use Rattle.slots.specs.Slots.{Memo, memo-entered}
+use Rattle.slots.specs.Slots.{Memo, slot-inside, memo-entered}
 use Rattle.held_slots.proofs.enter_rows.Statement.{statement}
 use Rattle.held_slots.proofs.enter_rows.Tie as tie
-
-place : (id n : ℕ) → 1 ≤ n → bitAnd id (n - 1) < n
-place id n h = omega (arith, h, and-le-r id (n - 1))
 
 abbrev Inv-loop : tie.InvT-loop
 Inv-loop rows memo₀ i₀ memo i = ((k : Known) → 16 < k .samples → Memo k (eventsOf rows) memo₀ → Memo k (eventsOf rows) memo) × (length memo ≡ length memo₀) × (1 ≤ length memo)
@@ -32,7 +29,7 @@ mul-t8 : tie.Need-mul-t8 Inv-loop μ-loop
 mul-t8 c =
     let l = c .before .before .loop in
     let id : ℕ = getD (getD (now (c .before .before .before .before .before .args .rows)) (l .i) []) 0 0 in
-    scaled-fits (bitAnd id (length (l .memo) - 1)) (length (l .memo)) 64 (place id (length (l .memo)) (l .inv .2)) (search needs)
+    scaled-fits (bitAnd id (length (l .memo) - 1)) (length (l .memo)) 64 (slot-inside id (length (l .memo)) (l .inv .2)) (search needs)
 
 loop-again : tie.Need-loop-again Inv-loop μ-loop
 loop-again c =
@@ -65,7 +62,7 @@ enter-rows-spec =
     (λ c. search needs)
     (λ c. search needs)
     mul-t8
-    (λ c. search (needs, place))
+    (λ c. search (needs, slot-inside))
     (λ c. search needs)
     (λ c. search needs)
     loop-again

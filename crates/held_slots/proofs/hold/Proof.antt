@@ -1,7 +1,6 @@
 -- A slot of this identifier that is filled is kept; any other is made anew.
-use mathlib.Core.Path.{_≡_, refl}
-use Prim.Native.Nat.{ℕ, _<_}
-use lib.ListN.{length, length-set}
+use mathlib.Core.Path.{refl}
+use lib.ListN.{length-set}
 use denote.Ref.{now}
 use borrow.Author.Needs.{needs}
 use Rattle.meaning.specs.Events.{eventsOf}

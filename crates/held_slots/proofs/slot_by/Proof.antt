@@ -1,12 +1,10 @@
 -- The index that is noted is the identifier's, which is in the table; where none is, the identifier is looked up.
-use mathlib.Core.Path.{_≡_, sym, _∙_}
-use Prim.Native.Nat.{ℕ, _≤_, _<_}
 use native.Mathlib.Omega.{arith}
 use denote.Ref.{now}
 use borrow.Author.Needs.{needs}
 use Rattle.meaning.specs.Events.{eventsOf}
 use Rattle.laws.specs.Lookup.{rows-length}
-use Rattle.slots.specs.Slots.{Slot, slot-noted}
+use Rattle.slots.specs.Slots.{slot-noted}
 use Rattle.held_slots.proofs.slot_by.Statement.{statement}
 use Rattle.held_slots.proofs.slot_by.Tie as tie
 

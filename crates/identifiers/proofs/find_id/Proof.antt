@@ -1,18 +1,16 @@
 -- What is still to come is the whole: the identifier at hand matches, or the search goes on after it.
-use mathlib.Core.Path.{_≡_, refl, sym, ap, _∙_, subst}
-use mathlib.Core.List.{List}
-use Prim.Native.Nat.{ℕ, _+_, _-_, _<_, _≤_}
+use mathlib.Core.Path.{refl, _∙_}
+use Prim.Native.Nat.{_-_}
 use native.Mathlib.Nat.{zero-add}
-use native.Mathlib.Omega.{arith}
 use borrow.Author.Needs.{needs}
-use lib.ListN.{length, getD, drop}
+use lib.ListN.{length}
 use denote.Ref.{now}
-use Rattle.event_laws.specs.Search.{Holds, found, goes-on, none}
+use Rattle.event_laws.specs.Search.{LookupHolds, found, goes-on, none}
 use Rattle.identifiers.proofs.find_id.Statement.{statement}
 use Rattle.identifiers.proofs.find_id.Tie as tie
 
 abbrev Inv-loop : tie.InvT-loop
-Inv-loop ids id i₀ i = Holds id ids 0 i
+Inv-loop ids id i₀ i = LookupHolds id ids 0 i
 
 abbrev μ-loop : tie.MeasureT-loop
 μ-loop ids id i₀ i = length ids - i

@@ -11,12 +11,6 @@ use Rattle.item_pairs.proofs.pass_item.Tie as tie
 returns : tie.Need-returns
 returns c = let a = (c .before .before .before) .args in let p = (c .before .before .before) .pre in passed-off (now (a .s)) (now (a .t)) (a .i) (a .w) (a .x) (a .c) (a .d) _ (not-true (a .i .on) (c .if1 .taken)) (p .1 .0 .0) (p .1 .0 .1) refl
 
-step-requires : tie.Need-step-requires
-step-requires c κs = search needs
-
-step-requires-2 : tie.Need-step-requires-2
-step-requires-2 c κs = search needs
-
 of-shape-requires : tie.Need-of-shape-requires
 of-shape-requires c κs =
     let a = (c .before .before .before .before .before) .args in
@@ -45,8 +39,8 @@ pass-item-spec =
     tie.close
     (tie.spec
     returns
-    step-requires
-    step-requires-2
+    (λ c κs. search needs)
+    (λ c κs. search needs)
     of-shape-requires
     of-shape-requires-2
     same-fields-requires

@@ -18,12 +18,9 @@ returns-3 c = let a = (c .before .before .before .before .before .before .before
 returns-4 : tie.Need-returns-4
 returns-4 c = let a = (c .before .before .before .before .before .before .before .before .before .before .before) .args in other-length (now (a .s)) (now (a .t)) (a .e) (a .g) (not-false (a .e .has) ((c .before .before .before .before .before .before .before) .if1 .left)) (not-false (a .g .has) ((c .before .before .before .before .before) .if2 .left)) ((c .before .before) .if3 .left) ((c .before .before .before .before .before .before .before .before .before .before .before) .pre .0) ((c .before .before .before .before .before .before .before .before .before .before .before) .pre .1) (c .if4 .taken)
 
-same-bytes-requires : tie.Need-same-bytes-requires
-same-bytes-requires c κs = search needs
-
 returns-5 : tie.Need-returns-5
 returns-5 c = let a = (c .before .before .before .before .before .before .before .before .before .before .before .before) .args in by-bytes (now (a .s)) (now (a .t)) (a .e) (a .g) (c .same-bytes .result) (not-false (a .e .has) ((c .before .before .before .before .before .before .before .before) .if1 .left)) (not-false (a .g .has) ((c .before .before .before .before .before .before) .if2 .left)) ((c .before .before .before) .if3 .left) ((c .before) .if4 .left) (c .same-bytes .ensures)
 
 pub same-fields-spec : {M : Type 1} → statement M
 same-fields-spec =
-    tie.close (tie.spec returns returns-2 returns-3 returns-4 same-bytes-requires returns-5)
+    tie.close (tie.spec returns returns-2 returns-3 returns-4 (λ c κs. search needs) returns-5)

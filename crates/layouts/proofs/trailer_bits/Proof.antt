@@ -1,7 +1,6 @@
 -- `layouts::trailer_bits` meets its contract: by its test. Assumes nothing.
 use mathlib.Core.Path.{sym, ap}
 use mathlib.Core.Bool.{Bool, cond}
-use borrow.Author.Needs.{needs}
 use Rattle.layouts.proofs.trailer_bits.Statement.{statement}
 use Rattle.layouts.proofs.trailer_bits.Tie as tie
 

@@ -7,7 +7,7 @@ use native.Mathlib.Omega.{arith}
 use lib.Dec.{eqb, ltb}
 use borrow.Author.Needs.{needs}
 use borrow.Author.Tests.{eqb-true, eqb-false, ltb-true, ltb-false}
-use Rattle.exact.specs.Stretches.{or-no}
+use Rattle.laws.specs.Rows.{or-false}
 use Rattle.marks.specs.Bases.{no-type}
 use Rattle.marks.specs.Marks.{Marked}
 use Rattle.marks.proofs.other_mark.Statement.{statement}
@@ -35,7 +35,7 @@ type-mark-requires : tie.Need-type-mark-requires
 type-mark-requires c κs =
     let s = c .before .before .before .before in
     let a = s .args in
-    let o = or-no (eqb (a .kind) 0) (ltb (a .known .kinds) (a .kind)) (c .before .before .if1 .left) in
+    let o = or-false (eqb (a .kind) 0) (ltb (a .known .kinds) (a .kind)) (c .before .before .if1 .left) in
     let z = eqb-false (a .kind) 0 (o .0) in
     (s .pre .0, (c .unreadable .ensures, (s .pre .1 .0, (s .pre .1 .1 .0, (omega (arith, z), (ltb-false (a .known .kinds) (a .kind) (o .1), (c .before .if2 .left, s .pre .1 .1 .1)))))))
 

@@ -4,7 +4,7 @@ use Prim.Native.Nat.{_<_}
 use denote.Ref.{now}
 use borrow.Author.Needs.{needs}
 use Rattle.pair_fields.specs.declared.Pos.{Pos}
-use Rattle.pair_fields.specs.Inner.{isAlike, isField, toGo, trailing, Stands}
+use Rattle.pair_fields.specs.Inner.{isAlike, isField, toGo, trailing, FieldsStand}
 use Rattle.pair_fields.specs.Fields.{trailing-stands, trailing-less}
 use Rattle.pair_fields.proofs.next.Statement.{statement}
 use Rattle.pair_fields.proofs.next.Tie as tie
@@ -22,7 +22,7 @@ returns-3 c =
     let e : c .trailing .result ≡ trailing (now (a .x)) (a .p) = c .trailing .ensures in
     let l = c .before .before .if1 .left in
     let b = c .before .if2 .left in (
-      subst (Stands (isAlike (a .p) (now (a .x)) (now (a .y))) (isField (a .p) (now (a .x)) (now (a .y))) (now (a .x)) (now (a .y))) (sym e)
+      subst (FieldsStand (isAlike (a .p) (now (a .x)) (now (a .y))) (isField (a .p) (now (a .x)) (now (a .y))) (now (a .x)) (now (a .y))) (sym e)
           (trailing-stands (now (a .x)) (now (a .y)) (a .p) (s .pre .0) (s .pre .1) l b),
       subst (λ (r : Pos). toGo r < toGo (a .p)) (sym e) (trailing-less (now (a .x)) (now (a .y)) (a .p) (s .pre .0) (s .pre .1) l b),
     )

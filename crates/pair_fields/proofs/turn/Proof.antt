@@ -6,8 +6,8 @@ use lib.Seq.{length-take-le}
 use denote.Ref.{now}
 use borrow.Author.Needs.{needs}
 use Rattle.pair_fields.specs.declared.Pos.{Pos}
-use Rattle.pair_fields.specs.Inner.{isAlike, isField, toGo, moved, Stands}
-use Rattle.compare.specs.Slices.{small-of}
+use Rattle.pair_fields.specs.Inner.{isAlike, isField, toGo, moved, FieldsStand}
+use Rattle.laws.specs.Numbers.{small-of}
 use Rattle.pair_fields.specs.Fields.{differs-stands, settled-less, end-in, row-needs, row-other, row-same, row-less}
 use Rattle.pair_fields.proofs.turn.Statement.{statement}
 use Rattle.pair_fields.proofs.turn.Tie as tie
@@ -52,7 +52,7 @@ returns c =
     let x = small-of (now (a .x)) (c .before .before .before .before .before .before .before .shared-slice-known .given) in
     let y = small-of (now (a .y)) (c .before .before .before .before .before .before .shared-slice-known2 .given) in
     let e : c .moved .result ≡ moved (a .p) (q .result) = c .moved .ensures in (
-      subst (Stands (isAlike (a .p) (now (a .x)) (now (a .y))) (isField (a .p) (now (a .x)) (now (a .y))) (now (a .x)) (now (a .y))) (sym e)
+      subst (FieldsStand (isAlike (a .p) (now (a .x)) (now (a .y))) (isField (a .p) (now (a .x)) (now (a .y))) (now (a .x)) (now (a .y))) (sym e)
           (row-same (now (a .x)) (now (a .y)) (a .p) (s .pre .0) (s .pre .1 .0) (i .result) (i .ensures) (s .pre .1 .1) x y (q .result) (q .ensures) (c .before .if1 .taken)),
       subst (λ (r : Pos). toGo r < toGo (a .p)) (sym e)
           (row-less (now (a .x)) (now (a .y)) (a .p) (s .pre .0) (s .pre .1 .0) (i .result) (i .ensures) (s .pre .1 .1) x y (q .result) (q .ensures)),

@@ -16,7 +16,8 @@ use Rattle.compare.specs.Compared.{eventReads}
 use Rattle.compare.specs.Pairs.{same-bytes}
 use Rattle.compare.specs.Others.{same-record, other-answer, other-refused, other-kind, other-misc, other-size, other-identifier}
 use Rattle.pair_fields.specs.Fields.{settled-stands, differs-stands}
-use Rattle.pairs.specs.Start.{kind-is, misc-is, size-is, framed-long, accepted-long, accepted-there, accepted-room, start-stands}
+use Rattle.laws.specs.Numbers.{kind-is, misc-is, size-is}
+use Rattle.pairs.specs.Start.{framed-long, accepted-long, accepted-there, accepted-room, start-stands}
 use Rattle.pairs.proofs.begin.Statement.{statement}
 use Rattle.pairs.proofs.begin.Tie as tie
 

@@ -12,7 +12,8 @@ use Rattle.laws.specs.Bytes.{apart}
 use Rattle.laws.specs.Lookup.{rows-length}
 use Rattle.twins.specs.Twins.{Beside}
 use Rattle.twins.specs.Whole.{same-like}
-use Rattle.pairs.specs.Start.{kind-is, misc-is, framed-long, accepted-long, accepted-there, beside-is, like-alike}
+use Rattle.laws.specs.Numbers.{kind-is, misc-is}
+use Rattle.pairs.specs.Start.{framed-long, accepted-long, accepted-there, beside-is, like-alike}
 use Rattle.pairs.proofs.like.Statement.{statement}
 use Rattle.pairs.proofs.like.Tie as tie
 

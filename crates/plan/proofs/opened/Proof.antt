@@ -13,7 +13,7 @@ use Rattle.meaning.specs.Editions.{unreadable}
 use Rattle.laws.specs.Bytes.{and-true}
 use Rattle.meaning.specs.Records.{miscOf, fieldsOf}
 use Rattle.meaning.specs.Schema.{schema}
-use Rattle.marks.specs.Marks.{Plain, opened-reads, plain-unreadable, plain-of, plain-body, trail-eights, fields-short, fields-judged, name-judged}
+use Rattle.marks.specs.Marks.{openMark, stretchedMark, refusedMark, Plain, opened-reads, plain-unreadable, plain-of, plain-body, trail-eights, fields-short, fields-judged, name-judged}
 use Rattle.plan.proofs.opened.Statement.{statement}
 use Rattle.plan.proofs.opened.Tie as tie
 
@@ -82,7 +82,7 @@ returns-3 c =
     (plain-body (a .kind) (miscOf (now (a .r))) (a .a) (plain (c .before .before .before .before))) (c .before .before .before .if2 .left) (c .counted .ensures)
 
 -- a name
-name-mark : (c : tie.Else3) → (65537 < c .before .before .before .before .before .before .args .mark) × (c .before .before .before .before .before .before .args .mark < 131072)
+name-mark : (c : tie.Else3) → (stretchedMark < c .before .before .before .before .before .before .args .mark) × (c .before .before .before .before .before .before .args .mark < refusedMark)
 name-mark c =
     let q = c .before .before .before .before .before .before .pre .1 .1 .1 .1 .1 .1 .1 .1 in
     let x = q .0 in
@@ -111,7 +111,7 @@ returns-4 c =
     let w = n .0 in
     let d = s .pre .1 .1 .1 .1 .0 .named (n .0) (n .1) in
     let e = d .3 in
-    name-judged (a .known) (a .a) (now (a .r)) (a .kind) (s .pre .1 .1 .1 .0) _ (s .pre .1 .1 .1 .1 .1 .0) (opens s .1) (a .mark - 65536) _ (opens s .0) (plain (c .before .before .before .before)) (omega (arith, e, w)) (λ z. omega (arith, z, w)) (c .before .before .before .if2 .left) (c .named .ensures)
+    name-judged (a .known) (a .a) (now (a .r)) (a .kind) (s .pre .1 .1 .1 .0) _ (s .pre .1 .1 .1 .1 .1 .0) (opens s .1) (a .mark - openMark) _ (opens s .0) (plain (c .before .before .before .before)) (omega (arith, e, w)) (λ z. omega (arith, z, w)) (c .before .before .before .if2 .left) (c .named .ensures)
 
 pub opened-spec : {M : Type 1} → statement M
 opened-spec =

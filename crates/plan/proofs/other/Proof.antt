@@ -5,7 +5,7 @@ use native.Mathlib.Omega.{arith}
 use denote.Ref.{now}
 use borrow.Author.Needs.{needs}
 use Rattle.meaning.specs.Records.{miscOf}
-use Rattle.marks.specs.Marks.{size-judged, refused-judged}
+use Rattle.marks.specs.Marks.{refusedMark, size-judged, refused-judged}
 use Rattle.plan.proofs.other.Statement.{statement}
 use Rattle.plan.proofs.other.Tie as tie
 
@@ -26,7 +26,7 @@ returns-2 c =
     let q = s .pre .1 .1 .1 in
     let m = q .1 .0 .refused (c .if2 .taken) in
     let l = m .0 in
-    refused-judged (a .known) (a .a) (now (a .r)) (a .kind) (q .0) (a .mark - 131072) (m .2 (miscOf (now (a .r)))) (λ z. omega (arith, z, l))
+    refused-judged (a .known) (a .a) (now (a .r)) (a .kind) (q .0) (a .mark - refusedMark) (m .2 (miscOf (now (a .r)))) (λ z. omega (arith, z, l))
 
 opened-requires : tie.Need-opened-requires
 opened-requires c κs =

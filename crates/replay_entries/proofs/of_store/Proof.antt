@@ -1,6 +1,5 @@
 -- The kind decides which length is asked.
-use Prim.Native.Nat.{ℕ}
-use mathlib.Core.Bool.{Bool, or-false}
+use mathlib.Core.Bool.{or-false}
 use borrow.Author.Tests.{ne-eqb}
 use Rattle.replay_entries.proofs.of_store.Statement.{statement}
 use Rattle.replay_entries.proofs.of_store.Tie as tie

@@ -2,7 +2,7 @@
 use mathlib.Core.Path.{_≡_, sym, ap, _∙_, subst}
 use Prim.Native.Nat.{ℕ, _%_, _<_, _≤_}
 use native.Mathlib.Omega.{arith}
-use mathlib.Core.Bool.{Bool, and-false}
+use mathlib.Core.Bool.{and-false}
 use lib.Dec.{eqb}
 use lib.ListN.{length}
 use denote.Ref.{now}

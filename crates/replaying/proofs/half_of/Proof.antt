@@ -1,6 +1,5 @@
 -- An odd length has no half: the definition's test, by its remainder.
-use Prim.Native.Nat.{ℕ, _%_}
-use mathlib.Core.Bool.{Bool}
+use Prim.Native.Nat.{_%_}
 use borrow.Author.Tests.{eq-eqb, ne-eqb}
 use Rattle.replaying.proofs.half_of.Statement.{statement}
 use Rattle.replaying.proofs.half_of.Tie as tie

@@ -1,7 +1,7 @@
 -- 1, 2, 5 and 11 are the rows of a call at one count; past them the table is sound, the edition one, and the two halves are all.
 use mathlib.Core.Path.{_≡_, sym, ap, _∙_, subst}
 use mathlib.Core.List.{List}
-use mathlib.Core.Bool.{Bool, true}
+use mathlib.Core.Bool.{true}
 use Prim.Native.Nat.{ℕ, _+_}
 use lib.ListN.{length}
 use denote.Ref.{now}

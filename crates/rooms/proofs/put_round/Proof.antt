@@ -12,51 +12,15 @@ use Rattle.replay.specs.Round.{round-past, round-whole}
 use borrow.Author.Needs.{needs}
 use Rattle.rooms.proofs.put_round.Statement.{statement}
 use Rattle.rooms.proofs.put_round.Tie as tie
-use Rattle.rooms.proofs.put_round.Reads as reads
-use Rattle.rooms.proofs.put_round.Lts as lts
-use Rattle.wire.proofs.copy_at.Reads as copy-at-reads
-
-copy-at-requires : tie.Need-copy-at-requires
-copy-at-requires c κs = search needs
-
-same-length : tie.Need-same-length
-same-length c = search needs
 
 returns : tie.Need-returns
 returns c = let a = c .before .before .before .before .before .before .before .args in c .before .before .copy-at .ensures ∙ sym (round-past (now (a .ring)) (a .place) (now (a .r)) (c .before .before .before .before .if1 .taken))
-
-sub-n : tie.Need-sub-n
-sub-n c = search needs
-
-copy-at-requires-2 : tie.Need-copy-at-requires-2
-copy-at-requires-2 c κs = search needs
-
-same-length-2 : tie.Need-same-length-2
-same-length-2 c = search needs
 
 returns-2 : tie.Need-returns-2
 returns-2 c = let a = c .before .before .before .before .before .before .before .before .args in c .before .before .copy-at2 .ensures ∙ sym (round-whole (now (a .ring)) (a .place) (now (a .r)) (omega (arith, c .before .before .before .before .if2 .taken, c .before .before .before .before .before .if1 .left)))
 
 slice-aggregate-copy-at : tie.Need-slice-aggregate-copy-at
 slice-aggregate-copy-at c = sym (length-take-le _ _ (omega arith))
-
-copy-at-requires-3 : tie.Need-copy-at-requires-3
-copy-at-requires-3 c κs = search needs
-
-sub-copy-at : tie.Need-sub-copy-at
-sub-copy-at c = search needs
-
-part-copy-at-start : tie.Need-part-copy-at-start
-part-copy-at-start c = search needs
-
-part-copy-at-end : tie.Need-part-copy-at-end
-part-copy-at-end c = search needs
-
-copy-at-requires-4 : tie.Need-copy-at-requires-4
-copy-at-requires-4 c κs = search needs
-
-same-length-3 : tie.Need-same-length-3
-same-length-3 c = search needs
 
 returns-3 : tie.Need-returns-3
 unfolding putRound
@@ -72,18 +36,18 @@ pub put-round-spec : {M : Type 1} → statement M
 put-round-spec =
     tie.close
     (tie.spec
-    copy-at-requires
-    same-length
+    (λ c κs. search needs)
+    (λ c. search needs)
     returns
-    sub-n
-    copy-at-requires-2
-    same-length-2
+    (λ c. search needs)
+    (λ c κs. search needs)
+    (λ c. search needs)
     returns-2
     slice-aggregate-copy-at
-    copy-at-requires-3
-    sub-copy-at
-    part-copy-at-start
-    part-copy-at-end
-    copy-at-requires-4
-    same-length-3
+    (λ c κs. search needs)
+    (λ c. search needs)
+    (λ c. search needs)
+    (λ c. search needs)
+    (λ c κs. search needs)
+    (λ c. search needs)
     returns-3)

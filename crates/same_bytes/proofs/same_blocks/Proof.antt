@@ -5,7 +5,7 @@ use native.Mathlib.Omega.{arith}
 use denote.Ref.{now}
 use borrow.Author.Needs.{needs}
 use borrow.Author.Tests.{not-false}
-use Rattle.compare.specs.Slices.{small-of}
+use Rattle.laws.specs.Numbers.{small-of}
 use Rattle.same_bytes.specs.Rest.{Rest}
 use Rattle.same_bytes.proofs.Laws.{rest-start, rest-four}
 use Rattle.same_bytes.proofs.same_blocks.Statement.{statement}

@@ -4,7 +4,7 @@ use Prim.Native.Nat.{_-_}
 use native.Mathlib.Omega.{arith}
 use denote.Ref.{now}
 use borrow.Author.Needs.{needs}
-use Rattle.compare.specs.Slices.{small-of}
+use Rattle.laws.specs.Numbers.{small-of}
 use Rattle.same_bytes.specs.Rest.{Rest}
 use Rattle.same_bytes.proofs.Laws.{rest-words}
 use Rattle.same_bytes.proofs.same_words.Statement.{statement}
@@ -22,23 +22,14 @@ loop-holds c = c .same-blocks .ensures
 sub-loop : tie.Need-sub-loop Inv-loop μ-loop
 sub-loop c = c .loop .inv .most
 
-add-u64-at : tie.Need-add-u64-at Inv-loop μ-loop
-add-u64-at c = search needs
-
 u64-at-requires : tie.Need-u64-at-requires Inv-loop μ-loop
 u64-at-requires c κs = let p = c .before .before .before .before .before .pre in let h = c .loop-test .taken in omega (arith, p .0, h)
-
-add-u64-at-2 : tie.Need-add-u64-at-2 Inv-loop μ-loop
-add-u64-at-2 c = search needs
 
 u64-at-requires-2 : tie.Need-u64-at-requires-2 Inv-loop μ-loop
 u64-at-requires-2 c κs = let p = c .before .before .before .before .before .before .pre in let h = c .before .loop-test .taken in omega (arith, p .1, h)
 
 returns : tie.Need-returns Inv-loop μ-loop
 returns c = c .before .before .before .before .loop .inv
-
-add-k : tie.Need-add-k Inv-loop μ-loop
-add-k c = search needs
 
 loop-less : tie.Need-loop-less Inv-loop μ-loop
 loop-less c = let h = c .before .before .before .loop-test .taken in omega (arith, h)
@@ -65,12 +56,12 @@ same-words-spec =
     (λ c κs. search needs)
     loop-holds
     sub-loop
-    add-u64-at
+    (λ c. search needs)
     u64-at-requires
-    add-u64-at-2
+    (λ c. search needs)
     u64-at-requires-2
     returns
-    add-k
+    (λ c. search needs)
     loop-less
     loop-again
     returns-2)

@@ -1,13 +1,10 @@
--- `sample_puts::sample` meets its contract. Assumes nothing.
+-- `sample_puts::sample` meets its contract: the list is its parts one after the other, and each call puts the next part from where the call before it ended. Assumes nothing.
 -- Written by tools/write_chains.py from the rows of crate table.
-use mathlib.Core.Path.{refl, ap, ap₂, _∙_}
-use mathlib.Core.Bool.{not, _&&_, _||_}
+use mathlib.Core.Path.{_∙_}
 use mathlib.Core.List.{_++_}
-use native.Mathlib.Omega.{arith}
 use Rattle.meaning.specs.Values.{tell, width}
-use Rattle.write_puts.specs.Puts.{placed-none, placed₁, placed-then, ready-first, ready-after, head₁, next₁}
+use Rattle.write_puts.specs.Puts.{placed-none, placed-then, ready-first, ready-after}
 use Rattle.layouts.specs.Lists as lists
-use borrow.Author.Needs.{needs}
 use Rattle.sample_puts.proofs.sample.Statement.{statement}
 use Rattle.sample_puts.proofs.sample.Tie as tie
 

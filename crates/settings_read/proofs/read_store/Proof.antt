@@ -13,7 +13,8 @@ use Rattle.settings.specs.Versions.{versions, versionOf, placeOf}
 use Rattle.settings.specs.Reading.{countOf, rowsOf, lastRows, afterRows, shown, firstRows, tableRows, restAnswer, storeAnswer}
 use Rattle.settings.specs.Narrow.{Narrow}
 use Rattle.settings.specs.Back.{settings}
-use Rattle.settings.specs.Steps.{narrow-of, all-narrow, head-passed, end-passed, store-first, store-rest, rest-end, rest-table, table-11, table-40, table-0, read-refused, read-given}
+use Rattle.settings.specs.Only.{head-passed, end-passed}
+use Rattle.settings.specs.Steps.{narrow-of, all-narrow, store-first, store-rest, rest-end, rest-table, table-11, table-40, table-0, read-refused, read-given}
 use borrow.Author.Needs.{needs}
 use Rattle.settings_read.proofs.read_store.Statement.{statement}
 use Rattle.settings_read.proofs.read_store.Tie as tie
@@ -27,7 +28,7 @@ ver c = c .version-of .ensures ∙ ap (versionOf versions) (c .before .u16-at .e
 narrow : (c : tie.After-version-of) → Narrow (c .version-of .result)
 narrow c =
     let xs = now (c .before .before .before .before .before .args .bytes) in
-    subst Narrow (sym (ver c)) (narrow-of versions (numberAt 2 xs 6) all-narrow (head-passed versions xs (zero (c .before .before)) .0))
+    subst Narrow (sym (ver c)) (narrow-of versions (numberAt 2 xs 6) all-narrow (head-passed versions xs 0 (zero (c .before .before)) .0 .known))
 
 lastly : (c : tie.After-last-answer)
     → c .last-answer .result
@@ -51,7 +52,7 @@ rest c =
 ends : (c : tie.Else2) → placeOf (c .before .before .before .version-of .result) (c .before .before .count-events .result .count) + 19 ≡ length (now (c .before .before .before .before .before .before .before .before .args .bytes))
 ends c =
     end-passed (c .before .before .before .version-of .result) editions (now (c .before .before .before .before .before .before .before .before .args .bytes)) (placeOf (c .before .before .before .version-of .result) (c .before .before .count-events .result .count))
-    (sym (lastly (c .before)) ∙ c .if2 .left)
+    0 (sym (lastly (c .before)) ∙ c .if2 .left) .0 .ends
 
 table : (c : tie.Else2)
     → storeAnswer versions editions (now (c .before .before .before .before .before .before .before .before .args .bytes)) (length (now (c .before .before .before .before .before .before .before .before .args .rows)))
@@ -70,7 +71,7 @@ returns c =
     (c .refuse .ensures ∙ p .0, p .1)
 
 u16-at-requires : tie.Need-u16-at-requires
-u16-at-requires c κs = head-passed versions (now (c .before .before .before .args .bytes)) (zero c) .1
+u16-at-requires c κs = head-passed versions (now (c .before .before .before .args .bytes)) 0 (zero c) .0 .long
 
 count-events-requires : tie.Need-count-events-requires
 count-events-requires c κs = narrow c

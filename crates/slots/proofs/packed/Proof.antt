@@ -1,5 +1,4 @@
--- Each of the four is below 65,536, so none reaches into the next.
-use Prim.Native.Nat.{ℕ, _+_, _*_, _/_, _%_, _<_}
+-- Each of the four is 16 bits, so none reaches into the next.
 use native.Mathlib.Omega.{arith}
 use borrow.Author.Needs.{needs}
 use Rattle.slots.specs.Slots.{Four}

@@ -1,5 +1,5 @@
 -- `table::row_at` meets its contract: the element of the lent rows, which are all rows. Assumes nothing.
-use mathlib.Core.Path.{_≡_, ap, _∙_}
+use mathlib.Core.Path.{ap}
 use mathlib.Core.List.{List}
 use Prim.Native.Nat.{ℕ}
 use lib.ListN.{getD}

@@ -8,7 +8,7 @@ use lib.Dec.{eqb}
 use denote.Ref.{now}
 use borrow.Author.Tests.{not-true, not-false}
 use Rattle.same_parts.specs.Parts.{aroundRes, bodySame}
-use Rattle.twins.specs.Same.{trailBits, endOf}
+use Rattle.twins.specs.Same.{trailBits, endOf, trailBefore}
 use Rattle.twins.specs.Whole.{room-there, body-accepted}
 use Rattle.twins.proofs.Laws.{but-body, but-trail, but-flags}
 use borrow.Author.Needs.{needs}
@@ -48,10 +48,10 @@ returns : tie.Need-returns
 returns c = let a = c .before .before .before .before .before .before .before .args in but-body (now (a .x)) (now (a .y)) (a .kind) (a .misc) (a .a) (sym (body (c .before)) ∙ not-true _ (c .if1 .taken))
 
 -- and the trailer's
-trail : (c : tie.After-around-res) → c .around-res .result ≡ aroundRes (now (c .before .before .before .before .before .before .before .before .before .args .x)) (now (c .before .before .before .before .before .before .before .before .before .args .y)) (trailBits (c .before .before .before .before .before .before .before .before .before .args .kind) (c .before .before .before .before .before .before .before .before .before .args .a)) 582 (endOf (now (c .before .before .before .before .before .before .before .before .before .args .x)) (c .before .before .before .before .before .before .before .before .before .args .kind) (c .before .before .before .before .before .before .before .before .before .args .a))
+trail : (c : tie.After-around-res) → c .around-res .result ≡ aroundRes (now (c .before .before .before .before .before .before .before .before .before .args .x)) (now (c .before .before .before .before .before .before .before .before .before .args .y)) (trailBits (c .before .before .before .before .before .before .before .before .before .args .kind) (c .before .before .before .before .before .before .before .before .before .args .a)) trailBefore (endOf (now (c .before .before .before .before .before .before .before .before .before .args .x)) (c .before .before .before .before .before .before .before .before .before .args .kind) (c .before .before .before .before .before .before .before .before .before .args .a))
 trail c =
     let a = c .before .before .before .before .before .before .before .before .before .args in
-    c .around-res .ensures ∙ ap₂ (λ (x n : ℕ). aroundRes (now (a .x)) (now (a .y)) x 582 (length (now (a .x)) - n)) (c .before .trailer-bits .ensures) (c .before .before .before .before .before .before .trailer-room .ensures .0)
+    c .around-res .ensures ∙ ap₂ (λ (x n : ℕ). aroundRes (now (a .x)) (now (a .y)) x trailBefore (length (now (a .x)) - n)) (c .before .trailer-bits .ensures) (c .before .before .before .before .before .before .trailer-room .ensures .0)
 
 returns-2 : tie.Need-returns-2
 returns-2 c =

@@ -1,4 +1,4 @@
--- `write_puts::store2` meets its contract. Assumes nothing.
+-- `write_puts::store2` meets its contract: the two writes are the two bytes of the number, the low one first. Assumes nothing.
 use denote.Ref.{now}
 use native.Mathlib.Omega.{arith}
 use lib.ListN.{length-set}

@@ -4,7 +4,6 @@ use mathlib.Core.Path.{sym, _∙_}
 use native.Mathlib.Omega.{arith}
 use lib.Seq.{length-take-le}
 use borrow.Author.Tests.{not-true, not-false}
-use Rattle.meaning.specs.Editions.{allowed}
 use Rattle.meaning.specs.Values.{valueWords}
 use Rattle.writer.specs.Answers.{lent-2, too-few, enough}
 use borrow.Author.Needs.{needs}

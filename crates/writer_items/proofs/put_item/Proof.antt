@@ -1,7 +1,6 @@
 -- `writer_items::put_item` meets its contract: number, list and zeros are put one after the other, and three puts that follow each other are one. Assumes nothing.
 use denote.Ref.{now}
 use mathlib.Core.Path.{ap, sym, _∙_}
-use Prim.Native.Nat.{_-_}
 use native.Mathlib.Omega.{arith}
 use lib.ListN.{length, take}
 use Rattle.laws.specs.Put.{length-put}

@@ -8,7 +8,7 @@ use borrow.Author.Tests.{not-true, not-false}
 use Rattle.writer_forms.specs.declared.Form.{Form}
 use Rattle.writer_forms.specs.Forms.{fitsForm, formNext}
 use Rattle.writer_words.specs.Tellings.{slotOf}
-use Rattle.writer_items.specs.Tries.{unfit}
+use Rattle.writer_items.specs.Tries.{unfit, mostBytes}
 use Rattle.writer_items.specs.Fitting.{small-of}
 use Rattle.writer_items.proofs.Tried.{try-beyond, try-misfit, try-fit, beyond-by, width-by, inside-by, name-by}
 use borrow.Author.Needs.{needs}
@@ -43,7 +43,7 @@ returns-3 : tie.Need-returns-3
 returns-3 c =
     let a = c .before .before .before .before .before .before .before .args in
     let e = c .before .before .before .before .before .of-item .ensures in
-    c .advance .ensures ∙ ap (λ (f : Form). cond (leb (formNext f (slotOf (a .s)) (a .c) .at) 65535) (formNext f (slotOf (a .s)) (a .c)) unfit) e
+    c .advance .ensures ∙ ap (λ (f : Form). cond (leb (formNext f (slotOf (a .s)) (a .c) .at) mostBytes) (formNext f (slotOf (a .s)) (a .c)) unfit) e
     ∙ try-fit (now (a .source)) (a .i) (slotOf (a .s)) (a .c) (small-of (now (a .source)) (c .before .before .before .before .before .before .shared-slice-known .given)) (omega (arith, c .before .before .before .before .before .before .before .good))
     (beyond-by (a .i) (a .c) (slotOf (a .s)) (now (a .source)) (c .before .before .before .before .before .of-item .result) e (c .before .before .before .before .passes .result) (c .before .before .before .before .passes .ensures) ∙ c .before .before .before .if1 .left)
     (ap (λ (f : Form). fitsForm f (now (a .source)) (slotOf (a .s))) (sym e) ∙ sym (c .before .before .fits2 .ensures) ∙ not-false (c .before .before .fits2 .result) (c .before .if2 .left))

@@ -6,9 +6,6 @@ use borrow.Author.Needs.{needs}
 use Rattle.writer_record.proofs.body_end.Statement.{statement}
 use Rattle.writer_record.proofs.body_end.Tie as tie
 
-words-end-requires : tie.Need-words-end-requires
-words-end-requires c κs = search needs
-
 returns : tie.Need-returns
 returns c = let s = c .before .before .before in end-none (s .args .p) (s .pre .2) _ (sym (c .before .before .flag-at .ensures) ∙ c .before .if1 .taken) (c .words-end .ensures)
 
@@ -19,4 +16,4 @@ returns-2 : tie.Need-returns-2
 returns-2 c = let s = c .before .before in end-some (s .args .p) (s .pre .2) _ (c .before .flag-at .ensures) (c .if1 .left)
 
 pub body-end-spec : {M : Type 1} → statement M
-body-end-spec = tie.close (tie.spec (λ c κs. search needs) words-end-requires returns add-result returns-2)
+body-end-spec = tie.close (tie.spec (λ c κs. search needs) (λ c κs. search needs) returns add-result returns-2)

@@ -10,6 +10,7 @@ use Rattle.meaning.specs.Records.{origin}
 use Rattle.meaning.specs.Values.{bodyWords, trailWords}
 use Rattle.writer_words.specs.declared.Reached.{Reached}
 use Rattle.writer_words.specs.Tellings.{startAt}
+use Rattle.writer_items.specs.Tries.{mostBytes}
 use Rattle.writer_parts.specs.Parts.{tryItems, slotsFrom}
 use Rattle.writer_record.specs.Spare.{fields-of}
 use Rattle.writer_record.specs.Measuring.{tried-lays, tried-most, spare-lays, bad-body, bad-tail, measured-yes, measured-no}
@@ -26,11 +27,11 @@ first-is c =
     tried-lays (now (a .source)) (now (a .ws)) (c .before .before .before .body .result) (a .attributes) (a .kind) (schema (a .kind) (a .misc) (a .attributes)) (c .before .before .start-at .result) (startAt bodyWords) (c .before .origin .result) (origin 8)
     (c .try-all .result) (c .before .before .before .body .ensures) (c .before .before .start-at .ensures) (c .before .origin .ensures) (c .try-all .ensures)
 
-first-most : (c : tie.After-try-all) → c .try-all .result .why ≡ 0 → c .try-all .result .at ≤ 65535
+first-most : (c : tie.After-try-all) → c .try-all .result .why ≡ 0 → c .try-all .result .at ≤ mostBytes
 first-most c z =
     let a = c .before .before .before .before .before .before .args in
     let is = schema (a .kind) (a .misc) (a .attributes) in
-    subst (λ (x : Cursor). x .at ≤ 65535) (sym (first-is c))
+    subst (λ (x : Cursor). x .at ≤ mostBytes) (sym (first-is c))
     (tried-most (now (a .source)) is (slotsFrom is (startAt bodyWords) (now (a .ws))) (origin 8) (omega arith) (ap (λ (x : Cursor). x .why) (sym (first-is c)) ∙ z))
 
 second-is : (c : tie.After-try-all2)

@@ -1,6 +1,6 @@
 -- `writer_record::put_header` meets its contract: three numbers, one after the other. Assumes nothing.
 use denote.Ref.{now}
-use Rattle.writer_record.specs.Records.{header-put}
+use Rattle.writer_items.specs.Header.{header-put}
 use borrow.Author.Needs.{needs}
 use Rattle.writer_record.proofs.put_header.Statement.{statement}
 use Rattle.writer_record.proofs.put_header.Tie as tie

@@ -17,35 +17,21 @@ Inv-loop s at last i₀ i =
 abbrev μ-loop : tie.MeasureT-loop
 μ-loop s at last i₀ i = length s - i
 
--- src/lib.rt:34:8
--- src/lib.rt:35:9
 returns : tie.Need-returns Inv-loop μ-loop
 returns c = let a = c .before .before .args in scan-short (now (a .s)) (a .at) (omega arith) (omega arith) (c .before .before .pre .1)
 
--- src/lib.rt:37:16
--- src/lib.rt:39:5
 loop-holds : tie.Need-loop-holds Inv-loop μ-loop
 loop-holds c = (omega arith, omega arith, omega arith, refl)
 
--- src/lib.rt:39:17
--- src/lib.rt:40:12
--- src/lib.rt:41:13
 returns-2 : tie.Need-returns-2 Inv-loop μ-loop
 returns-2 c = let a = c .before .before .before .before .before .before .args in let l = c .before .before .before .loop in scan-hit (now (a .s)) (a .at) 16 (l .i) _ (c .before .zero16 .ensures) (c .if2 .taken) (omega arith) (l .inv .3)
 
--- src/lib.rt:43:9
--- src/lib.rt:39:5
--- src/lib.rt:39:5
 loop-again : tie.Need-loop-again Inv-loop μ-loop
 loop-again c = let a = c .before .before .before .before .before .before .args in let l = c .before .before .before .loop in (omega arith, omega arith, omega arith, scan-on (now (a .s)) (a .at) 16 (l .i) _ (c .before .zero16 .ensures) (c .if2 .left) (omega arith) (l .inv .3))
 
--- src/lib.rt:46:12
--- src/lib.rt:47:13
 returns-3 : tie.Need-returns-3 Inv-loop μ-loop
 returns-3 c = let a = c .before .before .before .before .before .before .before .args in let l = c .before .before .before .before .loop in scan-hit (now (a .s)) (a .at) 8 (l .i) _ (c .before .zero8 .ensures) (c .if4 .taken) (omega arith) (l .inv .3)
 
--- src/lib.rt:50:5
--- src/lib.rt:29:1
 returns-4 : tie.Need-returns-4 Inv-loop μ-loop
 returns-4 c =
     let a = c .before .before .before .before .before .before .args in

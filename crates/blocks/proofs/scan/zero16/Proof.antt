@@ -1,6 +1,6 @@
 -- Sixteen bytes have a zero where one of their two halves has.
 use borrow.Author.Needs.{needs}
-use mathlib.Core.Path.{sym, ap, ap₂, _∙_}
+use mathlib.Core.Path.{sym, ap₂, _∙_}
 use mathlib.Core.Bool.{_||_}
 use Prim.Native.Nat.{_-_}
 use denote.Ref.{now}
@@ -8,10 +8,6 @@ use Rattle.blocks.specs.ScanLaws.{zero-join}
 use Rattle.blocks.proofs.scan.zero16.Statement.{statement}
 use Rattle.blocks.proofs.scan.zero16.Tie as tie
 
--- src/lib.rt:25:5
--- src/lib.rt:25:29
--- src/lib.rt:25:20
--- src/lib.rt:21:1
 returns : tie.Need-returns
 returns c =
     let a = c .before .before .before .args in

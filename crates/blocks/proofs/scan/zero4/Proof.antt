@@ -6,14 +6,6 @@ use Rattle.blocks.specs.ScanLaws.{four}
 use Rattle.blocks.proofs.scan.zero4.Statement.{statement}
 use Rattle.blocks.proofs.scan.zero4.Tie as tie
 
--- src/lib.rt:11:6
--- src/lib.rt:11:24
--- src/lib.rt:11:22
--- src/lib.rt:11:44
--- src/lib.rt:11:42
--- src/lib.rt:11:63
--- src/lib.rt:11:61
--- src/lib.rt:7:1
 returns : tie.Need-returns
 returns c = let a = c .before .before .before .before .args in four (now (a .s)) (a .at)
 

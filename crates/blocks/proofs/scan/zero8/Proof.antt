@@ -1,6 +1,6 @@
 -- Eight bytes have a zero where one of their two halves has.
 use borrow.Author.Needs.{needs}
-use mathlib.Core.Path.{sym, ap, ap₂, _∙_}
+use mathlib.Core.Path.{sym, ap₂, _∙_}
 use mathlib.Core.Bool.{_||_}
 use Prim.Native.Nat.{_-_}
 use denote.Ref.{now}
@@ -8,10 +8,6 @@ use Rattle.blocks.specs.ScanLaws.{zero-join}
 use Rattle.blocks.proofs.scan.zero8.Statement.{statement}
 use Rattle.blocks.proofs.scan.zero8.Tie as tie
 
--- src/lib.rt:18:5
--- src/lib.rt:18:29
--- src/lib.rt:18:20
--- src/lib.rt:14:1
 returns : tie.Need-returns
 returns c =
     let a = c .before .before .before .args in
