@@ -45,6 +45,7 @@ part() {
   fi
   echo "   $name: $(($(date +%s) - start)) s"
 }
+part 'each wrong reader where it is wrong' python3 tools/refused.py
 part 'the tree itself' bash tools/selfcheck.sh
 part 'the library for C' sh tools/library.sh
 # compiled code is for x86-64: elsewhere it is built and run by an emulator, with fewer random cases, or not at all

@@ -43,7 +43,7 @@ for table in 'The crates, one above the other' 'Size and time'; do
 done
 
 # each must-fail edit has a line in docs/WRONG-READERS.md, and each that it names is there
-edits=$(for f in crates/*/must-fail/*.edit; do crate=${f#crates/} label=${f##*/}; echo "${crate%%/*}/${label%.edit}"; done | sort)
+edits=$(python3 tools/refused.py labels)
 told=$(grep -oP '(?<![\w/])[a-z0-9_]+/[a-z0-9_]+(?![\w/])' docs/WRONG-READERS.md | sort -u |
   while IFS=/ read -r crate label; do [ -d "crates/$crate" ] && echo "$crate/$label"; done)
 [ "$(wc -l <<<"$edits")" -ge 100 ] || say "the must-fail edits were not found"

@@ -9,10 +9,11 @@ log=${1:-}
 lines() { find "$@" -name '*.rt' -o -name '*.antt' 2>/dev/null | xargs -r cat | wc -l; }
 seconds() { [ -n "$log" ] && sed -n "s/^rt: $1 proved (\([0-9]*\) s).*/\1/p" "$log" | tail -n 1; }
 printf '| crate | code | specs | proofs | edits | check |\n|---|---|---|---|---|---|\n'
+edits=$(python3 tools/refused.py labels)
 sum=(0 0 0 0 0)
 for name in $(sed -n 's/^\([a-z0-9_]*\):.*/\1/p' crates.txt); do
   d=crates/$name
-  row=("$(lines "$d/src")" "$(lines "$d/specs")" "$(lines "$d/proofs")" "$(find "$d/must-fail" -name '*.edit' 2>/dev/null | wc -l)" "$(seconds "$name")")
+  row=("$(lines "$d/src")" "$(lines "$d/specs")" "$(lines "$d/proofs")" "$(grep -c "^$name/" <<<"$edits")" "$(seconds "$name")")
   printf '| `%s` | %s | %s | %s | %s | %s |\n' "$name" "${row[@]}"
   for i in 0 1 2 3 4; do sum[i]=$((sum[i] + ${row[i]:-0})); done
 done
