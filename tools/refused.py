@@ -4,9 +4,10 @@
   tools/refused.py          compares; says what is missing, and ends with 1
   tools/refused.py labels   prints crate/label of every wrong reader, and needs no log
 
-An edit may hold several wrong readers of one crate, each in another function and each with a line '# LABEL: why' before it (several_1.edit and so on): a
-crate is then proved once for all of them. An edit of one is named after it. `rt` asks that the crate is not proved. Here each function that an edit
-changes must have an error of its own in its proof, or no proof; not just one that follows from another function's.
+An edit may hold several wrong readers of one crate, each in another function, or each in another file of specs/, and each with a line '# LABEL: why'
+before it (several_1.edit and so on): a crate is then proved once for all of them. An edit of one is named after it. `rt` asks that the crate is not
+proved. Here each function that an edit changes must have an error of its own in its proof, or no proof; not just one that follows from another
+function's; and so must each file of specs/ that such an edit changes.
 """
 import glob
 import os
@@ -50,6 +51,12 @@ def refused_in(log, crate, function):
     return any('was not admitted' not in said for said in own.findall(log))
 
 
+def errors_in(log, file):
+    """An error in this file that does not just follow from another one."""
+    own = re.compile(r'/' + re.escape(file) + r':\S*: error: (.*)')
+    return any('was not admitted' not in said for said in own.findall(log))
+
+
 def main():
     edits = sorted(glob.glob('crates/*/must-fail/*.edit'))
     if not edits:
@@ -74,6 +81,9 @@ def main():
             seen += 1
             if function and not refused_in(log, crate, function):
                 print('refused: %s/%s: nothing in the proof of `%s` is refused' % (crate, label, function))
+                bad += 1
+            if name.startswith('several_') and file.startswith('specs/') and not errors_in(log, file):
+                print('refused: %s/%s: nothing in %s is refused' % (crate, label, file))
                 bad += 1
     if bad:
         sys.exit(1)
