@@ -17,7 +17,8 @@ fi
 # How many crates, or edits, rt proves at a time. It starts the next batch only when the whole of one is done, so more of them than processors keep
 # all of these busy. Each is given 1.7 GB of memory, a little more than the largest crate takes: as many as fit, from 2 to 12
 jobs=$(awk '/^MemAvailable:/ { n = int($2 / 1700000); print (n < 2 ? 2 : n > 12 ? 12 : n) }' /proc/meminfo 2>/dev/null)
-TMPDIR=${TMPDIR:-${folder:-/tmp}} RT_JOBS=${RT_JOBS:-${jobs:-4}} rt ci >"$log" 2>&1
+there=${TMPDIR:-${folder:-/tmp}}
+TMPDIR=$there RT_JOBS=${RT_JOBS:-${jobs:-4}} rt ci >"$log" 2>&1
 status=$?
 last=$(tail -n 1 "$log")
 grep -E '^rt: ' "$log"
@@ -45,9 +46,23 @@ part() {
   fi
   echo "   $name: $(($(date +%s) - start)) s"
 }
+# a part that runs beside the next one, where neither writes what the other reads; its words are shown when both are done
+said=$(mktemp) || exit 2
+trap 'rm -rf "$log" "$said" "$folder"' EXIT
+beside() {
+  part "$@" >"$said" 2>&1 &
+  other=$!
+}
+both_done() {
+  wait "$other"
+  status=$?
+  cat "$said"
+  [ "$status" -eq 0 ] || exit 1
+}
 part 'each wrong reader where it is wrong' python3 tools/refused.py
-part 'the tree itself' bash tools/selfcheck.sh
-part 'the library for C' sh tools/library.sh
+beside 'the tree itself' env TMPDIR="$there" bash tools/selfcheck.sh
+part 'the library for C' env TMPDIR="$there" sh tools/library.sh
+both_done
 # compiled code is for x86-64: elsewhere it is built and run by an emulator, with fewer random cases, or not at all
 if ! sh tools/x86.sh native; then
   if ! sh tools/x86.sh ready; then
@@ -58,8 +73,9 @@ if ! sh tools/x86.sh native; then
   echo "this machine is $(uname -m): what is compiled runs under an emulator; valgrind, the address sanitizer and live rings are left out"
   export OLLSKUVAN_EMULATED=1 PATH="$PWD/tools/x86:$PATH" RUSTC=rustc CC=cc DRAINS=${DRAINS:-20000} VALUES=${VALUES:-20000}
 fi
+beside 'careful C beside ours' bash bench/run.sh --short
 part 'tests from outside' bash tests/run.sh
-part 'careful C beside ours' bash bench/run.sh --short
+both_done
 part 'the program for people' make -s tool-test
 part 'examples' make -s examples-test
 part 'the page for controllers' make -s snippets-test
