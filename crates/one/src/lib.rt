@@ -20,8 +20,8 @@ pub struct OneTold {
     pub inspected: u32,
 }
 
-// The reader of one record: a budget of one, and no journal. A record that is taken moves the tail by its size, also where its
-// body is refused; it then has its number and no value.
+// The reader of one record: it has no journal; the frame is asked with a budget of one and 16 bytes of room. A record that is
+// taken moves the tail by its size, also where its body is refused; it then has its number and no value.
 pub fn read_one(ring: &[u8], head: u64, tail: u64, e: u64, a: Attributes, scratch: &mut [u8]) -> One
     ensures { λ r. ⌜ r ≡ readOne editions e a (now (ring .entry)) head tail (now (scratch .entry)) ⌝ }
     ensures { λ _. ⌜ now (scratch .exit) ≡ oneScratch editions e (now (ring .entry)) head tail (now (scratch .entry)) ⌝ }

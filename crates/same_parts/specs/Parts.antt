@@ -1,5 +1,5 @@
--- Which bytes of the fields of two records are compared: all but the ignored ones, "res, bytes after a name's zero, build-id padding, text padding, the
--- reserved three". Where those lie is said by the left record. Assumes nothing: these are definitions; the whole record is `Same` of twins.
+-- Which bytes of the fields of two records are compared: all but the ignored ones, "res, bytes after a name's zero, text padding, the reserved three
+-- and the unused build id bytes". Where those lie is said by the left record. Assumes nothing: these are definitions; the whole record is `Same` of twins.
 use mathlib.Core.Bool.{Bool, cond, _&&_, _||_}
 use mathlib.Core.List.{List}
 use Prim.Native.Nat.{ℕ, _+_, _-_, _*_}

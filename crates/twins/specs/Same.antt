@@ -21,7 +21,7 @@ endOf xs kind a = length xs - room (trailer kind a)
 abbrev pub trailBefore : ℕ
 trailBefore = 582
 
--- the whole record, and the flag of a name
+-- fields and trailer of two records with equal headers, and the flag of a name
 unfoldable pub sameBut : List ℕ → List ℕ → ℕ → ℕ → Attributes → Bool
 sameBut xs ys kind misc a =
     bodySame (take (endOf xs kind a) xs) (take (endOf xs kind a) ys) kind misc (a .sample)
