@@ -7,7 +7,7 @@
 An edit may hold several wrong readers of one crate, each in another function, or each in another file of specs/, and each with a line '# LABEL: why'
 before it (several_1.edit and so on): a crate is then proved once for all of them. An edit of one is named after it. `rt` asks that the crate is not
 proved. Here each function that an edit changes must have an error of its own in its proof, or no proof; not just one that follows from another
-function's; and so must each file of specs/ that such an edit changes.
+function's, nor one that only says that the proof does not fit the changed code; and so must each file of specs/ that such an edit changes.
 """
 import glob
 import os
@@ -43,18 +43,23 @@ def wrong_readers(path):
             yield label, file, old
 
 
+def at_a_fact(said):
+    """Not what just follows from another error, and not a proof that no longer fits the function's shape."""
+    return not any(words in said for words in ('was not admitted', 'has no field', 'that can be named from here'))
+
+
 def refused_in(log, crate, function):
     """An error in this function's own proof, or no proof of it."""
     if re.search(r'(?m)^fn ' + crate + r'::(?:\w+::)?' + function + r': no proof', log):
         return True
     own = re.compile(r'/proofs/(?:[\w.]+/)*' + function + r'/\S*: error: (.*)')
-    return any('was not admitted' not in said for said in own.findall(log))
+    return any(at_a_fact(said) for said in own.findall(log))
 
 
 def errors_in(log, file):
     """An error in this file that does not just follow from another one."""
     own = re.compile(r'/' + re.escape(file) + r':\S*: error: (.*)')
-    return any('was not admitted' not in said for said in own.findall(log))
+    return any(at_a_fact(said) for said in own.findall(log))
 
 
 def main():
