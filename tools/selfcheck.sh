@@ -19,9 +19,9 @@ done
 # whether it asks.
 public() { # CRATE
   awk -v crate="$1" '
-    /^pub (extern "C" )?fn / { name = $0; sub(/^pub (extern "C" )?fn /, "", name); sub(/[^a-z0-9_].*/, "", name); asks = "refuses" }
+    /^ *pub (extern "C" )?fn / { name = $0; sub(/^ *pub (extern "C" )?fn /, "", name); sub(/[^a-z0-9_].*/, "", name); asks = "refuses" }
     name != "" && /requires/ { asks = "asks" }
-    name != "" && /^{/ { print crate "::" name, asks; name = "" }
+    name != "" && /^ *{/ { print crate "::" name, asks; name = "" }
   ' "crates/$1/src/lib.rt"
 }
 named=$(tr -s '\n ' ' ' <docs/DECISIONS.md | sed -n 's/.*- 38\. .*the entry points \(.*\) and all exports have none.*/\1/p' | grep -oE '[a-z_]+::[a-z_]+')

@@ -6,7 +6,7 @@ ghost use Rattle.meaning.specs.Schema.{trailer};
 ghost use Rattle.meaning.specs.Records.{room};
 ghost use Rattle.sums.specs.Sums.{sumMost, sumsOf};
 ghost use Rattle.marks.specs.Marks.{lastType, markCount, Marked, Marks};
-ghost use Rattle.marks.specs.Bases.{basesWith, Filled};
+ghost use Rattle.marks.specs.Bases.{basesWith, FilledRange};
 use meaning::Attributes;
 use meaning::Known;
 
@@ -59,7 +59,7 @@ fn bases(t: u64) -> [u64; 32]
 fn filled(p: [u64; 32], from: usize, to: usize, v: u64) -> [u64; 32]
     requires { ⌜ to ≤ markCount ⌝ }
     requires { ⌜ length p ≡ markCount ⌝ }
-    ensures { λ r. ⌜ Filled p from to v r ⌝ }
+    ensures { λ r. ⌜ FilledRange p from to v r ⌝ }
 {
     let mut q = p;
     let mut k = from;

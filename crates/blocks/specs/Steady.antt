@@ -2,7 +2,7 @@
 use mathlib.Core.Path.{_≡_, refl, sym, ap, _∙_}
 use mathlib.Core.Bool.{Bool, true, false, cond, not, _&&_, _||_}
 use mathlib.Core.List.{List, [], _∷_}
-use mathlib.Core.Logic.{_⊎_, ⊎-elim}
+use mathlib.Core.Logic.{⊎-elim}
 use Prim.Native.Nat.{ℕ, _+_, _-_, _<_, _≤_}
 use native.Mathlib.Nat.{add-zero, add-assoc}
 use native.Mathlib.Omega.{arith}
@@ -53,11 +53,6 @@ one i = cond (i .on) (widthOf (i .shape)) 0
 unfoldable pub total : List Item → ℕ
 total [] = 0
 total (i ∷ is) = one i + total is
-
--- two items of four bytes are one word
-pub two-fours : (b : Bool) → cond b 4 0 + cond b 4 0 ≡ cond b 8 0
-two-fours true = refl
-two-fours false = refl
 
 -- a shape of one width: past it where its bytes are there, else 30
 shape-there : (sh : Shape) (xs : List ℕ) (at n old : ℕ) → oneWidth sh ≡ true → at + widthOf sh ≤ length xs

@@ -81,12 +81,12 @@ abbrev pub eventReads : Known → List Event → Reads
 eventReads k es = record { judge = judgeEvents k es; known = k; attributes = λ id. attributesOf (eventAt es (indexOf id (identifiers es))) }
 
 -- the first n records of a side
-abbrev pub cutting : Side → ℕ → Cuts
-cutting s n = cutBy (λ t k room m. s .frame t m) (s .ring) n (begin (s .tail) 0 (s .scratch))
+abbrev pub sideCuts : Side → ℕ → Cuts
+sideCuts s n = cutBy (λ t k room m. s .frame t m) (s .ring) n (begin (s .tail) 0 (s .scratch))
 
 -- all of them: each has 8 bytes or more, and all lie within one ring length
 abbrev pub cuttingAll : Side → Cuts
-cuttingAll s = cutting s (length (s .ring))
+cuttingAll s = sideCuts s (length (s .ring))
 
 unfoldable pub compared : Reads → Side → Side → Compared
 compared R l r = meet R (cuttingAll l .stop) (cuttingAll r .stop) 0 (cuttingAll l .records) (cuttingAll r .records)
@@ -97,4 +97,4 @@ pairs c = c .records + cond (eqb (c .what) 1) 1 0
 
 -- "each with .. a scratch": what it then holds is what the records that were looked at left there
 abbrev pub scratchThen : Compared → Side → List ℕ
-scratchThen c s = cutting s (pairs c) .last .scratch
+scratchThen c s = sideCuts s (pairs c) .last .scratch

@@ -97,7 +97,7 @@ same-but-flag : (v w : Value) → unflagged v ≡ unflagged w → v .flag ≡ w 
 unfolding unflagged
 same-but-flag v w e f = λ j. record { kind = e j .kind; misc = e j .misc; size = e j .size; body = e j .body; tail = e j .tail; flag = f j }
 
-flag-of : (lay : Layout) (xs : List ℕ) → value lay xs .flag ≡ flagOf lay xs
+pub flag-of : (lay : Layout) (xs : List ℕ) → value lay xs .flag ≡ flagOf lay xs
 unfolding value
 flag-of lay xs = refl
 

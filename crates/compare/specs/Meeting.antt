@@ -15,7 +15,7 @@ use Rattle.laws.specs.Bytes.{le-or-lt}
 use Rattle.compare.specs.declared.Compared.{Compared}
 use Rattle.compare.specs.Fields.{Reads, fields}
 use Rattle.compare.specs.Compared.{alike, agree, allAlike, differs, endsFirst, stops, meet}
-use Rattle.compare.specs.Promise.{Sound, Whole, Same, First, Says, all-alike, field-differs, left-ended, right-ended, left-stopped, right-stopped, TrueReport}
+use Rattle.compare.specs.Promise.{SoundReads, Whole, Same, First, Says, all-alike, field-differs, left-ended, right-ended, left-stopped, right-stopped, TrueReport}
 use Rattle.compare.specs.Pairs.{alike-exactly, named-differs, first-only}
 
 top : List Cut → Cut
@@ -39,7 +39,7 @@ left-over cs n x xs e = let d = length-drop n cs in let q : length (drop n cs) �
 none-left : (cs : List Cut) (n : ℕ) → n ≤ length cs → drop n cs ≡ [] → length cs ≡ n
 none-left cs n l e = let d = length-drop n cs in let q : length (drop n cs) ≡ 0 = ap length e in omega (arith, d, q, l)
 
-module _ (R : Reads) (good : Sound R) (l r : Cuts) (wl : All (λ (c : Cut). Whole (c .record-bytes)) (l .records)) (wr : All (λ (c : Cut). Whole (c .record-bytes)) (r .records)) where
+module _ (R : Reads) (good : SoundReads R) (l r : Cuts) (wl : All (λ (c : Cut). Whole (c .record-bytes)) (l .records)) (wr : All (λ (c : Cut). Whole (c .record-bytes)) (r .records)) where
   abbrev Before : ℕ → Type 0
   Before n = (i : ℕ) → i < n → Same R (recordOf l i) (recordOf r i)
 

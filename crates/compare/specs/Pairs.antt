@@ -19,7 +19,7 @@ use Rattle.runs.specs.Cutting.{framed}
 use Rattle.meaning.specs.Events.{identifierOf}
 use Rattle.compare.specs.Fields.{otherFields, Reads, layoutOf, valueOf, one, accepted, fields}
 use Rattle.compare.specs.Compared.{sameBytes, same, alike, agree}
-use Rattle.compare.specs.Promise.{Sound, Whole, Same, decoded, refused, First}
+use Rattle.compare.specs.Promise.{SoundReads, Whole, Same, decoded, refused, First}
 use Rattle.compare.specs.Numbered.{same-top, same-rest}
 use Rattle.compare.specs.Identifier.{body-first, tail-last}
 use Rattle.compare.specs.Values.{values-back, Whole as WholeValue}
@@ -71,7 +71,7 @@ same-layout k a xs ys P Q s t h g m o ek em es ei e =
     values-back k a (value (layout k a) xs) (value (layout k a) ys) P Q m (whole-value k a xs s h) (whole-value k a ys t g) ek em es
     (first-same k a xs ys (eqb (kindOf xs) 9) refl h g m ek ei) (last-same k a xs ys h g m o ek ei) e
 
-module _ (R : Reads) (good : Sound R) (xs ys : List ℕ) (wx : Whole xs) (wy : Whole ys) where
+module _ (R : Reads) (good : SoundReads R) (xs ys : List ℕ) (wx : Whole xs) (wy : Whole ys) where
   abbrev lay : ℕ → Layout
   lay n = layout (R .known) (R .attributes n)
 
@@ -257,7 +257,7 @@ first-only (u ∷ us) (v ∷ vs) (suc k) f =
 
 -- ---- the two theorems
 
-module _ (R : Reads) (good : Sound R) (xs ys : List ℕ) (wx : Whole xs) (wy : Whole ys) where
+module _ (R : Reads) (good : SoundReads R) (xs ys : List ℕ) (wx : Whole xs) (wy : Whole ys) where
   fields-free : Free (fields R xs) (fields R ys)
   fields-free = record {
     left = λ S h. fields-back R good xs ys wx wy [] S (append-nil (fields R xs) ∙ h) .1;

@@ -16,7 +16,7 @@ use Rattle.compare.specs.Compared.{allAlike, differs, endsFirst, stops}
 
 -- what a comparison reads by, as a table of events gives it: a record that is accepted is accepted under the attributes that its identifier selects,
 -- and these select the identifier
-pub record Sound (R : Reads) : Type 0 where
+pub record SoundReads (R : Reads) : Type 0 where
   pub own : (xs : List ℕ) → R .judge xs ≡ 0 → judge (layoutOf R xs) xs ≡ 0
   pub marked : (xs : List ℕ) → R .judge xs ≡ 0 → (bit (R .attributes (identifierOf xs) .sample) 16 ≡ true) × (R .attributes (identifierOf xs) .all ≡ true)
 

@@ -16,8 +16,8 @@ use Rattle.runs.specs.Forward.{frame-going, going-framed}
 use Rattle.runs.specs.Runs.{cut-go, cut-stop}
 use Rattle.compare.specs.declared.Compared.{Compared}
 use Rattle.compare.specs.Fields.{Reads}
-use Rattle.compare.specs.Compared.{Side, sideOf, cutting, cuttingAll, compared, pairs, scratchThen}
-use Rattle.compare.specs.Promise.{Sound, Whole, TrueReport}
+use Rattle.compare.specs.Compared.{Side, sideOf, sideCuts, cuttingAll, compared, pairs, scratchThen}
+use Rattle.compare.specs.Promise.{SoundReads, Whole, TrueReport}
 use Rattle.compare.specs.Meeting.{met, only}
 
 -- what the frames of a side must have, for its head: a record is whole, lies before head, and within one ring length; what does not go on is a stop
@@ -110,7 +110,7 @@ module _ (s : Side) (head : ℕ) (f : Framed s head) where
       go n p g r (suc j) h =
           ap (λ (w : Cuts). w .records) (cut-go frames (s .ring) j p g) ∙ ap (λ (cs : List Cut). cutAt (s .ring) p (at p) ∷ cs) (r j (omega (arith, h)))
 
-  pub side-first : (j : ℕ) → j ≤ length (s .ring) → cutting s j .records ≡ take j (cuttingAll s .records)
+  pub side-first : (j : ℕ) → j ≤ length (s .ring) → sideCuts s j .records ≡ take j (cuttingAll s .records)
   side-first j h = first-records (length (s .ring)) (begin (s .tail) 0 (s .scratch)) j h
 
   -- the length of the ring is enough: what ends the cutting is a stop of the frames, at the last place
@@ -139,11 +139,11 @@ module _ (s : Side) (head : ℕ) (f : Framed s head) where
 -- ---- the comparison
 
 -- "Each pair before the reported place is equal under demand 2, and the named field differs"
-pub compared-told : (R : Reads) (l r : Side) (hl hr : ℕ) → Sound R → Framed l hl → Framed r hr → TrueReport R (cuttingAll l) (cuttingAll r) (compared R l r)
+pub compared-told : (R : Reads) (l r : Side) (hl hr : ℕ) → SoundReads R → Framed l hl → Framed r hr → TrueReport R (cuttingAll l) (cuttingAll r) (compared R l r)
 unfolding compared
 compared-told R l r hl hr good fl fr = met R good (cuttingAll l) (cuttingAll r) (side-whole l hl fl) (side-whole r hr fr)
 
 -- and no other report would say so
-pub compared-only : (R : Reads) (l r : Side) (hl hr : ℕ) (c : Compared) → Sound R → Framed l hl → Framed r hr → TrueReport R (cuttingAll l) (cuttingAll r) c → c ≡ compared R l r
+pub compared-only : (R : Reads) (l r : Side) (hl hr : ℕ) (c : Compared) → SoundReads R → Framed l hl → Framed r hr → TrueReport R (cuttingAll l) (cuttingAll r) c → c ≡ compared R l r
 unfolding compared
 compared-only R l r hl hr c good fl fr t = only R good (cuttingAll l) (cuttingAll r) (side-whole l hl fl) (side-whole r hr fr) c t

@@ -20,6 +20,7 @@ use Rattle.meaning.specs.Schema.{item, sample, schema, trailer}
 use Rattle.meaning.specs.Records.{Layout, Value, layout, fixedShape, fixed, origin, unflagged, fieldBytes, fitsBy, fits}
 use Rattle.laws.specs.Every.{trailer-fixed}
 use Rattle.laws.specs.Bytes.{apart, and-true, true-and}
+use Rattle.laws.specs.Whole.{value-of}
 use Rattle.compare.specs.Fields.{numbered, first, one, bodyFields, tailFields, flagField, otherFields}
 use Rattle.compare.specs.Numbered.{paid, numbered-back, level-start, same-top, same-rest}
 use Rattle.compare.specs.Told.{schema-tells, sample-tells, trailer-tells}
@@ -124,9 +125,6 @@ fits-parts lay v f =
     let t = and-true (fit is (v .body) (origin 8) && fit ts (v .tail) (origin n)) _ (q .1) in
     and-true (fit is (v .body) (origin 8)) _ (t .0)
 
-value-of : (v w : Value) → v .kind ≡ w .kind → v .misc ≡ w .misc → v .size ≡ w .size → v .body ≡ w .body → v .tail ≡ w .tail → v .flag ≡ w .flag → v ≡ w
-value-of v w p q r e f g = λ j. record { kind = p j; misc = q j; size = r j; body = e j; tail = f j; flag = g j }
-
 -- the flag is told where there is a name, and is 0 elsewhere
 flag-by : (t : Bool) (m n : ℕ) (P Q : List Con) → (t ≡ false → m ≡ 0) → (t ≡ false → n ≡ 0) → cond t (one m ∷ []) [] ++ P ≡ cond t (one n ∷ []) [] ++ Q
     → (m ≡ n) × (P ≡ Q)
@@ -163,4 +161,4 @@ values-back k a v w P Q m f g ek em es b t e =
     let s = tail-by a (v .kind) (v .tail) (w .tail) _ (F (v .kind) (v .misc) ++ Q) c d (p .1) q₁ t (r .1) in
     let h = flag-by (named (schema (v .kind) (v .misc) a)) (v .flag) (w .flag) P Q (f .clean)
     (λ n. g .clean (ap₂ (λ (x y : ℕ). named (schema x y a)) (sym ek) (sym em) ∙ n)) (s .1) in
-    (value-of v w ek em es (r .0) (s .0) (h .0), h .1)
+    (value-of w _ _ _ _ _ _ ek em es (r .0) (s .0) (h .0), h .1)

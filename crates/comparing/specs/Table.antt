@@ -22,12 +22,12 @@ use Rattle.event_laws.specs.Match.{matched-has}
 use Rattle.compare.specs.declared.Compared.{Compared}
 use Rattle.compare.specs.Fields.{Reads}
 use Rattle.compare.specs.Compared.{Side, eventReads, sideOf, stops, cuttingAll, compared, meet}
-use Rattle.compare.specs.Promise.{Sound, TrueReport}
+use Rattle.compare.specs.Promise.{SoundReads, TrueReport}
 use Rattle.compare.specs.Sides.{framed-side, compared-told, compared-only}
 use Rattle.compare.specs.Facts.{meet-editions}
 use Rattle.pairs.specs.Start.{accepted-event}
 
-pub event-sound : (k : Known) (es : List Event) → allMarked es ≡ true → Sound (eventReads k es)
+pub event-sound : (k : Known) (es : List Event) → allMarked es ≡ true → SoundReads (eventReads k es)
 event-sound k es m = record {
   own = λ xs h. accepted-event k es xs h .1;
   marked = λ xs h. let c = carried es xs m (matched-has k es xs (accepted-event k es xs h .0)) in (c .sample, c .all);

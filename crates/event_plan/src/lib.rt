@@ -8,7 +8,7 @@ ghost use Rattle.meaning.specs.Records.{kindOf, layout, judge};
 ghost use Rattle.meaning.specs.Events.{eventsOf, identifierOf, judgeEvents};
 ghost use Rattle.blocks.specs.Seen.{sizeBound};
 ghost use Rattle.marks.specs.Marks.{lastType, Marked};
-ghost use Rattle.slots.specs.Slots.{unpacked, Filled, Memo, attributesFor};
+ghost use Rattle.slots.specs.Slots.{unpacked, SlotOf, Memo, attributesFor};
 use meaning::Known;
 
 // Eight sums out of two words. The trailer's stands lowest in the first.
@@ -32,7 +32,7 @@ fn mark_of(known: Known, rows: &[[u64; 7]], kind: u64, slot: &[u64; 8], id: u64)
     requires { ⌜ known .kinds ≤ lastType ⌝ }
     requires { ⌜ 1 ≤ kind ⌝ }
     requires { ⌜ kind ≤ known .kinds ⌝ }
-    requires { ⌜ Filled known (eventsOf (now rows)) id (now slot) ⌝ }
+    requires { ⌜ SlotOf known (eventsOf (now rows)) id (now slot) ⌝ }
     requires { ⌜ getD (now slot) 1 0 ≡ 2 ⌝ }
     ensures { λ r. ⌜ Marked known (attributesFor (eventsOf (now (rows .entry))) id) kind r ⌝ }
 {
@@ -55,7 +55,7 @@ fn found(r: &[u8], kind: u64, known: Known, rows: &[[u64; 7]], slot: &[u64; 8], 
     requires { ⌜ known .kinds ≤ lastType ⌝ }
     requires { ⌜ 1 ≤ kind ⌝ }
     requires { ⌜ kind ≤ known .kinds ⌝ }
-    requires { ⌜ Filled known (eventsOf (now rows)) id (now slot) ⌝ }
+    requires { ⌜ SlotOf known (eventsOf (now rows)) id (now slot) ⌝ }
     requires { ⌜ getD (now slot) 1 0 ≡ 2 ⌝ }
     ensures { λ x. ⌜ x ≡ judge (layout known (attributesFor (eventsOf (now (rows .entry))) id)) (now (r .entry)) ⌝ }
 {
@@ -87,7 +87,7 @@ fn slot_answer(
     requires { ⌜ kind ≤ known .kinds ⌝ }
     requires { ⌜ h < length (now memo) ⌝ }
     requires { ⌜ id ≡ identifierOf (now r) ⌝ }
-    requires { ⌜ Filled known (eventsOf (now rows)) id (getD (now memo) h []) ⌝ }
+    requires { ⌜ SlotOf known (eventsOf (now rows)) id (getD (now memo) h []) ⌝ }
     ensures { λ x. ⌜ x ≡ judgeEvents known (eventsOf (now (rows .entry))) (now (r .entry)) ⌝ }
 {
     let state = memo[h][1];

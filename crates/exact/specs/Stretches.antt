@@ -160,9 +160,6 @@ module _ (xs : List ℕ) (a : Attributes) (k : ℕ) (e : k ≡ firstSum a) (p : 
 
 -- ---- the last ones
 
-pub or-no : (x y : Bool) → (x || y) ≡ false → (x ≡ false) × (y ≡ false)
-or-no x y e = or-false x y e
-
 pub last-steady : (a : Attributes) → late a ≡ false → steady (sampleLast a) ≡ true
 unfolding steady oneWidth
 last-steady a e = let s = or-false (bit (a .sample) 18) (bit (a .sample) 20) e in rw (s .0, s .1)

@@ -12,9 +12,6 @@ ghost use Rattle.meaning.specs.Values.{width, bodyWords, valueWords, flagWords,
 ghost use Rattle.record.specs.Into.{Accepted, recordFlag, readIntoAnswer, readIntoWords};
 use meaning::Attributes;
 
-// The words that a reader is lent.
-const VALUE_WORDS: usize = 56;
-
 // "An unselected field is zero or empty in the value": every word is 0 before those that are told.
 fn clear(out: &mut [u64])
     ensures { λ _. ⌜ now (out .exit) ≡ zeros (length (now (out .entry))) ⌝ }
@@ -72,10 +69,10 @@ pub fn read_into(r: &[u8], e: u64, a: Attributes, words: &mut [u64]) -> u16
     if answer != 0 {
         return answer;
     }
-    if words.len() < VALUE_WORDS {
+    if words.len() < fields::VALUE_WORDS {
         return 40;
     }
-    let end = VALUE_WORDS;
+    let end = fields::VALUE_WORDS;
     fill(r, a, &mut words[..end]);
     0
 }

@@ -3,13 +3,10 @@ use mathlib.Core.Path.{_≡_, refl, ap, _∙_}
 use mathlib.Core.List.{List, [], _∷_}
 use Prim.Native.Nat.{ℕ, _≤_}
 use native.Mathlib.Omega.{arith}
-use lib.ListN.{length, getD, take, length-append}
-use Rattle.meaning.specs.declared.Cursor.{Cursor}
-use Rattle.meaning.specs.declared.Item.{Item}
+use lib.ListN.{length, getD, take}
 use Rattle.meaning.specs.declared.Shape.{Shape}
 use Rattle.meaning.specs.declared.Shape.the-variants.{Number, Ignored, Count, Size, Times, Earlier, Registers, Filled, Abi, Limit, Listed, Bytes, Pad, Name}
-use Rattle.meaning.specs.Items.{step}
-use Rattle.meaning.specs.Values.{Slot, slotItem, tell, wordsOf, width, words}
+use Rattle.meaning.specs.Values.{Slot, tell, wordsOf}
 use Rattle.laws.specs.Words.{tell-length}
 use Rattle.fields.specs.declared.Words.{Words}
 
@@ -61,14 +58,3 @@ told-words r sh s e =
       count = k;
       most = omega (arith, k, m);
     }
-
--- a layout has as many words as its items, whatever the bytes
-pub words-length : (xs : List ℕ) (is : List Item) (c : Cursor) → length (words xs is c) ≡ width is
-unfolding words width
-words-length xs [] c = refl
-words-length xs (i ∷ is) c =
-    let s : Slot = slotItem xs i c in
-    let a = length-append (tell (i .shape) s) (words xs is (step xs i c)) in
-    let b = tell-length (i .shape) s in
-    let r = words-length xs is (step xs i c) in
-    omega (arith, a, b, r)

@@ -8,12 +8,12 @@ ghost use mathlib.Core.List.{[]};
 ghost use Prim.Native.Nat.{_≤_, _<_};
 ghost use lib.ListN.{length, getD};
 ghost use Rattle.meaning.specs.Events.{identifiers, eventsOf, distinct};
-ghost use Rattle.slots.specs.Slots.{Filled, Slot, Memo};
+ghost use Rattle.slots.specs.Slots.{SlotOf, SlotHolds, Memo};
 use meaning::Known;
 
 // The slot of an identifier. One that is not in the table has a slot too: its records are as cheap as others.
 fn slot_for(known: Known, rows: &[[u64; 7]], id: u64) -> [u64; 8]
-    ensures { λ r. ⌜ Filled known (eventsOf (now (rows .entry))) id r ⌝ }
+    ensures { λ r. ⌜ SlotOf known (eventsOf (now (rows .entry))) id r ⌝ }
 {
     if known.samples <= 16 {
         return [id, 21, 0, 0, 0, 0, 0, 0];
@@ -27,8 +27,8 @@ fn slot_for(known: Known, rows: &[[u64; 7]], id: u64) -> [u64; 8]
 
 // The slot of an identifier, by what stands at its place: an index that is noted is not looked up.
 fn slot_by(known: Known, rows: &[[u64; 7]], id: u64, slot: &[u64; 8]) -> [u64; 8]
-    requires { ⌜ Slot known (eventsOf (now rows)) (now slot) ⌝ }
-    ensures { λ r. ⌜ Filled known (eventsOf (now (rows .entry))) id r ⌝ }
+    requires { ⌜ SlotHolds known (eventsOf (now rows)) (now slot) ⌝ }
+    ensures { λ r. ⌜ SlotOf known (eventsOf (now (rows .entry))) id r ⌝ }
 {
     if slot[0] != id {
         return slot_for(known, rows, id);
@@ -45,7 +45,7 @@ pub fn hold(known: Known, rows: &[[u64; 7]], id: u64, memo: &mut [[u64; 8]], h: 
     requires { ⌜ Memo known (eventsOf (now rows)) (now memo) ⌝ }
     ensures { λ _. ⌜ Memo known (eventsOf (now (rows .entry))) (now (memo .exit)) ⌝ }
     ensures { λ _. ⌜ length (now (memo .exit)) ≡ length (now (memo .entry)) ⌝ }
-    ensures { λ _. ⌜ Filled known (eventsOf (now (rows .entry))) id (getD (now (memo .exit)) h []) ⌝ }
+    ensures { λ _. ⌜ SlotOf known (eventsOf (now (rows .entry))) id (getD (now (memo .exit)) h []) ⌝ }
 {
     if memo[h][0] == id {
         if 1 < memo[h][1] {

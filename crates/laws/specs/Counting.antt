@@ -104,7 +104,7 @@ eights-most x (b ∷ bs) = by (bit x b) (eights-most x bs)
 -- ---- the trailer: "8 bytes for each selected bit of 66,246"
 
 -- two items of four bytes are one word
-two-fours : (b : Bool) → cond b 4 0 + cond b 4 0 ≡ cond b 8 0
+pub two-fours : (b : Bool) → cond b 4 0 + cond b 4 0 ≡ cond b 8 0
 two-fours true = refl
 two-fours false = refl
 

@@ -141,10 +141,11 @@ row-at (r ∷ rs) zero d h = refl
 row-at (r ∷ rs) (suc i) d h = row-at rs i d (omega arith)
 
 -- ---- where identifiers are distinct, any row that matches is the first
-in-at : (l : List ℕ) (i : ℕ) → i < length l → isIn (getD l i 0) l ≡ true
-in-at [] i h = absurd (omega arith)
-in-at (y ∷ ys) zero h = rw (eq-eqb y y refl) refl
-in-at (y ∷ ys) (suc i) h = by (eqb (getD ys i 0) y) (in-at ys i (omega arith))
+-- what stands in a list is in it
+pub is-in-at : (l : List ℕ) (i : ℕ) → i < length l → isIn (getD l i 0) l ≡ true
+is-in-at [] i h = absurd (omega arith)
+is-in-at (y ∷ ys) zero h = rw (eq-eqb y y refl) refl
+is-in-at (y ∷ ys) (suc i) h = by (eqb (getD ys i 0) y) (is-in-at ys i (omega arith))
   where
     by : (b : Bool) → isIn (getD ys i 0) ys ≡ true → (b || isIn (getD ys i 0) ys) ≡ true
     by true q = refl
@@ -157,5 +158,5 @@ index-unique [] i d h = absurd (omega arith)
 index-unique (y ∷ ys) zero d h = rw (eq-eqb y y refl) refl
 index-unique (y ∷ ys) (suc i) d h =
     let w = and-true (not (isIn y ys)) (distinct ys) d in
-    let n : y ≡ getD ys i 0 → ⊥ = λ e. apart (sym (not-true (isIn y ys) (w .0)) ∙ ap (λ (x : ℕ). isIn x ys) e ∙ in-at ys i (omega arith)) in
+    let n : y ≡ getD ys i 0 → ⊥ = λ e. apart (sym (not-true (isIn y ys) (w .0)) ∙ ap (λ (x : ℕ). isIn x ys) e ∙ is-in-at ys i (omega arith)) in
     rw (ne-eqb y (getD ys i 0) n) (ap suc (index-unique ys i (w .1) (omega arith)))

@@ -1,4 +1,4 @@
--- Whole records: both round trips, and a value cannot be written exactly when no record decodes to it. Assumes nothing.
+-- Whole records: both round trips, and what a record decodes to can be written. Assumes nothing.
 use mathlib.Core.Path.{_≡_, refl, sym, ap, ap₂, _∙_, subst}
 use Prim.Native.Nat.{ℕ, _+_, _-_, _%_, _^_, _<_, _≤_}
 use native.Mathlib.Omega.{arith}
@@ -14,7 +14,7 @@ use Rattle.meaning.specs.Bytes.{num, spell, small}
 use Rattle.meaning.specs.Items.{Con, step, walk, contents}
 use Rattle.meaning.specs.Writing.{fit, write, cleaned, ends, endsLast, named, dirty}
 use Rattle.meaning.specs.Records.{Layout, Value, fixed, room, kindOf, miscOf, sizeOf, origin, fieldsOf, fieldsAnswer, checkBy, bodyOf, tailOf, flagBy, flagOf, value, unflagged, header, fieldBytes, written, writeRecord, fitsBy, fits, cleanedBy, cleanedRecord}
-use Rattle.laws.specs.Bytes.{apart, and-true, true-and, num-spell, small-spell, spell-num, num-lt, small-append, small-take, small-drop}
+use Rattle.laws.specs.Bytes.{and-true, true-and, num-spell, small-spell, spell-num, num-lt, small-append, small-take, small-drop}
 use Rattle.laws.specs.Rows.{or-false}
 use Rattle.laws.specs.There.{There, there, write-small}
 use Rattle.laws.specs.Again.{Again, again}
@@ -45,7 +45,7 @@ nameless-clean lay xs h =
 unfoldable pub Decodes : Layout → List ℕ → Value → Type 0
 Decodes lay xs v = (small xs ≡ true) × (checkBy lay xs ≡ 0) × (value lay xs ≡ v)
 
-value-of : (v : Value) (k m s : ℕ) (b t : List Con) (g : ℕ) → k ≡ v .kind → m ≡ v .misc → s ≡ v .size → b ≡ v .body → t ≡ v .tail → g ≡ v .flag
+pub value-of : (v : Value) (k m s : ℕ) (b t : List Con) (g : ℕ) → k ≡ v .kind → m ≡ v .misc → s ≡ v .size → b ≡ v .body → t ≡ v .tail → g ≡ v .flag
     → _≡_ {A = Value} (record { kind = k; misc = m; size = s; body = b; tail = t; flag = g }) v
 value-of v k m s b t g p q r e f h = λ j. record { kind = p j; misc = q j; size = r j; body = e j; tail = f j; flag = h j }
 
@@ -240,18 +240,6 @@ pub decoded-fits : (lay : Layout) (v : Value) (xs : List ℕ) → SoundLayout la
 unfolding Decodes
 decoded-fits lay v xs sound n d =
     ap (λ (w : Value). fits lay w) (sym (no-flag v n) ∙ ap unflagged (sym (d .2))) ∙ record-again lay xs sound (d .0) (d .1) .0
-
--- 42: a value without the flag does not fit exactly when no record decodes to it
-pub unfit-iff-none : (lay : Layout) (v : Value) → SoundLayout lay → v .flag ≡ 0
-    → (fits lay v ≡ false → (xs : List ℕ) → Decodes lay xs v → ⊥) × (((xs : List ℕ) → Decodes lay xs v → ⊥) → fits lay v ≡ false)
-unfit-iff-none lay v sound n = (
-  λ f xs d. apart (sym f ∙ decoded-fits lay v xs sound n d),
-  λ none. go (fits lay v) refl none,
-)
-  where
-    go : (t : Bool) → fits lay v ≡ t → ((xs : List ℕ) → Decodes lay xs v → ⊥) → t ≡ false
-    go true e none = absurd (none (writeRecord lay v) (record-there lay v sound e))
-    go false e none = refl
 
 -- two records that decode to the same value are the same but for the ignored bytes
 pub same-value : (lay : Layout) (xs ys : List ℕ) (v : Value) → SoundLayout lay → Decodes lay xs v → Decodes lay ys v → cleanedRecord lay xs ≡ cleanedRecord lay ys

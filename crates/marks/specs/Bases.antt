@@ -3,7 +3,7 @@ use mathlib.Core.Path.{_≡_, refl, sym, ap, _∙_, subst}
 use mathlib.Core.Bool.{Bool, true, false, cond, _&&_, _||_, and-false, or-true}
 use mathlib.Core.List.{List, [], _∷_, map}
 use mathlib.Core.Logic.{_⊎_, inl, inr, ⊎-elim}
-use Prim.Native.Nat.{ℕ, zero, suc, _+_, _-_, _%_, _^_, _<_, _≤_}
+use Prim.Native.Nat.{ℕ, zero, suc, _+_, _%_, _^_, _<_, _≤_}
 use native.Mathlib.Nat.{add-zero, zero-add}
 use native.Mathlib.Omega.{arith}
 use lib.ListN.{length, drop, getD, set, length-set}
@@ -200,16 +200,16 @@ module _ (k : Known) (a : Attributes) (t : ℕ) (et : t ≡ room (trailer 1 a)) 
   no-type kind c = as-refused k a kind 20 (λ q. omega (arith, q)) (omega arith) (λ misc. ⊎-elim (λ e. ap (λ (i : ℕ). unreadable k a i misc) e ∙ type-zero k a misc) (λ h. above k a kind misc h) c)
 
 -- ---- a table, filled with one number from a place on up to another
-pub record Filled (p : List ℕ) (from to v : ℕ) (q : List ℕ) : Type 0 where
+pub record FilledRange (p : List ℕ) (from to v : ℕ) (q : List ℕ) : Type 0 where
   pub long : length q ≡ length p
   pub inside : (j : ℕ) → from ≤ j → j < to → getD q j 0 ≡ v
   pub low : (j : ℕ) → j < from → getD q j 0 ≡ getD p j 0
   pub high : (j : ℕ) → to ≤ j → getD q j 0 ≡ getD p j 0
 
-pub fill-none : (p : List ℕ) (from v : ℕ) → Filled p from from v p
+pub fill-none : (p : List ℕ) (from v : ℕ) → FilledRange p from from v p
 fill-none p from v = record { long = refl; inside = λ j g h. absurd (omega (arith, g, h)); low = λ j h. refl; high = λ j h. refl }
 
-pub fill-more : (p : List ℕ) (from to v : ℕ) (q : List ℕ) → from ≤ to → to < length p → Filled p from to v q → Filled p from (to + 1) v (set q to v)
+pub fill-more : (p : List ℕ) (from to v : ℕ) (q : List ℕ) → from ≤ to → to < length p → FilledRange p from to v q → FilledRange p from (to + 1) v (set q to v)
 fill-more p from to v q l m f =
     record {
       long = length-set q to v ∙ f .long;
@@ -225,7 +225,7 @@ fill-more p from to v q l m f =
     here j g h false e = let z = eqb-false j to e in getD-set-other q to j v 0 z ∙ f .inside j g (omega (arith, h, z))
 
 -- a range that ends before it begins
-pub fill-shorter : (p : List ℕ) (from to v : ℕ) (q : List ℕ) → to ≤ from → Filled p from from v q → Filled p from to v q
+pub fill-shorter : (p : List ℕ) (from to v : ℕ) (q : List ℕ) → to ≤ from → FilledRange p from from v q → FilledRange p from to v q
 fill-shorter p from to v q l f =
     record {
       long = f .long;
@@ -234,7 +234,7 @@ fill-shorter p from to v q l f =
       high = λ j h. ⊎-elim (λ (y : from ≤ j). f .high j y) (λ (y : j < from). f .low j y) (le-or-lt from j);
     }
 
-module _ (k : Known) (a : Attributes) (t : ℕ) (et : t ≡ room (trailer 1 a)) (lt : t ≤ sumMost) (n : k .kinds ≤ lastType) (q : List ℕ) (f : Filled (basesWith t) (k .kinds + 1) (lastType + 1) noType q) where
+module _ (k : Known) (a : Attributes) (t : ℕ) (et : t ≡ room (trailer 1 a)) (lt : t ≤ sumMost) (n : k .kinds ≤ lastType) (q : List ℕ) (f : FilledRange (basesWith t) (k .kinds + 1) (lastType + 1) noType q) where
   base-value : (kind : ℕ) → kind < markCount → getD (basesWith t) kind 0 ≡ withTrailer t (getD bases kind 0)
   unfolding basesWith
   base-value kind h = bases-at t bases kind h
@@ -262,7 +262,7 @@ module _ (k : Known) (a : Attributes) (t : ℕ) (et : t ≡ room (trailer 1 a)) 
       (λ c. subst (Marked k a kind) (sym (f .low kind (let v = c .1 in omega (arith, v)) ∙ base-value kind h)) (base-marked k a t et lt n kind (c .0) (c .1) x y u))
       (split kind)
 
-  pub types-refused : (w : ℕ) → unreadable k a 1 0 ≡ w → (w ≡ 0 → ⊥) → w < 2 ^ 16 → (r : List ℕ) → Filled q 1 (k .kinds + 1) (refusedMark + w) r
+  pub types-refused : (w : ℕ) → unreadable k a 1 0 ≡ w → (w ≡ 0 → ⊥) → w < 2 ^ 16 → (r : List ℕ) → FilledRange q 1 (k .kinds + 1) (refusedMark + w) r
       → (kind : ℕ) → kind < markCount → (kind ≡ 8 → ⊥) → (kind ≡ 9 → ⊥) → Marked k a kind (getD r kind 0)
   types-refused w u z b r g kind h x y =
       ⊎-elim

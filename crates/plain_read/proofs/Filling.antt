@@ -12,8 +12,9 @@ use Rattle.meaning.specs.Items.{step}
 use Rattle.meaning.specs.Values.{slotItem, tell, wordsOf, width, words}
 use Rattle.laws.specs.Again.{fine}
 use Rattle.laws.specs.Put.{put-nil, put-put, length-put}
+use Rattle.laws.specs.Told.{words-length}
 use Rattle.fields.specs.declared.Words.{Words}
-use Rattle.fields.specs.Told.{toldOf, wordsIn, told-words, words-length}
+use Rattle.fields.specs.Told.{toldOf, wordsIn, told-words}
 use Rattle.table.specs.Rows.{rows, allRows}
 use Rattle.table.specs.Turns.{rows-next, rows-over, walk-next}
 use Rattle.record.specs.Into.{Fills}
@@ -74,7 +75,7 @@ module _ (f : ℕ → Item) (xs : List ℕ) (from to : ℕ) (c₀ : Cursor) (d�
         let e : d′ ≡ put d at ws = ed ∙ ap (put d at) (s .held) in
         let l : length d′ ≡ length d = ap length e ∙ length-put d at ws in
         let w = width-next k h (g .high) in
-        let n = words-length xs (items (k + 1)) c′ in
+        let n = words-length (items (k + 1)) xs c′ in
         record {
           low = omega arith;
           high = g .high;

@@ -40,7 +40,7 @@ use Rattle.compare.specs.Compared.{alike, agree, differs, stops, endsFirst, all
 use Rattle.comparing.specs.Table.{leftSide, rightSide}
 use Rattle.replay.specs.declared.Replayed.{Replayed}
 use Rattle.replay.specs.Promises.{read-to-end}
-use Rattle.replay.specs.Replay.{Bench, bench, Played, played, recordsOut, entryRows, faultAt, effect, play, beforeRows, before, replay, half, ofStore, told, replayEvents}
+use Rattle.replay.specs.Replay.{Bench, bench, Played, played, recordsOut, entryRows, faultAt, effect, play, beforeRows, before, replay, half, ofStore, replayTold, replayEvents}
 use Rattle.salvage.specs.Salvage.{output, holes, changes, salvageAnswer, tableUnready, tableJudge, salvageTold}
 use Rattle.salvage.specs.Promises.{told-answer}
 use Rattle.promises.specs.Checked.{foremost, first-exactly}
@@ -281,7 +281,7 @@ module _ (limit e : ℕ) (es : List Event) (xs : List ℕ) (count : ℕ) (rooms 
           )
       by false q = inl (refl, eqb-false call 0 q)
 
-  pub replay-answers : isIn (told end .answer) replayNumbers ≡ true
+  pub replay-answers : isIn (replayTold end .answer) replayNumbers ≡ true
   replay-answers = by ends
     where
       by : Ends end → isIn (end .answer) replayNumbers ≡ true
@@ -294,7 +294,7 @@ module _ (limit e : ℕ) (es : List Event) (xs : List ℕ) (count : ℕ) (rooms 
     by-call : foremost k (beforeRows asked (length ring) count) ≡ true → Why k
     by-entry : call ≡ 0 → end .at < length xs → foremost k (entryRows ofStore xs (entryAt xs (end .at))) ≡ true → Why k
 
-  pub replay-exactly : (k : ℕ) → 0 < k → (told end .answer ≡ k → Why k) × (Why k → told end .answer ≡ k)
+  pub replay-exactly : (k : ℕ) → 0 < k → (replayTold end .answer ≡ k → Why k) × (Why k → replayTold end .answer ≡ k)
   unfolding faultAt
   replay-exactly k p = (λ h. there h ends, λ w. back w ends)
     where
@@ -318,11 +318,11 @@ module _ (limit e : ℕ) (es : List Event) (xs : List ℕ) (count : ℕ) (rooms 
       back (by-entry z i r) (inr (y, inr f)) = f .fault ∙ of-entry .1 r
 
   -- the answers in its journal: those of the records that its drains took
-  pub replay-journal-answers : count < 2 ^ 64 → (i : ℕ) → i < told end .taken → isIn (numberAt 2 (end .now .journal) (16 * i + 6)) eventNumbers ≡ true
+  pub replay-journal-answers : count < 2 ^ 64 → (i : ℕ) → i < replayTold end .taken → isIn (numberAt 2 (end .now .journal) (16 * i + 6)) eventNumbers ≡ true
   replay-journal-answers c i h = by (eqb call 0) refl
     where
       Answered : Played → Type 0
-      Answered p = i < told p .taken → isIn (numberAt 2 (p .now .journal) (16 * i + 6)) eventNumbers ≡ true
+      Answered p = i < replayTold p .taken → isIn (numberAt 2 (p .now .journal) (16 * i + 6)) eventNumbers ≡ true
 
       by : (b : Bool) → eqb call 0 ≡ b → isIn (numberAt 2 (end .now .journal) (16 * i + 6)) eventNumbers ≡ true
       by true q =

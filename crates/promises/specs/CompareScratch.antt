@@ -18,7 +18,7 @@ use Rattle.runs.specs.Cutting.{Cut, Spot, Cuts, begin, add, cutAt, spotAfter, h
 use Rattle.runs.specs.Crossing.{OneCrosses, one-crosses}
 use Rattle.runs.specs.Forward.{Kept, Shaped, frame-steps, frame-lies}
 use Rattle.compare.specs.declared.Compared.{Compared}
-use Rattle.compare.specs.Compared.{compared, pairs, scratchThen, eventReads, Side, sideOf, cutting}
+use Rattle.compare.specs.Compared.{compared, pairs, scratchThen, eventReads, Side, sideOf, sideCuts}
 use Rattle.comparing.specs.Table.{leftSide, rightSide}
 use Rattle.promises.specs.Scratch.{liesWhole, drain-all-whole, drain-copied, put-holds}
 
@@ -63,12 +63,12 @@ module _ (asked : Asked) (ring : List ℕ) (head : ℕ) where
 
   module _ (tail : ℕ) (scratch : List ℕ) (hd : head < 2 ^ 64) (n : ℕ) where
     abbrev looked : List Cut
-    looked = cutting (sideOf asked ring head tail scratch) n .records
+    looked = sideCuts (sideOf asked ring head tail scratch) n .records
 
     abbrev left-there : List ℕ
-    left-there = cutting (sideOf asked ring head tail scratch) n .last .scratch
+    left-there = sideCuts (sideOf asked ring head tail scratch) n .last .scratch
 
-    alike : Same (cutting (sideOf asked ring head tail scratch) n) (cutBy (frame asked ring head) ring n (begin tail (16 * n) scratch))
+    alike : Same (sideCuts (sideOf asked ring head tail scratch) n) (cutBy (frame asked ring head) ring n (begin tail (16 * n) scratch))
     alike = as-drain n tail 0 0 (16 * n) scratch (omega arith)
 
     abbrev bytes-at : ℕ → List ℕ
@@ -117,7 +117,7 @@ module _ (limit e : ℕ) (es : List Event) (ring₁ ring₂ : List ℕ) (head₁
 
   -- the records of a side that were looked at: those of the equal pairs, and of the one that differs
   abbrev looked-at : Side → List Cut
-  looked-at s = cutting s (pairs report) .records
+  looked-at s = sideCuts s (pairs report) .records
 
   abbrev record-at : Side → ℕ → List ℕ
   record-at s i = getD (looked-at s) i nothingCut .record-bytes

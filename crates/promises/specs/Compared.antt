@@ -25,8 +25,8 @@ use Rattle.editions.specs.EventPromise.{EventWords}
 use Rattle.editions.specs.EventRecord.{event-fair}
 use Rattle.compare.specs.declared.Compared.{Compared}
 use Rattle.compare.specs.Fields.{Reads, fields}
-use Rattle.compare.specs.Compared.{alike, agree, allAlike, stops, cuttingAll, compared, scratchThen, eventReads, Side, cutting}
-use Rattle.compare.specs.Promise.{Sound, Whole, Same, First, TrueReport}
+use Rattle.compare.specs.Compared.{alike, agree, allAlike, stops, cuttingAll, compared, scratchThen, eventReads, Side, sideCuts}
+use Rattle.compare.specs.Promise.{SoundReads, Whole, Same, First, TrueReport}
 use Rattle.compare.specs.Pairs.{alike-exactly, named-differs}
 use Rattle.compare.specs.Sides.{framed-side, side-ends, scratch-long, side-first}
 use Rattle.compare.specs.Facts.{AllEqual, equal-told, told-equal, places-alike, ignored-alike, turned, meet-turned}
@@ -35,7 +35,7 @@ use Rattle.comparing.specs.Table.{leftSide, rightSide, left-at-once, table-told
 
 -- ---- two records, under a table whose events select the identifier
 
-module _ (k : Known) (es : List Event) (good : Sound (eventReads k es)) (xs ys : List ℕ) (wx : Whole xs) (wy : Whole ys) where
+module _ (k : Known) (es : List Event) (good : SoundReads (eventReads k es)) (xs ys : List ℕ) (wx : Whole xs) (wy : Whole ys) where
   -- no field differs exactly when they are equal: accepted with the same value, or refused with the same bytes
   pub no-field-differs : (alike (fields (eventReads k es) xs) (fields (eventReads k es) ys) ≡ true → Same (eventReads k es) xs ys)
       × (Same (eventReads k es) xs ys → alike (fields (eventReads k es) xs) (fields (eventReads k es) ys) ≡ true)
@@ -126,10 +126,10 @@ module _ (limit e : ℕ) (es : List Event) (ring₁ ring₂ : List ℕ) (head₁
   right-to-its-end s = side-ends right head₂ (framed-side (askedEvents limit editions e es) ring₂ head₂ tail₂ scratch₂ s)
 
   -- the records that were looked at are the first ones
-  pub left-first-records : small ring₁ ≡ true → (j : ℕ) → j ≤ length ring₁ → cutting left j .records ≡ take j (cuttingAll left .records)
+  pub left-first-records : small ring₁ ≡ true → (j : ℕ) → j ≤ length ring₁ → sideCuts left j .records ≡ take j (cuttingAll left .records)
   left-first-records s = side-first left head₁ (framed-side (askedEvents limit editions e es) ring₁ head₁ tail₁ scratch₁ s)
 
-  pub right-first-records : small ring₂ ≡ true → (j : ℕ) → j ≤ length ring₂ → cutting right j .records ≡ take j (cuttingAll right .records)
+  pub right-first-records : small ring₂ ≡ true → (j : ℕ) → j ≤ length ring₂ → sideCuts right j .records ≡ take j (cuttingAll right .records)
   right-first-records s = side-first right head₂ (framed-side (askedEvents limit editions e es) ring₂ head₂ tail₂ scratch₂ s)
 
   -- a scratch keeps its length

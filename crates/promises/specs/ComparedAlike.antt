@@ -26,11 +26,11 @@ use Rattle.editions.specs.OneRecord.{check-framed}
 use Rattle.compare.specs.declared.Compared.{Compared}
 use Rattle.compare.specs.Fields.{Reads, layoutOf, valueOf}
 use Rattle.compare.specs.Compared.{Side, allAlike, cuttingAll, compared, eventReads}
-use Rattle.compare.specs.Promise.{Sound, Whole, Same, decoded, refused}
+use Rattle.compare.specs.Promise.{SoundReads, Whole, Same, decoded, refused}
 use Rattle.compare.specs.Identifier.{body-first, tail-last}
 use Rattle.compare.specs.Pairs.{same-id}
 use Rattle.compare.specs.Sides.{framed-side, side-whole}
-use Rattle.compare.specs.Facts.{ignored-alike}
+use Rattle.compare.specs.Facts.{flag-of, ignored-alike}
 use Rattle.comparing.specs.Table.{leftSide, rightSide, event-sound}
 use Rattle.promises.specs.Compared.{alike-all-equal}
 
@@ -90,11 +90,7 @@ pub record Cleaned (R : Reads) (xs ys : List ℕ) : Type 0 where
 abbrev pub SameButIgnored : Reads → List ℕ → List ℕ → Type 0
 SameButIgnored R xs ys = Cleaned R xs ys ⊎ (xs ≡ ys)
 
-flag-of : (lay : Layout) (xs : List ℕ) → value lay xs .flag ≡ flagOf lay xs
-unfolding value
-flag-of lay xs = refl
-
-module _ (R : Reads) (good : Sound R) (xs ys : List ℕ) (wx : Whole xs) (wy : Whole ys) where
+module _ (R : Reads) (good : SoundReads R) (xs ys : List ℕ) (wx : Whole xs) (wy : Whole ys) where
   abbrev lay : ℕ → Layout
   lay i = layout (R .known) (R .attributes i)
 

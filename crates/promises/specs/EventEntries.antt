@@ -6,7 +6,7 @@ use mathlib.Core.List.{List, [], _∷_, _++_, append-nil}
 use mathlib.Core.Bool.{Bool, true, false, cond, not, _&&_, _||_}
 use Prim.Native.Nat.{ℕ, zero, suc, _+_, _*_, _^_, _<_, _≤_}
 use native.Mathlib.Omega.{arith}
-use borrow.Author.Tests.{eq-eqb, eqb-true, eqb-false, leb-true, leb-false, le-leb, lt-leb, not-true, not-false}
+use borrow.Author.Tests.{eqb-true, eqb-false, leb-true, leb-false, le-leb, lt-leb, not-true, not-false}
 use lib.Dec.{leb, ltb, eqb}
 use lib.ListN.{length, getD, take, drop}
 use Rattle.meaning.specs.declared.Attributes.{Attributes}
@@ -23,7 +23,7 @@ use Rattle.meaning.specs.Ring.{Asked, frame}
 use Rattle.meaning.specs.Drain.{End, entryFor}
 use Rattle.meaning.specs.Backward.{backFrame, walkEvents}
 use Rattle.laws.specs.Bytes.{apart, and-true}
-use Rattle.laws.specs.Lookup.{identifiers-length, identifier-at, index-in, index-is}
+use Rattle.laws.specs.Lookup.{identifiers-length, identifier-at, is-in-at, index-in, index-is}
 use Rattle.laws.specs.Rows.{in-more, in-cond, first-in}
 use Rattle.laws.specs.Matched.{going-sound}
 use Rattle.laws.specs.Inspected.{asked-own}
@@ -40,7 +40,7 @@ use Rattle.editions.specs.InTable.{not-in, fields-in, judge-in}
 use Rattle.entries.specs.declared.Entry.{Entry}
 use Rattle.entries.specs.Entries.{entryAt}
 use Rattle.replay.specs.declared.Replayed.{Replayed}
-use Rattle.replay.specs.Replay.{Happened, wentIn, wasDropped, drained, Bench, bench, recordsIn, recordsOut, free, goesIn, goesBy, offer, drainOf, cutsOf, drainsOff, bodyOf, isOffer, faultAt, effect, Played, played, play, before, half, ofStore, told, replayEvents}
+use Rattle.replay.specs.Replay.{Happened, wentIn, wasDropped, drained, Bench, bench, recordsIn, recordsOut, free, goesIn, goesBy, offer, drainOf, benchCuts, drainsOff, bodyOf, isOffer, faultAt, effect, Played, played, play, before, half, ofStore, replayTold, replayEvents}
 use Rattle.replay.specs.Drains.{bytesOf}
 use Rattle.replay.specs.Along.{in-append, no-fault}
 use Rattle.promises.specs.Checked.{recordRows, judge-rows, foremost, first-exactly, lead, hit, other}
@@ -71,21 +71,15 @@ module _ (k : Known) (es : List Event) (r : List ℕ) where
 -- ---- and in words
 
 -- in the table: an event of it has that identifier
-in-at : (es : List Event) (i : ℕ) → i < length es → isIn (eventAt es i .identifier) (identifiers es) ≡ true
-in-at [] i h = absurd (omega arith)
-in-at (v ∷ vs) zero h = rw (eq-eqb (v .identifier) (v .identifier) refl) refl
-in-at (v ∷ vs) (suc i) h = by (eqb (eventAt vs i .identifier) (v .identifier)) (in-at vs i (omega arith))
-  where
-    by : (b : Bool) → isIn (eventAt vs i .identifier) (identifiers vs) ≡ true → (b || isIn (eventAt vs i .identifier) (identifiers vs)) ≡ true
-    by true q = refl
-    by false q = q
+identifier-in : (es : List Event) (i : ℕ) → i < length es → isIn (eventAt es i .identifier) (identifiers es) ≡ true
+identifier-in es i h = subst (λ (x : ℕ). isIn x (identifiers es) ≡ true) (identifier-at es i) (is-in-at (identifiers es) i (subst (λ (n : ℕ). i < n) (sym (identifiers-length es)) h))
 
 abbrev pub NotInTable : ℕ → List Event → Type 0
 NotInTable x es = (i : ℕ) → i < length es → eventAt es i .identifier ≡ x → ⊥
 
 pub not-in-table : (x : ℕ) (es : List Event) → (isIn x (identifiers es) ≡ false → NotInTable x es) × (NotInTable x es → isIn x (identifiers es) ≡ false)
 not-in-table x es = (
-  λ f i h q. apart (sym f ∙ ap (λ (y : ℕ). isIn y (identifiers es)) (sym q) ∙ in-at es i h),
+  λ f i h q. apart (sym f ∙ ap (λ (y : ℕ). isIn y (identifiers es)) (sym q) ∙ identifier-in es i h),
   λ n. by (isIn x (identifiers es)) refl n,
 )
   where
@@ -328,7 +322,7 @@ in-framed asked judge xs (suc n) at b h = by (leb (length xs) at) (eqb (faultAt 
 
         kind : (t : Bool) → isOffer e ≡ t → AllFramed (recordsIn (cond t (offer b r) (drainsOff asked judge b (numberAt 4 xs (e .body))) .history))
         kind true o = fits (leb (length r) (free b)) (not-false (framed r) (sym (ap (λ (t : Bool). t && not (framed r)) o) ∙ no-fault ofStore xs at f .1 .0))
-        kind false o = same (drained (cutsOf asked b (numberAt 4 xs (e .body)) .records) (drainOf asked judge b (numberAt 4 xs (e .body)) .stop)) refl
+        kind false o = same (drained (benchCuts asked b (numberAt 4 xs (e .body)) .records) (drainOf asked judge b (numberAt 4 xs (e .body)) .stop)) refl
 
     by : (t u : Bool) → eqb (faultAt ofStore xs at) 0 ≡ u
         → (AllFramed (recordsIn (next .history)) → AllFramed (recordsIn (play ofStore asked judge xs n (at + (6 + e .length)) next .now .history)))
@@ -360,7 +354,7 @@ module _ (limit e : ℕ) (es : List Event) (xs : List ℕ) (count : ℕ) (rooms 
   call = before asked-events (length (take (half (length rooms)) rooms)) count
 
   abbrev Checks : Played → Type 0
-  Checks p = (i : ℕ) → i < told p .taken → numberAt 2 (p .now .journal) (16 * i + 6) ≡ checkEvents limit editions e es (getD (recordsOut (p .now .history)) i nothingCut .record-bytes)
+  Checks p = (i : ℕ) → i < replayTold p .taken → numberAt 2 (p .now .journal) (16 * i + 6) ≡ checkEvents limit editions e es (getD (recordsOut (p .now .history)) i nothingCut .record-bytes)
 
   pub replay-checks : Checks replayed
   unfolding recordsIn

@@ -27,7 +27,7 @@ use Rattle.one.specs.Told.{oneTold}
 use Rattle.event_one.specs.Told.{oneEventsTold}
 use Rattle.writer.specs.Writer.{writeWordsAnswer}
 use Rattle.compare.specs.Compared.{compared, eventReads, sideOf}
-use Rattle.replay.specs.Replay.{told, replayEvents}
+use Rattle.replay.specs.Replay.{replayTold, replayEvents}
 use Rattle.salvage.specs.Salvage.{salvageTold}
 use Rattle.settings.specs.Versions.{versions}
 use Rattle.settings.specs.Reading.{readStore}
@@ -133,8 +133,8 @@ pub record NoOthersBeside (k limit e : ℕ) (es : List Event) : Type 0 where
   pub compare-stop : (ring₁ ring₂ : List ℕ) (head₁ head₂ tail₁ tail₂ : ℕ) (scratch₁ scratch₂ : List ℕ)
       → compared (eventReads (known editions e) es) (sideOf (askedEvents limit editions e es) ring₁ head₁ tail₁ scratch₁) (sideOf (askedEvents limit editions e es) ring₂ head₂ tail₂ scratch₂) .stop ≡ k
       → ⊥
-  pub replay-answer : (xs : List ℕ) (count : ℕ) (rooms journal : List ℕ) → told (replayEvents limit editions e es xs count rooms journal) .answer ≡ k → ⊥
-  pub replay-entry : (xs : List ℕ) (count : ℕ) (rooms journal : List ℕ) → count < 2 ^ 64 → (i : ℕ) → i < told (replayEvents limit editions e es xs count rooms journal) .taken
+  pub replay-answer : (xs : List ℕ) (count : ℕ) (rooms journal : List ℕ) → replayTold (replayEvents limit editions e es xs count rooms journal) .answer ≡ k → ⊥
+  pub replay-entry : (xs : List ℕ) (count : ℕ) (rooms journal : List ℕ) → count < 2 ^ 64 → (i : ℕ) → i < replayTold (replayEvents limit editions e es xs count rooms journal) .taken
       → numberAt 2 (replayEvents limit editions e es xs count rooms journal .now .journal) (16 * i + 6) ≡ k → ⊥
   pub salvage-answer : (xs out list : List ℕ) → salvageTold limit editions e es xs out list .answer ≡ k → ⊥
   pub store-read : (xs : List ℕ) (lent : List (List ℕ)) → readStore versions editions xs (length lent) .answer ≡ k → ⊥

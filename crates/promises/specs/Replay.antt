@@ -15,7 +15,7 @@ use Rattle.meaning.specs.Editions.{known}
 use Rattle.meaning.specs.Ring.{Asked, asking, lengthAllowed, frame}
 use Rattle.meaning.specs.Drain.{End}
 use Rattle.meaning.specs.Events.{askedEvents, judgeEvents, drainEvents}
-use Rattle.runs.specs.Cutting.{Cut, Cuts, begin, entries, All, nothingCut}
+use Rattle.runs.specs.Cutting.{Cut, begin, entries, All, nothingCut}
 use Rattle.runs.specs.Streams.{joined}
 use Rattle.runs.specs.Scratches.{distance-self}
 use Rattle.runs.specs.Runs.{run-cut}
@@ -24,10 +24,9 @@ use Rattle.entries.specs.declared.Entry.{Entry}
 use Rattle.settings.specs.Versions.{versions}
 use Rattle.settings.specs.Reading.{isEventOf, fits}
 use Rattle.promises.specs.Scratch.{liesWhole, drain-all-whole, drain-copied, put-holds}
-use Rattle.replay.specs.declared.Replayed.{Replayed}
-use Rattle.replay.specs.Replay.{Happened, Bench, bench, sum, recordsIn, recordsOut, held, putRound, free, goesIn, goesBy, offer, journalLeft, drainOf, cutsOf, drainsOff, faultAt, Played, played, play, before, replay, half, ofStore, standing, told, roomsOf, replayEvents}
+use Rattle.replay.specs.Replay.{Bench, bench, sum, recordsIn, recordsOut, held, putRound, free, goesIn, goesBy, offer, journalLeft, drainOf, benchCuts, drainsOff, faultAt, Played, played, play, before, replay, half, ofStore, standing, replayTold, roomsOf, replayEvents}
 use Rattle.replay.specs.Drains.{bytesOf}
-use Rattle.replay.specs.Along.{Holds, holds-start, holds-play}
+use Rattle.replay.specs.Along.{BenchHolds, holds-start, holds-play}
 use Rattle.replay.specs.Queue.{took}
 use Rattle.replay.specs.Promises.{Point, at-every-point, comes-out-the-same, Stopped, drain-stops, why, drain-why, drain-takes, ends-before-fault, refused-before, read-to-end}
 use Rattle.replay.specs.Unseen.{Same, ring-unseen}
@@ -56,11 +55,11 @@ module _ (limit : ℕ) (rows : List Known) (e : ℕ) (es : List Event) where
     refused = before asked (length (take h rooms)) count
 
     -- "1, 2, 5 or 11 come before any entry": counts 0, head and tail the start, both slices unchanged
-    pub refused-told : (refused ≡ 0 → ⊥) → (told end ≡ begun count refused) × ((roomsOf end ≡ rooms) × (end .now .journal ≡ journal))
+    pub refused-told : (refused ≡ 0 → ⊥) → (replayTold end ≡ begun count refused) × ((roomsOf end ≡ rooms) × (end .now .journal ≡ journal))
     unfolding sum
     refused-told f =
         let z : end ≡ played first-bench 0 refused = refused-before ofStore asked judge xs (take h rooms) count (drop h rooms) journal f in
-        let d : told (played first-bench 0 refused) ≡ begun count refused =
+        let d : replayTold (played first-bench 0 refused) ≡ begun count refused =
         ap (λ (m : ℕ). record {
           entries = 0;
           «offered_bytes» = 0;
@@ -73,7 +72,7 @@ module _ (limit : ℕ) (rows : List Known) (e : ℕ) (es : List Event) where
           tail = count;
           answer = refused;
         }) (distance-self count fits) in
-        (ap told z ∙ d, (ap roomsOf z ∙ take-append-drop h rooms, ap (λ (p : Played). p .now .journal) z))
+        (ap replayTold z ∙ d, (ap roomsOf z ∙ take-append-drop h rooms, ap (λ (p : Played). p .now .journal) z))
 
     -- past them: what holds before the first entry, and is kept by each
     module _ (ok : refused ≡ 0) where
@@ -98,7 +97,7 @@ module _ (limit : ℕ) (rows : List Known) (e : ℕ) (es : List Event) where
       pub every-point : (n : ℕ) → Point judge journal (after n .now)
       every-point n = at-every-point ofStore asked judge xs (take h rooms) count (drop h rooms) journal (passed .allowed) fits (passed .eight) halves n
 
-      every-holds : (n : ℕ) → Holds judge journal (after n .now)
+      every-holds : (n : ℕ) → BenchHolds judge journal (after n .now)
       every-holds n =
           holds-play ofStore asked judge xs journal n 0 first-bench (holds-start judge journal (take h rooms) count (drop h rooms) (passed .allowed) fits (passed .eight) halves)
 
@@ -130,12 +129,12 @@ module _ (limit : ℕ) (rows : List Known) (e : ℕ) (es : List Event) where
       a-drain-stops n budget = drain-stops judge journal (after n .now) (every-holds n) budget
 
       pub a-drain-takes : (n budget : ℕ) → let b = after n .now in
-          cutsOf (asking true) b budget .records ≡ took budget (b .tail) (length (journalLeft b)) (drop (length (recordsOut (b .history))) (recordsIn (b .history)))
+          benchCuts (asking true) b budget .records ≡ took budget (b .tail) (length (journalLeft b)) (drop (length (recordsOut (b .history))) (recordsIn (b .history)))
       a-drain-takes n budget = drain-takes judge journal (after n .now) (every-holds n) budget
 
       pub a-drain-why : (n budget : ℕ) → let b = after n .now in
           drainOf (asking true) judge b budget .stop
-          ≡ why (budget - length (cutsOf (asking true) b budget .records)) (drop (length (recordsOut (b .history) ++ cutsOf (asking true) b budget .records)) (recordsIn (b .history)))
+          ≡ why (budget - length (benchCuts (asking true) b budget .records)) (drop (length (recordsOut (b .history) ++ benchCuts (asking true) b budget .records)) (recordsIn (b .history)))
       a-drain-why n budget = drain-why judge journal (after n .now) (every-holds n) budget
 
       -- there edition and table were passed
@@ -147,7 +146,7 @@ module _ (limit : ℕ) (rows : List Known) (e : ℕ) (es : List Event) where
       a-drain-is b budget = refl
 
       pub a-drain-counts : (n budget : ℕ) → let b = after n .now in
-          Counted asked (b .ring) (b .head) (b .tail) budget (journalLeft b) (b .scratch) (cutsOf asked b budget) (drainOf asked judge b budget)
+          Counted asked (b .ring) (b .head) (b .tail) budget (journalLeft b) (b .scratch) (benchCuts asked b budget) (drainOf asked judge b budget)
       a-drain-counts n budget =
           let b : Bench = after n .now in
           run-counted asked judge (b .ring) (b .head) (b .tail) budget (journalLeft b) (b .scratch) (every-holds n .head-fits) (every-holds n .tail-fits)
@@ -158,14 +157,14 @@ module _ (limit : ℕ) (rows : List Known) (e : ℕ) (es : List Event) where
       faulty-ends n at b g f = ends-before-fault ofStore asked judge xs n at b g f
 
       -- answer 0: the trace was read to its end
-      pub zero-ends : told end .answer ≡ 0 → length xs ≤ end .at
+      pub zero-ends : replayTold end .answer ≡ 0 → length xs ≤ end .at
       zero-ends z =
           subst (λ (p : Played). length xs ≤ p .at) (sym after-all)
           (read-to-end ofStore asked judge xs (length xs) 0 first-bench (omega arith) (ap (λ (p : Played). p .answer) (sym after-all) ∙ z))
 
       -- what is told at the end: the sum, and no byte that is not in the history
-      pub told-end : told end .«offered_bytes» ≡ told end .«drained_bytes» + told end .«dropped_bytes» + told end .«held_bytes»
-      told-end = subst (λ (p : Played). told p .«offered_bytes» ≡ told p .«drained_bytes» + told p .«dropped_bytes» + told p .«held_bytes») (sym after-all) (told-at (length xs) .0)
+      pub told-end : replayTold end .«offered_bytes» ≡ replayTold end .«drained_bytes» + replayTold end .«dropped_bytes» + replayTold end .«held_bytes»
+      told-end = subst (λ (p : Played). replayTold p .«offered_bytes» ≡ replayTold p .«drained_bytes» + replayTold p .«dropped_bytes» + replayTold p .«held_bytes») (sym after-all) (told-at (length xs) .0)
 
       -- what the ring held before does not show, nor what the scratch held
       pub unseen : (other : List ℕ) → length other ≡ length rooms → (n : ℕ)
@@ -208,14 +207,14 @@ module _ (asked : Asked) (judge : List ℕ → ℕ) (b : Bench) where
   -- the scratch begins with the record that was copied: of a drain's records at most one crosses the ring's end
   module _ (budget : ℕ) (hd : b .head < 2 ^ 64) (tl : b .tail < 2 ^ 64) where
     abbrev bytes-at : ℕ → List ℕ
-    bytes-at i = getD (cutsOf asked b budget .records) i nothingCut .record-bytes
+    bytes-at i = getD (benchCuts asked b budget .records) i nothingCut .record-bytes
 
-    scratch-is : drainOf asked judge b budget .state .scratch ≡ cutsOf asked b budget .last .scratch
+    scratch-is : drainOf asked judge b budget .state .scratch ≡ benchCuts asked b budget .last .scratch
     scratch-is =
         ap (λ (x : End). x .state .scratch)
         (run-cut (frame asked (b .ring) (b .head)) (frame-roomy asked (b .ring) (b .head)) (b .ring) (b .tail) budget (journalLeft b) (b .scratch) judge)
 
-    pub drain-copies : (i : ℕ) → i < length (cutsOf asked b budget .records) → liesWhole (b .ring) (getD (cutsOf asked b budget .records) i nothingCut) ≡ false
+    pub drain-copies : (i : ℕ) → i < length (benchCuts asked b budget .records) → liesWhole (b .ring) (getD (benchCuts asked b budget .records) i nothingCut) ≡ false
         → (take (length (bytes-at i)) (drainsOff asked judge b budget .scratch) ≡ bytes-at i)
         × (drop (length (bytes-at i)) (drainsOff asked judge b budget .scratch) ≡ drop (length (bytes-at i)) (b .scratch))
     unfolding drainsOff
@@ -223,7 +222,7 @@ module _ (asked : Asked) (judge : List ℕ → ℕ) (b : Bench) where
         let k = drain-copied asked (b .ring) (b .head) hd budget (begin (b .tail) (length (journalLeft b)) (b .scratch)) tl i g w in
         rw (scratch-is ∙ k .0) (put-holds (b .scratch) (bytes-at i) (length (bytes-at i)) refl (k .1))
 
-    pub drain-copies-none : All (λ (c : Cut). liesWhole (b .ring) c ≡ true) (cutsOf asked b budget .records) → drainsOff asked judge b budget .scratch ≡ b .scratch
+    pub drain-copies-none : All (λ (c : Cut). liesWhole (b .ring) c ≡ true) (benchCuts asked b budget .records) → drainsOff asked judge b budget .scratch ≡ b .scratch
     unfolding drainsOff
     drain-copies-none w = scratch-is ∙ drain-all-whole asked (b .ring) (b .head) hd budget (begin (b .tail) (length (journalLeft b)) (b .scratch)) w
 

@@ -21,7 +21,7 @@ use Rattle.runs.specs.Streams.{joined}
 use Rattle.entries.specs.declared.Entry.{Entry}
 use Rattle.entries.specs.Entries.{entryAt}
 use Rattle.replay.specs.declared.Replayed.{Replayed}
-use Rattle.replay.specs.Replay.{Happened, wentIn, wasDropped, drained, Bench, bench, offeredBy, sum, free, goesIn, goesBy, offer, drainsOff, bodyOf, isOffer, isDrain, faultAt, effect, Played, played, play, before, half, ofStore, standing, told, replayEvents}
+use Rattle.replay.specs.Replay.{Happened, wentIn, wasDropped, drained, Bench, bench, offeredBy, sum, free, goesIn, goesBy, offer, drainsOff, bodyOf, isOffer, isDrain, faultAt, effect, Played, played, play, before, half, ofStore, standing, replayTold, replayEvents}
 use Rattle.replay.specs.Along.{no-fault}
 use Rattle.replay.specs.Steps.{countIn, countBy, lent, offered}
 use Rattle.replay.specs.Shows.{shows-offer}
@@ -248,9 +248,9 @@ module _ (limit : ℕ) (rows : List Known) (e : ℕ) (es : List Event) (xs : Lis
   )
 
   pub told-of-the-whole : count < 2 ^ 64 → before asked (length (take h rooms)) count ≡ 0
-      → (told end .entries ≡ length (entriesOf xs (length xs) 0)) × (told end .«offered_bytes» ≡ length (joined (bodies xs (entriesOf xs (length xs) 0))))
+      → (replayTold end .entries ≡ length (entriesOf xs (length xs) 0)) × (replayTold end .«offered_bytes» ≡ length (joined (bodies xs (entriesOf xs (length xs) 0))))
   told-of-the-whole fits ok =
-      subst (λ (p : Played). (told p .entries ≡ length (entriesOf xs (length xs) 0)) × (told p .«offered_bytes» ≡ length (joined (bodies xs (entriesOf xs (length xs) 0)))))
+      subst (λ (p : Played). (replayTold p .entries ≡ length (entriesOf xs (length xs) 0)) × (replayTold p .«offered_bytes» ≡ length (joined (bodies xs (entriesOf xs (length xs) 0)))))
       (sym (after-all limit rows e es xs count rooms journal fits ok)) (told-of-the-trace (length xs))
 
   -- the entry after the first n: where none before it was faulty, and it is not, it is done on what they left

@@ -40,7 +40,7 @@ use Rattle.promises.specs.Called.{part, Called, one-called, one-events-c
 -- ---- a record of a drain, at its own tail
 
 -- what is said of each: the tail is a count; with the same head, a budget of one and room for one entry a record is found there, and it is this one
-pub record Stands (asked : Asked) (ring : List ℕ) (head : ℕ) (c : Cut) : Type 0 where
+pub record RecordStands (asked : Asked) (ring : List ℕ) (head : ℕ) (c : Cut) : Type 0 where
   pub count : c .tail < 2 ^ 64
   pub bytes-at : c .record-bytes ≡ recordAt ring (c .tail % length ring) (length (c .record-bytes))
   pub found : (room : ℕ) → (liesWhole ring c ≡ false → length (c .record-bytes) ≤ room)
@@ -48,7 +48,7 @@ pub record Stands (asked : Asked) (ring : List ℕ) (head : ℕ) (c : Cut) : Typ
 
 module _ (asked : Asked) (ring : List ℕ) (head : ℕ) (hd : head < 2 ^ 64) where
   stands-there : (all n : ℕ) (p : Spot) → Kept ring head all p → spotFrame (frame asked ring head) n p .go ≡ true
-      → Stands asked ring head (cutAt ring p (spotFrame (frame asked ring head) n p))
+      → RecordStands asked ring head (cutAt ring p (spotFrame (frame asked ring head) n p))
   stands-there all n p k g =
       let f : Frame = spotFrame (frame asked ring head) n p in
       let w = frame-going asked ring head (p .tail) n (p .room) (length (p .scratch)) g in
@@ -77,15 +77,15 @@ module _ (asked : Asked) (ring : List ℕ) (head : ℕ) (hd : head < 2 ^ 64) whe
             ∙ ap (goAt (p .tail % length ring)) (sym l);
       }
 
-  stands-steps : (all : ℕ) → Steps ring (Kept ring head all) (Stands asked ring head) (frame asked ring head)
+  stands-steps : (all : ℕ) → Steps ring (Kept ring head all) (RecordStands asked ring head) (frame asked ring head)
   stands-steps all =
       let s = frame-steps asked ring head hd all in
       record { paid = s .paid; roomy = s .roomy; stops = s .stops; long = s .long; kept = s .kept; each = stands-there all }
 
-  pub each-stands : (tail budget room : ℕ) (scratch : List ℕ) → tail < 2 ^ 64 → All (Stands asked ring head) (cuttingBy asked ring head tail budget room scratch .records)
+  pub each-stands : (tail budget room : ℕ) (scratch : List ℕ) → tail < 2 ^ 64 → All (RecordStands asked ring head) (cuttingBy asked ring head tail budget room scratch .records)
   each-stands tail budget room scratch tl =
       let all : ℕ = 0 + distance head tail in
-      along ring (Kept ring head all) (Stands asked ring head) (frame asked ring head) (stands-steps all) budget (begin tail room scratch) tl (tl, refl) .each
+      along ring (Kept ring head all) (RecordStands asked ring head) (frame asked ring head) (stands-steps all) budget (begin tail room scratch) tl (tl, refl) .each
 
 -- ---- the tail in an entry reads back
 tail-in : (judge : List ℕ → ℕ) (journal r : List ℕ) (i tail : ℕ) → tail < 2 ^ 64 → take 16 (drop (16 * i) journal) ≡ entryFor judge r tail → numberAt 8 journal (16 * i + 8) ≡ tail
@@ -108,7 +108,7 @@ unshort n words m = ap (λ (b : Bool). orElse n (cond b 0 40)) (le-leb 56 (lengt
     by true z = sym (eqb-true n 0 z)
     by false z = refl
 
-module _ (asked : Asked) (ring : List ℕ) (head : ℕ) (c : Cut) (s : Stands asked ring head c) (lent words : List ℕ) (t : OneTold) (scratch-then words-then : List ℕ)
+module _ (asked : Asked) (ring : List ℕ) (head : ℕ) (c : Cut) (s : RecordStands asked ring head c) (lent words : List ℕ) (t : OneTold) (scratch-then words-then : List ℕ)
     (called : Called asked ring head (c .tail) lent words t scratch-then words-then) (fits : liesWhole ring c ≡ false → length (c .record-bytes) ≤ length lent) where
   found-there : (0 < t .size) × (t .size ≡ length (c .record-bytes))
   found-there =
@@ -137,7 +137,7 @@ module _ (e : ℕ) (a : Attributes) (ring : List ℕ) (head tail budget : ℕ) (
   entry-reread i h lent words fits =
       let c : Cut = record-at i in
       let n = run-count (frame (askedOf editions e) ring head) (frame-roomy (askedOf editions e) ring head) (judge (layout (known editions e) a)) ring tail budget journal scratch in
-      let s = all-at (Stands (askedOf editions e) ring head) (cuttingBy (askedOf editions e) ring head tail budget (length journal) scratch .records) i
+      let s = all-at (RecordStands (askedOf editions e) ring head) (cuttingBy (askedOf editions e) ring head tail budget (length journal) scratch .records) i
       (each-stands (askedOf editions e) ring head hd tail budget (length journal) scratch tl) (omega (arith, n, h)) in
       let p = run-entry (frame (askedOf editions e) ring head) (frame-roomy (askedOf editions e) ring head) (judge (layout (known editions e) a)) ring tail budget journal scratch i h in
       let q : c .tail ≡ tail-at i = sym (tail-in (judge (layout (known editions e) a)) (end .state .journal) (c .record-bytes) i (c .tail) (s .count) p) in
@@ -178,7 +178,7 @@ module _ (limit e : ℕ) (es : List Event) (ring : List ℕ) (head tail budget :
       let j : List ℕ → ℕ = judgeEvents (known editions e) es in
       let c : Cut = event-record-at i in
       let n = run-count (frame asked ring head) (frame-roomy asked ring head) j ring tail budget journal scratch in
-      let s = all-at (Stands asked ring head) (cuttingBy asked ring head tail budget (length journal) scratch .records) i
+      let s = all-at (RecordStands asked ring head) (cuttingBy asked ring head tail budget (length journal) scratch .records) i
       (each-stands asked ring head hd tail budget (length journal) scratch tl) (omega (arith, n, h)) in
       let p = run-entry (frame asked ring head) (frame-roomy asked ring head) j ring tail budget journal scratch i h in
       let q : c .tail ≡ event-tail-at i = sym (tail-in j (event-end .state .journal) (c .record-bytes) i (c .tail) (s .count) p) in

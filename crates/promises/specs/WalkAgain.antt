@@ -31,7 +31,7 @@ use Rattle.runs.specs.Forward.{Kept, Shaped, frame-going, frame-roomy, frame-pa
 use Rattle.runs.specs.Scratches.{distance-self}
 use Rattle.backward.specs.Promise.{walkCuts}
 use Rattle.backward.specs.Frames.{back-goes, back-roomy}
-use Rattle.backward.specs.Walks.{Stands, stands-first, stands-on, walk-walks}
+use Rattle.backward.specs.Walks.{BackStands, stands-first, stands-on, walk-walks}
 use Rattle.backward.specs.Twin.{roundFrom, twin-there, twin-back}
 use Rattle.promises.specs.Reread.{Reread, entry-reread, event-entry-reread}
 
@@ -200,7 +200,7 @@ module _ (asked : Asked) (judge : List ℕ → ℕ) (ring : List ℕ) (head budg
   -- a drain of one ring length cuts as the walk does
   round-cuts : Alike (cutBy (frame asked ring (roundFrom ring head)) ring budget first) (walkCuts asked ring head budget (length journal) scratch)
   round-cuts =
-      cuts-alike (backFrame asked ring head) (frame asked ring (roundFrom ring head)) ring (λ (n : ℕ) (p : Spot). Stands ring head (p .tail) (p .bytes))
+      cuts-alike (backFrame asked ring head) (frame asked ring (roundFrom ring head)) ring (λ (n : ℕ) (p : Spot). BackStands ring head (p .tail) (p .bytes))
       (λ n p k g. twin-there asked ring head (p .tail) (p .bytes) n (p .room) (length (p .scratch)) hd k g)
       (λ n p k g. twin-back asked ring head (p .tail) (p .bytes) n (p .room) (length (p .scratch)) hd k g)
       (λ n p k g. stands-on asked ring head (p .tail) (p .bytes) (suc n) (p .room) (length (p .scratch)) _ hd k (back-goes asked ring head (p .tail) (suc n) (p .room) (length (p .scratch)) g))

@@ -16,7 +16,7 @@ use Rattle.laws.specs.Bytes.{sameBytes}
 use Rattle.runs.specs.Cutting.{cutBy, total}
 use Rattle.entries.specs.Entries.{entryBytes, isWhole, entryAt}
 use Rattle.replay.specs.declared.Replayed.{Replayed}
-use Rattle.replay.specs.Replay.{bench, offeredBy, droppedBy, drainedBy, sum, held, putRound, offer, drainsOff, faultAt, effect, Played, play, replay, half, ofStore, told}
+use Rattle.replay.specs.Replay.{bench, offeredBy, droppedBy, drainedBy, sum, held, putRound, offer, drainsOff, faultAt, effect, Played, play, replay, half, ofStore, replayTold}
 
 abbrev nothingSelected : Attributes
 nothingSelected = record { sample = 0; format = 0; all = false; user = 0; interrupt = 0; branch = 0 }
@@ -81,12 +81,12 @@ abbrev fields : Replayed → List ℕ
 fields t =
     t .entries ∷ t .«offered_bytes» ∷ t .«drained_bytes» ∷ t .«dropped_bytes» ∷ t .«held_bytes» ∷ t .taken ∷ t .dropped ∷ t .head ∷ t .tail ∷ t .answer ∷ []
 
-pub told-whole : sameBytes (fields (told whole)) (6 ∷ 96 ∷ 72 ∷ 24 ∷ 0 ∷ 3 ∷ 1 ∷ 64 ∷ 64 ∷ 52 ∷ []) ≡ true
+pub told-whole : sameBytes (fields (replayTold whole)) (6 ∷ 96 ∷ 72 ∷ 24 ∷ 0 ∷ 3 ∷ 1 ∷ 64 ∷ 64 ∷ 52 ∷ []) ≡ true
 unfolding num spell bit ones put first Items.span Items.rule Items.holds Items.counted Items.before Items.past Items.part Items.settle Items.shapeStep Items.step Items.walk known unreadable layout kindOf miscOf sizeOf roomShape room fieldsOf closed fieldsAnswer judge lengthAllowed distance recordAt stopped sized frame scratchAfter journalKind entry run cutBy total entryBytes isWhole entryAt sum putRound offer drainsOff faultAt effect play replay sameBytes
 told-whole = refl
 
 -- after five entries the ring is full, and nothing of it is drained but the first record
-pub told-full : sameBytes (fields (told (after 5))) (5 ∷ 96 ∷ 8 ∷ 24 ∷ 64 ∷ 1 ∷ 1 ∷ 64 ∷ 0 ∷ 0 ∷ []) ≡ true
+pub told-full : sameBytes (fields (replayTold (after 5))) (5 ∷ 96 ∷ 8 ∷ 24 ∷ 64 ∷ 1 ∷ 1 ∷ 64 ∷ 0 ∷ 0 ∷ []) ≡ true
 unfolding num spell bit ones put first Items.span Items.rule Items.holds Items.counted Items.before Items.past Items.part Items.settle Items.shapeStep Items.step Items.walk known unreadable layout kindOf miscOf sizeOf roomShape room fieldsOf closed fieldsAnswer judge lengthAllowed distance recordAt stopped sized frame scratchAfter journalKind entry run cutBy total entryBytes isWhole entryAt sum putRound offer drainsOff faultAt effect play replay sameBytes
 told-full = refl
 

@@ -14,10 +14,10 @@ use Rattle.runs.specs.Runs.{run-cut}
 use Rattle.runs.specs.Forward.{run-counted, frame-roomy}
 use Rattle.entries.specs.declared.Entry.{Entry}
 use Rattle.entries.specs.Entries.{entryAt}
-use Rattle.replay.specs.Replay.{Happened, wentIn, wasDropped, drained, Bench, bench, recordsIn, recordsOut, free, goesIn, goesBy, offer, journalLeft, drainOf, cutsOf, drainsOff, bodyOf, isOffer, faultAt, effect, Played, played, play}
+use Rattle.replay.specs.Replay.{Happened, wentIn, wasDropped, drained, Bench, bench, recordsIn, recordsOut, free, goesIn, goesBy, offer, journalLeft, drainOf, benchCuts, drainsOff, bodyOf, isOffer, faultAt, effect, Played, played, play}
 use Rattle.replay.specs.Round.{round-length}
 use Rattle.replay.specs.Queue.{took}
-use Rattle.replay.specs.Along.{Holds, holds-start, holds-effect}
+use Rattle.replay.specs.Along.{BenchHolds, holds-start, holds-effect}
 use Rattle.replay.specs.Promises.{drain-why, drain-takes, why}
 
 -- two benches that differ in the bytes of ring and scratch alone
@@ -63,8 +63,8 @@ module _ (b c : Bench) (a : Alike b c) where
       by true = alike-in r
       by false = alike-by r
 
-  module _ (judge : List ℕ → ℕ) (lent : List ℕ) (hb : Holds judge lent b) (hc : Holds judge lent c) (budget : ℕ) where
-    records-same : cutsOf (asking true) b budget .records ≡ cutsOf (asking true) c budget .records
+  module _ (judge : List ℕ → ℕ) (lent : List ℕ) (hb : BenchHolds judge lent b) (hc : BenchHolds judge lent c) (budget : ℕ) where
+    records-same : benchCuts (asking true) b budget .records ≡ benchCuts (asking true) c budget .records
     records-same =
         drain-takes judge lent b hb budget
         ∙ (λ i. took budget (a .tail i) (length (drop (16 * a .used i) (a .journal i))) (drop (length (recordsOut (a .history i))) (recordsIn (a .history i))))
@@ -81,9 +81,9 @@ module _ (b c : Bench) (a : Alike b c) where
     alike-drain =
         let nb = run-counted (asking true) judge (b .ring) (b .head) (b .tail) budget (journalLeft b) (b .scratch) (hb .head-fits) (hb .tail-fits) in
         let nc = run-counted (asking true) judge (c .ring) (c .head) (c .tail) budget (journalLeft c) (c .scratch) (hc .head-fits) (hc .tail-fits) in
-        let jb : drainOf (asking true) judge b budget .state .journal ≡ put (journalLeft b) 0 (entries judge (cutsOf (asking true) b budget .records)) =
+        let jb : drainOf (asking true) judge b budget .state .journal ≡ put (journalLeft b) 0 (entries judge (benchCuts (asking true) b budget .records)) =
         ap (λ (x : End). x .state .journal) (run-cut (frame (asking true) (b .ring) (b .head)) (frame-roomy (asking true) (b .ring) (b .head)) (b .ring) (b .tail) budget (journalLeft b) (b .scratch) judge) in
-        let jc : drainOf (asking true) judge c budget .state .journal ≡ put (journalLeft c) 0 (entries judge (cutsOf (asking true) c budget .records)) =
+        let jc : drainOf (asking true) judge c budget .state .journal ≡ put (journalLeft c) 0 (entries judge (benchCuts (asking true) c budget .records)) =
         ap (λ (x : End). x .state .journal) (run-cut (frame (asking true) (c .ring) (c .head)) (frame-roomy (asking true) (c .ring) (c .head)) (c .ring) (c .tail) budget (journalLeft c) (c .scratch) judge) in
         let bytes : drainOf (asking true) judge b budget .state .bytes ≡ drainOf (asking true) judge c budget .state .bytes = nb .sum ∙ ap total records-same ∙ sym (nc .sum) in
         let count : drainOf (asking true) judge b budget .state .taken ≡ drainOf (asking true) judge c budget .state .taken = nb .count ∙ ap length records-same ∙ sym (nc .count) in
@@ -105,7 +105,7 @@ pub record Same (p q : Played) : Type 0 where
   pub answer : p .answer ≡ q .answer
 
 module _ (ofStore : Entry → Bool) (judge : List ℕ → ℕ) (xs lent : List ℕ) where
-  alike-effect : (e : Entry) (b c : Bench) → Alike b c → Holds judge lent b → Holds judge lent c → Alike (effect (asking true) judge xs e b) (effect (asking true) judge xs e c)
+  alike-effect : (e : Entry) (b c : Bench) → Alike b c → BenchHolds judge lent b → BenchHolds judge lent c → Alike (effect (asking true) judge xs e b) (effect (asking true) judge xs e c)
   unfolding effect
   alike-effect e b c a hb hc = by (isOffer e)
     where
@@ -113,7 +113,7 @@ module _ (ofStore : Entry → Bool) (judge : List ℕ → ℕ) (xs lent : List �
       by true = alike-offer b c a (bodyOf xs e)
       by false = alike-drain b c a judge lent hb hc (numberAt 4 xs (e .body))
 
-  same-play : (n at : ℕ) (b c : Bench) → Alike b c → Holds judge lent b → Holds judge lent c → Same (play ofStore (asking true) judge xs n at b) (play ofStore (asking true) judge xs n at c)
+  same-play : (n at : ℕ) (b c : Bench) → Alike b c → BenchHolds judge lent b → BenchHolds judge lent c → Same (play ofStore (asking true) judge xs n at b) (play ofStore (asking true) judge xs n at c)
   unfolding play
   same-play zero at b c a hb hc = record { now = a; at = refl; answer = refl }
   same-play (suc n) at b c a hb hc =
@@ -130,7 +130,7 @@ module _ (ofStore : Entry → Bool) (judge : List ℕ → ℕ) (xs lent : List �
       cn = effect (asking true) judge xs (entryAt xs at) c
 
       by : (t u : Bool) → eqb (faultAt ofStore xs at) 0 ≡ u
-          → (Alike bn cn → Holds judge lent bn → Holds judge lent cn → Same (play ofStore (asking true) judge xs n there bn) (play ofStore (asking true) judge xs n there cn))
+          → (Alike bn cn → BenchHolds judge lent bn → BenchHolds judge lent cn → Same (play ofStore (asking true) judge xs n there bn) (play ofStore (asking true) judge xs n there cn))
           → Same (cond t (played b at 0) (cond u (play ofStore (asking true) judge xs n there bn) (played b at (faultAt ofStore xs at))))
           (cond t (played c at 0) (cond u (play ofStore (asking true) judge xs n there cn) (played c at (faultAt ofStore xs at))))
       by true u e next = record { now = a; at = refl; answer = refl }

@@ -19,7 +19,7 @@ use Rattle.salvage.specs.declared.Walk.{Walk}
 use Rattle.salvage.specs.Salvage.{keeps, step, Piece, piece, pieces, keptIn, output, Run, run, join, holesIn, holes, dropped, holeBytes, changes, unready, salvageAnswer, outAfter, listAfter, tells, salvaged}
 use Rattle.salvage.specs.declared.Salvaged.{Salvaged}
 use Rattle.meaning.specs.Refusals.{first}
-use Rattle.salvage.specs.Walks.{walk, closed, advanced, outNext, listClosed, listNext, from, pending, Stands, Room, Wrote}
+use Rattle.salvage.specs.Walks.{walk, closed, advanced, outNext, listClosed, listNext, from, pending, SalvageStands, Room, Wrote}
 use Rattle.salvage.specs.Steps.{Kept, says-keeps, keeps-says, step-kept, step-dropped, step-low, pieces-end}
 use Rattle.salvage.specs.Holes.{Spaced, join-join, join-before, along-from}
 use Rattle.salvage.specs.Promises.{changes-length, kept-and-dropped, holes-spaced, before-answer, room-suffices, no-room}
@@ -117,11 +117,11 @@ after-of n l s rest e = sym (drop-drop (length s) n l) ∙ ap (drop (length s)) 
 abbrev pub sizeAt : (List ℕ → ℕ) → List ℕ → ℕ
 sizeAt judge left = cond (keeps judge left) (sizeOf left) 0
 
-module _ (judge : List ℕ → ℕ) (xs : List ℕ) (w : Walk) (s : Stands judge xs w) (more : w .at < length xs) where
+module _ (judge : List ℕ → ℕ) (xs : List ℕ) (w : Walk) (s : SalvageStands judge xs w) (more : w .at < length xs) where
   lengthed : length (drop (w .at) xs) ≡ length xs - w .at
   lengthed = length-drop (w .at) xs
 
-  turn-dropped : keeps judge (drop (w .at) xs) ≡ false → Stands judge xs (advanced w 0 (length xs - w .at))
+  turn-dropped : keeps judge (drop (w .at) xs) ≡ false → SalvageStands judge xs (advanced w 0 (length xs - w .at))
   unfolding advanced keptIn
   turn-dropped e =
       let l : List ℕ = drop (w .at) xs in
@@ -188,7 +188,7 @@ module _ (judge : List ℕ → ℕ) (xs : List ℕ) (w : Walk) (s : Stands judge
       ∙ ap (λ (y : List ℕ). piece true (take (sizeOf l) l) ∷ from judge y) (drop-drop (sizeOf l) (w .at) xs)
 
   turn-kept : keeps judge (drop (w .at) xs) ≡ true
-      → Stands judge xs (walk (w .at + sizeOf (drop (w .at) xs)) (w .at + sizeOf (drop (w .at) xs)) (w .kept + sizeOf (drop (w .at) xs)) (closed w))
+      → SalvageStands judge xs (walk (w .at + sizeOf (drop (w .at) xs)) (w .at + sizeOf (drop (w .at) xs)) (w .kept + sizeOf (drop (w .at) xs)) (closed w))
   unfolding keptIn joined
   turn-kept e =
       let l : List ℕ = drop (w .at) xs in
@@ -216,22 +216,22 @@ unfolding advanced
 advanced-kept w size left h = simp (ne-eqb size 0 (λ (e : size ≡ 0). omega arith))
 
 -- a turn of either pass
-pub stands-again : (judge : List ℕ → ℕ) (xs : List ℕ) (w : Walk) → Stands judge xs w → w .at < length xs → (size : ℕ) → size ≡ sizeAt judge (drop (w .at) xs)
-    → Stands judge xs (advanced w size (length xs - w .at))
+pub stands-again : (judge : List ℕ → ℕ) (xs : List ℕ) (w : Walk) → SalvageStands judge xs w → w .at < length xs → (size : ℕ) → size ≡ sizeAt judge (drop (w .at) xs)
+    → SalvageStands judge xs (advanced w size (length xs - w .at))
 stands-again judge xs w s more size e = by (keeps judge (drop (w .at) xs)) refl e
   where
     l : List ℕ
     l = drop (w .at) xs
 
-    by : (t : Bool) → keeps judge (drop (w .at) xs) ≡ t → size ≡ cond t (sizeOf (drop (w .at) xs)) 0 → Stands judge xs (advanced w size (length xs - w .at))
+    by : (t : Bool) → keeps judge (drop (w .at) xs) ≡ t → size ≡ cond t (sizeOf (drop (w .at) xs)) 0 → SalvageStands judge xs (advanced w size (length xs - w .at))
     by true k z =
         let low = keeps-says judge (drop (w .at) xs) k .low in
-        subst (λ (n : ℕ). Stands judge xs (advanced w n (length xs - w .at))) (sym z)
-        (subst (Stands judge xs) (sym (advanced-kept w (sizeOf (drop (w .at) xs)) (length xs - w .at) (omega arith))) (turn-kept judge xs w s more k))
-    by false k z = subst (λ (n : ℕ). Stands judge xs (advanced w n (length xs - w .at))) (sym z) (turn-dropped judge xs w s more k)
+        subst (λ (n : ℕ). SalvageStands judge xs (advanced w n (length xs - w .at))) (sym z)
+        (subst (SalvageStands judge xs) (sym (advanced-kept w (sizeOf (drop (w .at) xs)) (length xs - w .at) (omega arith))) (turn-kept judge xs w s more k))
+    by false k z = subst (λ (n : ℕ). SalvageStands judge xs (advanced w n (length xs - w .at))) (sym z) (turn-dropped judge xs w s more k)
 
 -- the start
-pub stands-start : (judge : List ℕ → ℕ) (xs : List ℕ) → Stands judge xs (walk 0 0 0 0)
+pub stands-start : (judge : List ℕ → ℕ) (xs : List ℕ) → SalvageStands judge xs (walk 0 0 0 0)
 stands-start judge xs =
     record { inside = omega arith; before = omega arith; kept-in = omega arith; holes-in = omega arith; out-rest = refl; holes-rest = sym (pending-here 0 (from judge xs)) }
 
@@ -241,7 +241,7 @@ pub record Ended (judge : List ℕ → ℕ) (xs : List ℕ) (w : Walk) : Type 0 
   pub closed-all : closed w ≡ length (holes judge xs)
   pub last-hole : w .start < w .at → drop (w .holes) (holes judge xs) ≡ run (w .start) (w .at - w .start) ∷ []
 
-pub stands-end : (judge : List ℕ → ℕ) (xs : List ℕ) (w : Walk) → Stands judge xs w → length xs ≤ w .at → Ended judge xs w
+pub stands-end : (judge : List ℕ → ℕ) (xs : List ℕ) (w : Walk) → SalvageStands judge xs w → length xs ≤ w .at → Ended judge xs w
 unfolding pieces keptIn joined holesIn join
 stands-end judge xs w s h =
     let z : drop (w .at) xs ≡ [] = drop-of-length-le xs {i = w .at} h in
@@ -402,7 +402,7 @@ pub record Sized (judge : List ℕ → ℕ) (xs : List ℕ) (w : Walk) (size : �
   pub onward : length xs - advanced w size (length xs - w .at) .at < length xs - w .at
   pub next-hole : 0 < size → w .start < w .at → w .holes + 1 ≤ length (holes judge xs)
 
-pub sized : (judge : List ℕ → ℕ) (xs : List ℕ) (w : Walk) → Stands judge xs w → w .at < length xs → (size : ℕ) → size ≡ sizeAt judge (drop (w .at) xs)
+pub sized : (judge : List ℕ → ℕ) (xs : List ℕ) (w : Walk) → SalvageStands judge xs w → w .at < length xs → (size : ℕ) → size ≡ sizeAt judge (drop (w .at) xs)
     → Sized judge xs w size
 unfolding advanced
 sized judge xs w s more size e = by (keeps judge (drop (w .at) xs)) refl e

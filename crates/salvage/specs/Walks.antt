@@ -44,7 +44,7 @@ from judge left = pieces judge (length left) left
 unfoldable pub pending : ℕ → ℕ → List Piece → List Run
 pending start at ps = cond (ltb start at) (join start (at - start) (holesIn at ps)) (holesIn at ps)
 
-pub record Stands (judge : List ℕ → ℕ) (xs : List ℕ) (w : Walk) : Type 0 where
+pub record SalvageStands (judge : List ℕ → ℕ) (xs : List ℕ) (w : Walk) : Type 0 where
   pub inside : w .at ≤ length xs
   pub before : w .start ≤ w .at
   pub kept-in : w .kept ≤ length (output judge xs)
@@ -59,6 +59,6 @@ pub record Room (judge : List ℕ → ℕ) (xs out list : List ℕ) : Type 0 whe
 
 -- what the second pass has written so far: the first of each
 pub record Wrote (judge : List ℕ → ℕ) (xs out₀ list₀ : List ℕ) (w : Walk) (out list : List ℕ) : Type 0 where
-  pub stands : Stands judge xs w
+  pub stands : SalvageStands judge xs w
   pub out-is : out ≡ put out₀ 0 (take (w .kept) (output judge xs))
   pub list-is : list ≡ put list₀ 0 (take (22 * w .holes) (changes (holes judge xs)))

@@ -19,7 +19,7 @@ use Rattle.runs.specs.Enough.{run-ends}
 use Rattle.series.specs.Series.{Step, Given, drainAt, entriesOf, from, series, seriesTo, reach, Steady, oneDrain, Same, GoesOn}
 use Rattle.series.specs.Goings.{reach-most}
 use Rattle.series.specs.Stops.{lasting, stop-eight, stop-again, nothing-again, staying, stop-later}
-use Rattle.series.specs.Chains.{cutsOf, drain-reads, chain-cuts}
+use Rattle.series.specs.Chains.{stepCuts, drain-reads, chain-cuts}
 use Rattle.series.specs.Steps.{Along, along-step, along-series, along-from, along-to, bytes-later}
 
 -- a drain that stops at once
@@ -30,7 +30,7 @@ unfolding entries
 at-once asked judge tail s k e =
     let d = drain-reads asked judge tail s in
     let p = begin tail (length (s .journal)) (s .scratch) in
-    let w : cutsOf asked tail s ≡ halt p (stopAt k) = cut-stop (frame asked (s .ring) (s .head)) (s .ring) (s .budget) p (ap (λ (f : Frame). f .go) e) ∙ ap (halt p) e in
+    let w : stepCuts asked tail s ≡ halt p (stopAt k) = cut-stop (frame asked (s .ring) (s .head)) (s .ring) (s .budget) p (ap (λ (f : Frame). f .go) e) ∙ ap (halt p) e in
     record {
       taken = d .taken ∙ ap (λ (x : Cuts). length (x .records)) w;
       entries = d .entries-are ∙ ap (λ (x : Cuts). entries judge (x .records)) w;
@@ -70,7 +70,7 @@ module _ (asked : Asked) (judge : List ℕ → ℕ) (tail : ℕ) (tl : tail < 2 
       let d = drain-reads asked judge tail (oneDrain z budget journal scratch) in
       let v = drain-reads asked judge (g .tail) (oneDrain z (budget - g .taken) journal′ scratch′) in
       let cs : List Cut = a .records in
-      let ds : List Cut = cutsOf asked (g .tail) (oneDrain z (budget - g .taken) journal′ scratch′) .records in
+      let ds : List Cut = stepCuts asked (g .tail) (oneDrain z (budget - g .taken) journal′ scratch′) .records in
       let e : (tail + 0) % 2 ^ 64 ≡ tail = omega arith in
       let k = a .taken in
       let t = chain-cuts asked (z .ring) (z .head) (length (z .scratch)) cs (g .tail) (begin tail (length journal) scratch) (begin (g .tail) (length journal′) scratch′)

@@ -144,8 +144,8 @@ module _ (asked : Asked) (ring : List ℕ) (head : ℕ) where
 
 -- ---- a drain, by its cutting: for any judge
 
-abbrev pub cutsOf : Asked → ℕ → Step → Cuts
-cutsOf asked tail s = cuttingBy asked (s .ring) (s .head) tail (s .budget) (length (s .journal)) (s .scratch)
+abbrev pub stepCuts : Asked → ℕ → Step → Cuts
+stepCuts asked tail s = cuttingBy asked (s .ring) (s .head) tail (s .budget) (length (s .journal)) (s .scratch)
 
 pub record Read (judge : List ℕ → ℕ) (w : Cuts) (d : End) : Type 0 where
   pub taken : d .state .taken ≡ length (w .records)
@@ -153,9 +153,9 @@ pub record Read (judge : List ℕ → ℕ) (w : Cuts) (d : End) : Type 0 where
   pub tail : d .state .tail ≡ w .last .tail
   pub stop : d .stop ≡ w .stop
 
-pub drain-reads : (asked : Asked) (judge : List ℕ → ℕ) (tail : ℕ) (s : Step) → Read judge (cutsOf asked tail s) (drainAt asked judge tail s)
+pub drain-reads : (asked : Asked) (judge : List ℕ → ℕ) (tail : ℕ) (s : Step) → Read judge (stepCuts asked tail s) (drainAt asked judge tail s)
 drain-reads asked judge tail s =
-    let w : Cuts = cutsOf asked tail s in
+    let w : Cuts = stepCuts asked tail s in
     let es : List ℕ = entries judge (w .records) in
     let k : ℕ = length (w .records) in
     let roomy = frame-roomy asked (s .ring) (s .head) in

@@ -15,7 +15,7 @@ use Rattle.runs.specs.Along.{Steps as Stepping, along}
 use Rattle.runs.specs.Forward.{frame-paid, frame-roomy, frame-going}
 use Rattle.series.specs.Series.{Step, Given, from, drainAt, entriesOf, onward, series, reach, Stays, Steady}
 use Rattle.series.specs.Goings.{There, frame-there, there-later, between-part, reach-near, reach-past, reach-most}
-use Rattle.series.specs.Chains.{Link, total-low, cutsOf, drain-reads}
+use Rattle.series.specs.Chains.{Link, total-low, stepCuts, drain-reads}
 
 module _ (asked : Asked) (tail : ℕ) (tl : tail < 2 ^ 64) (z : Step) (eight : z .head % 8 ≡ 0) where
   -- the count that lies x bytes past the first tail
@@ -110,7 +110,7 @@ module _ (asked : Asked) (tail : ℕ) (tl : tail < 2 ^ 64) (z : Step) (eight : z
           each = λ n p k g. goes-on x n p k g .1;
         }
 
-    pub step-way : (x : ℕ) → x ≤ reach tail s → Way x (reach tail s) (cutsOf asked (count x) s .records) (cutsOf asked (count x) s .last .tail)
+    pub step-way : (x : ℕ) → x ≤ reach tail s → Way x (reach tail s) (stepCuts asked (count x) s .records) (stepCuts asked (count x) s .last .tail)
     step-way x h =
         let p : Spot = begin (count x) (length (s .journal)) (s .scratch) in
         let e : x + 0 ≡ x = omega arith in
@@ -118,10 +118,10 @@ module _ (asked : Asked) (tail : ℕ) (tl : tail < 2 ^ 64) (z : Step) (eight : z
         (ap count (sym e), omega arith, stays .scratch-length) in
         let l = a .last in
         record {
-          bytes = x + cutsOf asked (count x) s .last .bytes;
+          bytes = x + stepCuts asked (count x) s .last .bytes;
           end-is = l .0;
           reached = l .1;
-          counted = omega (arith, a .sum, total-low asked (z .ring) (z .head) (length (z .scratch)) (cutsOf asked (count x) s .records) (a .each));
+          counted = omega (arith, a .sum, total-low asked (z .ring) (z .head) (length (z .scratch)) (stepCuts asked (count x) s .records) (a .each));
           tails = a .tails;
           links = a .each;
         }
@@ -141,11 +141,11 @@ module _ (asked : Asked) (tail : ℕ) (tl : tail < 2 ^ 64) (z : Step) (eight : z
         let reached = a .way .reached in
         let v = step-way s stays before y (omega arith) in
         let e : count y ≡ g .tail = sym (a .way .end-is) in
-        let w : Way y (reach tail s) (cutsOf asked (g .tail) s .records) (cutsOf asked (g .tail) s .last .tail) =
-        subst (λ (t : ℕ). Way y (reach tail s) (cutsOf asked t s .records) (cutsOf asked t s .last .tail)) e v in
+        let w : Way y (reach tail s) (stepCuts asked (g .tail) s .records) (stepCuts asked (g .tail) s .last .tail) =
+        subst (λ (t : ℕ). Way y (reach tail s) (stepCuts asked t s .records) (stepCuts asked t s .last .tail)) e v in
         let d = drain-reads asked judge (g .tail) s in
         let cs : List Cut = a .records in
-        let ds : List Cut = cutsOf asked (g .tail) s .records in
+        let ds : List Cut = stepCuts asked (g .tail) s .records in
         let n : length (cs ++ ds) ≡ length cs + length ds = length-append cs ds in
         record {
           records = cs ++ ds;

@@ -127,7 +127,7 @@ abbrev pub attributesFor : List Event → ℕ → Attributes
 attributesFor es id = attributesOf (eventAt es (indexOf id (identifiers es)))
 
 -- the slot of an identifier
-pub record Filled (k : Known) (es : List Event) (id : ℕ) (s : List ℕ) : Type 0 where
+pub record SlotOf (k : Known) (es : List Event) (id : ℕ) (s : List ℕ) : Type 0 where
   pub whose : getD s 0 0 ≡ id
   pub stands : getD s 1 0 ≡ standing k es id
   pub index : getD s 1 0 ≡ 2 → (getD s 5 0 ≡ indexOf id (identifiers es)) × (indexOf id (identifiers es) < length es)
@@ -140,44 +140,44 @@ pub record Noted (k : Known) (es : List Event) (id : ℕ) (s : List ℕ) : Type 
   pub inside : indexOf id (identifiers es) < length es
 
 -- a slot that is not filled says nothing, or its index alone; any other is its identifier's
-pub record Slot (k : Known) (es : List Event) (s : List ℕ) : Type 0 where
-  pub filled : 1 < getD s 1 0 → Filled k es (getD s 0 0) s
+pub record SlotHolds (k : Known) (es : List Event) (s : List ℕ) : Type 0 where
+  pub filled : 1 < getD s 1 0 → SlotOf k es (getD s 0 0) s
   pub noted : getD s 1 0 ≡ 1 → Noted k es (getD s 0 0) s
 
 -- every slot of a drain is the slot of the identifier that it names
 pub record Memo (k : Known) (es : List Event) (m : List (List ℕ)) : Type 0 where
-  pub at : (i : ℕ) → i < length m → Slot k es (getD m i [])
+  pub at : (i : ℕ) → i < length m → SlotHolds k es (getD m i [])
 
 -- ---- the slots of a drain
 
 -- all are empty
 pub memo-first : (k : Known) (es : List Event) (n : ℕ) → Memo k es (replicate n (replicate 8 0))
-memo-first k es n = record { at = λ i h. subst (Slot k es) (sym (getD-replicate n i (replicate 8 0) [] (subst (λ (l : ℕ). i < l) (length-replicate n _) h))) none }
+memo-first k es n = record { at = λ i h. subst (SlotHolds k es) (sym (getD-replicate n i (replicate 8 0) [] (subst (λ (l : ℕ). i < l) (length-replicate n _) h))) none }
   where
-    none : Slot k es (replicate 8 0)
+    none : SlotHolds k es (replicate 8 0)
     none = record { filled = λ z. absurd (omega (arith, z)); noted = λ e. absurd (omega (arith, e)) }
 
 -- the slot at a place is another's
-pub memo-put : (k : Known) (es : List Event) (m : List (List ℕ)) (h : ℕ) (s : List ℕ) → Memo k es m → Slot k es s → Memo k es (set m h s)
+pub memo-put : (k : Known) (es : List Event) (m : List (List ℕ)) (h : ℕ) (s : List ℕ) → Memo k es m → SlotHolds k es s → Memo k es (set m h s)
 memo-put k es m h s w f = record { at = λ i l. by i (subst (λ (n : ℕ). i < n) (length-set m h s) l) (eqb i h) refl }
   where
-    by : (i : ℕ) → i < length m → (b : Bool) → eqb i h ≡ b → Slot k es (getD (set m h s) i [])
+    by : (i : ℕ) → i < length m → (b : Bool) → eqb i h ≡ b → SlotHolds k es (getD (set m h s) i [])
     by i l true e =
         let q = eqb-true i h e in
-        subst (λ (j : ℕ). Slot k es (getD (set m h s) j [])) (sym q) (subst (Slot k es) (sym (getD-set-same m h s [] (subst (λ (j : ℕ). j < length m) q l))) f)
-    by i l false e = subst (Slot k es) (sym (getD-set-other m h i s [] (eqb-false i h e))) (w .at i l)
+        subst (λ (j : ℕ). SlotHolds k es (getD (set m h s) j [])) (sym q) (subst (SlotHolds k es) (sym (getD-set-same m h s [] (subst (λ (j : ℕ). j < length m) q l))) f)
+    by i l false e = subst (SlotHolds k es) (sym (getD-set-other m h i s [] (eqb-false i h e))) (w .at i l)
 
 -- a slot of this identifier, which is filled
 pub memo-held : (k : Known) (es : List Event) (m : List (List ℕ)) (h id : ℕ) → Memo k es m → h < length m → getD (getD m h []) 0 0 ≡ id
-    → 1 < getD (getD m h []) 1 0 → Filled k es id (getD m h [])
-memo-held k es m h id w l e z = subst (λ (n : ℕ). Filled k es n (getD m h [])) e (w .at h l .filled z)
+    → 1 < getD (getD m h []) 1 0 → SlotOf k es id (getD m h [])
+memo-held k es m h id w l e z = subst (λ (n : ℕ). SlotOf k es n (getD m h [])) e (w .at h l .filled z)
 
 -- a slot of this identifier, in which its index is noted
-pub slot-noted : (k : Known) (es : List Event) (id : ℕ) (s : List ℕ) → Slot k es s → getD s 0 0 ≡ id → getD s 1 0 ≡ 1 → Noted k es id s
+pub slot-noted : (k : Known) (es : List Event) (id : ℕ) (s : List ℕ) → SlotHolds k es s → getD s 0 0 ≡ id → getD s 1 0 ≡ 1 → Noted k es id s
 slot-noted k es id s w e f = subst (λ (n : ℕ). Noted k es n s) e (w .noted f)
 
 -- what is filled says what its identifier's records are
-filled-some : (k : Known) (es : List Event) (id : ℕ) (s : List ℕ) → Filled k es id s → getD s 1 0 ≡ 1 → ⊥
+filled-some : (k : Known) (es : List Event) (id : ℕ) (s : List ℕ) → SlotOf k es id s → getD s 1 0 ≡ 1 → ⊥
 unfolding standing
 filled-some k es id s f e = by (ltb 16 (k .samples)) (isIn id (identifiers es)) (sym (f .stands) ∙ e)
   where
@@ -186,8 +186,8 @@ filled-some k es id s f e = by (ltb 16 (k .samples)) (isIn id (identifiers es)) 
     by true false q = omega (arith, q)
     by false c q = omega (arith, q)
 
-filled-slot : (k : Known) (es : List Event) (id : ℕ) (s : List ℕ) → Filled k es id s → Slot k es s
-filled-slot k es id s f = record { filled = λ z. subst (λ (n : ℕ). Filled k es n s) (sym (f .whose)) f; noted = λ e. absurd (filled-some k es id s f e) }
+filled-slot : (k : Known) (es : List Event) (id : ℕ) (s : List ℕ) → SlotOf k es id s → SlotHolds k es s
+filled-slot k es id s f = record { filled = λ z. subst (λ (n : ℕ). SlotOf k es n s) (sym (f .whose)) f; noted = λ e. absurd (filled-some k es id s f e) }
 
 -- the index of an event of a table whose identifiers are distinct, noted at a place
 pub memo-entered : (k : Known) (rows : List (List ℕ)) (m : List (List ℕ)) (h i : ℕ) (s : List ℕ) → Memo k (eventsOf rows) m → 16 < k .samples
@@ -206,15 +206,15 @@ memo-entered k rows m h i s w b d l e f g =
         ap (λ (n : ℕ). indexOf n (identifiers (eventsOf rows))) (sym same)
         ∙ index-unique (identifiers (eventsOf rows)) i d (omega (arith, identifiers-length (eventsOf rows), rows-length rows, l))
 
-pub memo-filled : (k : Known) (es : List Event) (m : List (List ℕ)) (h id : ℕ) (s : List ℕ) → Memo k es m → h < length m → Filled k es id s
-    → Memo k es (set m h s) × Filled k es id (getD (set m h s) h [])
-memo-filled k es m h id s w l f = (memo-put k es m h s w (filled-slot k es id s f), subst (Filled k es id) (sym (getD-set-same m h s [] l)) f)
+pub memo-filled : (k : Known) (es : List Event) (m : List (List ℕ)) (h id : ℕ) (s : List ℕ) → Memo k es m → h < length m → SlotOf k es id s
+    → Memo k es (set m h s) × SlotOf k es id (getD (set m h s) h [])
+memo-filled k es m h id s w l f = (memo-put k es m h s w (filled-slot k es id s f), subst (SlotOf k es id) (sym (getD-set-same m h s [] l)) f)
 
 -- ---- a slot that is made
 
 module _ (k : Known) (es : List Event) (id : ℕ) where
   -- the edition does not know bit 16
-  pub filled-unknown : (s : List ℕ) → k .samples ≤ 16 → getD s 0 0 ≡ id → getD s 1 0 ≡ 21 → Filled k es id s
+  pub filled-unknown : (s : List ℕ) → k .samples ≤ 16 → getD s 0 0 ≡ id → getD s 1 0 ≡ 21 → SlotOf k es id s
   unfolding standing
   filled-unknown s h e f =
       record {
@@ -226,7 +226,7 @@ module _ (k : Known) (es : List Event) (id : ℕ) where
 
   module _ (h : 16 < k .samples) (i : ℕ) (ei : i ≡ indexOf id (identifiers es)) where
     -- it is not in the table
-    pub filled-absent : (s : List ℕ) → length es ≤ i → getD s 0 0 ≡ id → getD s 1 0 ≡ 26 → Filled k es id s
+    pub filled-absent : (s : List ℕ) → length es ≤ i → getD s 0 0 ≡ id → getD s 1 0 ≡ 26 → SlotOf k es id s
     unfolding standing
     filled-absent s l e f =
         let n : length (identifiers es) ≤ indexOf id (identifiers es) = omega (arith, identifiers-length es, ei, l) in
@@ -239,7 +239,7 @@ module _ (k : Known) (es : List Event) (id : ℕ) where
 
     -- it is
     pub filled-found : (s : List ℕ) → i < length es → getD s 0 0 ≡ id → getD s 1 0 ≡ 2 → getD s 5 0 ≡ i
-        → Planned k (attributesOf (eventAt es i)) s → Filled k es id s
+        → Planned k (attributesOf (eventAt es i)) s → SlotOf k es id s
     unfolding standing
     filled-found s l e f g p =
         let n : indexOf id (identifiers es) < length (identifiers es) = omega (arith, identifiers-length es, ei, l) in
@@ -279,7 +279,7 @@ module _ (k : Known) (es : List Event) (r : List ℕ) (from : 1 ≤ kindOf r) (t
   unfolding judgeEvents first
   short-judged h l = rw (typed, lt-ltb 16 (k .samples) h, lt-leb 16 (length r) l) refl
 
-  module _ (long : 16 ≤ length r) (s : List ℕ) (f : Filled k es (identifierOf r) s) where
+  module _ (long : 16 ≤ length r) (s : List ℕ) (f : SlotOf k es (identifierOf r) s) where
     -- what the slot says of its identifier, before its event is asked
     by-standing : judgeEvents k es r ≡ cond (ltb 16 (k .samples)) (cond (isIn (identifierOf r) (identifiers es)) (judge (layoutFor k es r) r) 26) 21
     unfolding judgeEvents first

@@ -7,7 +7,7 @@ ghost use mathlib.Core.Path.{_≡_};
 ghost use Prim.Native.Nat.{_<_};
 ghost use lib.ListN.{length};
 ghost use Rattle.meaning.specs.Events.{identifiers, eventsOf, indexOf};
-ghost use Rattle.slots.specs.Slots.{quarter, Four, Filled};
+ghost use Rattle.slots.specs.Slots.{quarter, Four, SlotOf};
 use meaning::Known;
 
 // The first number that 16, 32 and 48 bits do not hold.
@@ -30,7 +30,7 @@ pub fn planned(known: Known, rows: &[[u64; 7]], id: u64, i: usize) -> [u64; 8]
     requires { ⌜ 16 < known .samples ⌝ }
     requires { ⌜ i ≡ indexOf id (identifiers (eventsOf (now rows))) ⌝ }
     requires { ⌜ i < length (now rows) ⌝ }
-    ensures { λ r. ⌜ Filled known (eventsOf (now (rows .entry))) id r ⌝ }
+    ensures { λ r. ⌜ SlotOf known (eventsOf (now (rows .entry))) id r ⌝ }
 {
     let a = events::attributes_at(rows, i);
     let sums = sums::sums(a);

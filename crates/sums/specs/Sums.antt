@@ -16,9 +16,9 @@ use Rattle.meaning.specs.Bytes.{bit, ones}
 use Rattle.meaning.specs.Items.{span}
 use Rattle.meaning.specs.Schema.{sampleFirst, readValues, sampleLast, trailer}
 use Rattle.meaning.specs.Records.{roomShape, room}
-use Rattle.blocks.specs.Steady.{widthOf, total, two-fours}
+use Rattle.blocks.specs.Steady.{widthOf, total}
 use Rattle.exact.specs.Stretches.{groups, weights, late, early, after, groupFixed, firstSum, Sums}
-use Rattle.laws.specs.Counting.{bitsFrom, eights, eights-ones}
+use Rattle.laws.specs.Counting.{bitsFrom, eights, eights-ones, two-fours}
 
 -- eight bytes for each bit of a mask that x has
 abbrev pub sumOver : ℕ → ℕ → ℕ

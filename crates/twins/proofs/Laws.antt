@@ -8,14 +8,14 @@ use lib.ListN.{take}
 use Rattle.meaning.specs.declared.Attributes.{Attributes}
 use Rattle.record.specs.Into.{orDirty}
 use Rattle.same_parts.specs.Parts.{aroundRes, bodySame}
-use Rattle.twins.specs.Same.{trailBits, endOf, trailBefore, sameBut}
+use Rattle.twins.specs.Same.{trailBits, bodyEnd, trailBefore, sameBut}
 
 module _ (xs ys : List ℕ) (kind misc : ℕ) (a : Attributes) where
   abbrev body : Bool
-  body = bodySame (take (endOf xs kind a) xs) (take (endOf xs kind a) ys) kind misc (a .sample)
+  body = bodySame (take (bodyEnd xs kind a) xs) (take (bodyEnd xs kind a) ys) kind misc (a .sample)
 
   abbrev trail : Bool
-  trail = aroundRes xs ys (trailBits kind a) trailBefore (endOf xs kind a)
+  trail = aroundRes xs ys (trailBits kind a) trailBefore (bodyEnd xs kind a)
 
   pub but-body : body ≡ false → false ≡ sameBut xs ys kind misc a
   unfolding sameBut

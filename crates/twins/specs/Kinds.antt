@@ -20,10 +20,10 @@ use Rattle.meaning.specs.Schema.{item, always, selected, u16, u32, u64, sample,
 use Rattle.meaning.specs.Records.{origin}
 use Rattle.laws.specs.Bytes.{apart, and-true, le-or-lt}
 use Rattle.laws.specs.Again.{fine}
-use Rattle.laws.specs.Counting.{bitsFrom, eights, eights-ones}
+use Rattle.laws.specs.Counting.{bitsFrom, eights, eights-ones, two-fours}
 use Rattle.laws.specs.Shapes.{shape-in, shape-bad}
 use Rattle.blocks.specs.Seen.{walk-append}
-use Rattle.blocks.specs.Steady.{oneWidth, widthOf, steady, total, two-fours, steady-in}
+use Rattle.blocks.specs.Steady.{oneWidth, widthOf, steady, total, steady-in}
 use Rattle.blocks.specs.Blocks.{buildFront, protFlags, count-in, times-in, goes}
 use Rattle.twins.specs.Twins.{Twins}
 use Rattle.same_parts.specs.Parts.{sameSpan, sameButFour, aroundRes, nameSame, buildSame, textSame, nameAt, beforeRes, bodySame}

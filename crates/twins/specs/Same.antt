@@ -14,8 +14,8 @@ use Rattle.same_parts.specs.Parts.{aroundRes, bodySame}
 unfoldable pub trailBits : ℕ → Attributes → ℕ
 trailBits kind a = cond (a .all && not (eqb kind 9)) (a .sample) 0
 
-abbrev pub endOf : List ℕ → ℕ → Attributes → ℕ
-endOf xs kind a = length xs - room (trailer kind a)
+abbrev pub bodyEnd : List ℕ → ℕ → Attributes → ℕ
+bodyEnd xs kind a = length xs - room (trailer kind a)
 
 -- what stands before a trailer's res, but for the cpu: pid and tid, time, id, stream id (1, 2, 6, 9)
 abbrev pub trailBefore : ℕ
@@ -24,5 +24,5 @@ trailBefore = 582
 -- fields and trailer of two records with equal headers, and the flag of a name
 unfoldable pub sameBut : List ℕ → List ℕ → ℕ → ℕ → Attributes → Bool
 sameBut xs ys kind misc a =
-    bodySame (take (endOf xs kind a) xs) (take (endOf xs kind a) ys) kind misc (a .sample)
-    && (aroundRes xs ys (trailBits kind a) trailBefore (endOf xs kind a) && eqb (orDirty 0 a xs) (orDirty 0 a ys))
+    bodySame (take (bodyEnd xs kind a) xs) (take (bodyEnd xs kind a) ys) kind misc (a .sample)
+    && (aroundRes xs ys (trailBits kind a) trailBefore (bodyEnd xs kind a) && eqb (orDirty 0 a xs) (orDirty 0 a ys))

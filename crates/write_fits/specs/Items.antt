@@ -8,7 +8,7 @@ use native.Mathlib.Omega.{arith}
 use lib.ListN.{length, take, drop, getD}
 use lib.Dec.{leb, eqb, ltb}
 use lib.Seq.{getD-drop}
-use borrow.Author.Tests.{leb-true, le-leb, lt-leb, ltb-true, ltb-false, lt-ltb, le-ltb, eq-eqb, eqb-true, ne-eqb, not-true}
+use borrow.Author.Tests.{leb-true, le-leb, lt-leb, ltb-true, ltb-false, lt-ltb, le-ltb, eq-eqb, ne-eqb, not-true}
 use Rattle.meaning.specs.declared.Cursor.{Cursor}
 use Rattle.meaning.specs.declared.Item.{Item}
 use Rattle.meaning.specs.declared.Shape.{Shape}
@@ -22,7 +22,7 @@ use Rattle.writer_words.specs.Tellings.{givenSlot, reachedAfter}
 use Rattle.writer_forms.specs.declared.Form.{Form}
 use Rattle.writer_forms.specs.Forms.{shapeForm, form, blankForm, numberForm, listForm, nameForm, fitsForm, passesEnd, listBytes, formNext}
 use Rattle.writer_items.specs.Tries.{unfit, fitsItem, good, mostBytes}
-use Rattle.writer_items.specs.Fitting.{same-test, fits-is, next-is, passes-is}
+use Rattle.writer_items.specs.Fitting.{same-test, zero-test, fits-is, next-is, passes-is}
 use Rattle.writer_parts.specs.Parts.{tryItems, slotsFrom}
 use Rattle.writer_parts.specs.Turns.{slots-next}
 use Rattle.write_fits.specs.declared.Walked.{Walked}
@@ -308,12 +308,9 @@ word-after ws w = getD-drop w ws 1 0
 
 -- ---- not selected
 
-zero-test : (x : ℕ) → leb x 0 ≡ eqb x 0
-zero-test x = same-test (leb x 0) (eqb x 0) (λ e. eq-eqb x 0 (let q = leb-true x 0 e in omega (arith, q))) (λ e. le-leb x 0 (let q = eqb-true x 0 e in omega (arith, q)))
-
 module _ {on : Bool} {sh : Shape} {src ws : List ℕ} {w : ℕ} {c c′ : Walked} (bytesOnly : small src ≡ true) (words : Narrow ws) (m : c .at ≤ mostBytes) (o : on ≡ false) where
   pub off-number : {v : ℕ} → slotNone sh ws w ≡ slot v 0 0 → c′ ≡ cond (eqb v 0) c (refused c) → Tried (item on sh ∷ []) src ws w c c′
-  off-number {v} es e = tried-off bytesOnly words m o (e ∙ sym (rw (es, zero-test v) (go (eqb v 0))))
+  off-number {v} es e = tried-off bytesOnly words m o (e ∙ sym (rw (es, sym (zero-test v)) (go (eqb v 0))))
     where
       go : (b : Bool) → cond (b && true) c (refused c) ≡ cond b c (refused c)
       go true = refl

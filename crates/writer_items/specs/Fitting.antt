@@ -5,13 +5,11 @@ use Prim.Native.Nat.{ℕ, zero, suc, _+_, _-_, _*_, _%_, _^_, _<_, _≤_}
 use native.Mathlib.Nat.{add-zero, mul-one, eq-of-mul-eq-mul-right}
 use native.Mathlib.Omega.{arith}
 use mathlib.Core.Bool.{Bool, true, false, cond, _&&_, _||_, or-true, or-false}
-use mathlib.Core.List.{List, [], _∷_, _++_, append-nil}
-use lib.ListN.{length, take, drop, getD, length-append, length-drop, length-replicate}
+use mathlib.Core.List.{List, [], _++_, append-nil}
+use lib.ListN.{length, take, drop, length-append, length-drop, length-replicate}
 use lib.Seq.{length-take-le}
 use lib.Dec.{leb, eqb, ltb, leb·suc-suc, eqb·suc-zero}
-use mir.Val.{Fits}
-use mir.Syntax.{w8}
-use borrow.Author.Tests.{leb-true, le-leb, lt-ltb, ltb-false, eqb-true, eq-eqb}
+use borrow.Author.Tests.{leb-true, le-leb, ltb-false, eqb-true, eq-eqb}
 use Rattle.meaning.specs.declared.Cursor.{Cursor}
 use Rattle.meaning.specs.declared.Item.{Item}
 use Rattle.meaning.specs.declared.Shape.{Shape}
@@ -69,7 +67,7 @@ numbers : (k m x n : ℕ) → 256 ^ k ≡ suc m → number k (con x (zeros n)) �
 unfolding number
 numbers k m x n e = rw (e, leb·suc-suc x m, length-replicate {A = ℕ} n 0)
 
-zero-test : (x : ℕ) → eqb x 0 ≡ leb x 0
+pub zero-test : (x : ℕ) → eqb x 0 ≡ leb x 0
 zero-test x = same-test (eqb x 0) (leb x 0) (λ e. le-leb x 0 (let q = eqb-true x 0 e in omega (arith, q))) (λ e. eq-eqb x 0 (let q = leb-true x 0 e in omega (arith, q)))
 
 blanks : (x n : ℕ) → blank (con x (zeros n)) ≡ (leb x 0 && true) && ((eqb n 0 || false) && true)
@@ -341,9 +339,3 @@ unfolding passesEnd
 inside-source f src s o e =
     let g : ltb (length src) (s .place + s .count * f .unit) ≡ false = rw e at o in
     ltb-false (length src) (s .place + s .count * f .unit) g
-
--- the bytes of a slice are small
-pub small-of : (xs : List ℕ) → ((i : ℕ) → Fits w8 (getD xs i 0)) → small xs ≡ true
-unfolding small
-small-of [] h = refl
-small-of (x ∷ xs) h = true-and (ltb x 256) (small xs) (lt-ltb x 256 (h 0 .fits)) (small-of xs (λ i. h (suc i)))

@@ -5,12 +5,12 @@ use Prim.Native.Nat.{ℕ, _-_, _≤_}
 use native.Mathlib.Omega.{arith}
 use lib.ListN.{length}
 use Rattle.marks.specs.Marks.{markCount}
-use Rattle.marks.specs.Bases.{Filled, fill-none, fill-more, fill-shorter}
+use Rattle.marks.specs.Bases.{FilledRange, fill-none, fill-more, fill-shorter}
 use Rattle.all_marks.proofs.filled.Statement.{statement}
 use Rattle.all_marks.proofs.filled.Tie as tie
 
 abbrev Inv-loop : tie.InvT-loop
-Inv-loop from to v q₀ k₀ q k = (length q₀ ≡ markCount) × (from ≤ k) × Filled q₀ from k v q × ((k ≤ to) ⊎ (k ≡ from))
+Inv-loop from to v q₀ k₀ q k = (length q₀ ≡ markCount) × (from ≤ k) × FilledRange q₀ from k v q × ((k ≤ to) ⊎ (k ≡ from))
 
 abbrev μ-loop : tie.MeasureT-loop
 μ-loop from to v q₀ k₀ q k = to - k
@@ -43,9 +43,9 @@ returns c =
     let a = c .before .before .args in
     let l = c .before .loop in
     ⊎-elim
-    (λ (h : l .k ≤ a .to). let e : l .k ≡ a .to = omega (arith, h, c .loop-test .left) in subst (λ (n : ℕ). Filled (a .p) (a .from) n (a .v) (l .q)) e (l .inv .2))
+    (λ (h : l .k ≤ a .to). let e : l .k ≡ a .to = omega (arith, h, c .loop-test .left) in subst (λ (n : ℕ). FilledRange (a .p) (a .from) n (a .v) (l .q)) e (l .inv .2))
     (λ (h : l .k ≡ a .from).
-    fill-shorter (a .p) (a .from) (a .to) (a .v) (l .q) (omega (arith, h, c .loop-test .left)) (subst (λ (n : ℕ). Filled (a .p) (a .from) n (a .v) (l .q)) h (l .inv .2)))
+    fill-shorter (a .p) (a .from) (a .to) (a .v) (l .q) (omega (arith, h, c .loop-test .left)) (subst (λ (n : ℕ). FilledRange (a .p) (a .from) n (a .v) (l .q)) h (l .inv .2)))
     (l .inv .3)
 
 pub filled-spec : {M : Type 1} → statement M

@@ -1,18 +1,18 @@
 -- The list of bases, with 20 above the edition's types; and 21 below where the trailer is not known.
 use mathlib.Core.Path.{_≡_, sym, ap, _∙_, subst}
 use mathlib.Core.List.{List}
-use Prim.Native.Nat.{ℕ, _+_, _-_}
+use Prim.Native.Nat.{ℕ, _+_}
 use native.Mathlib.Omega.{arith}
 use lib.ListN.{length}
 use borrow.Author.Needs.{needs}
 use Rattle.meaning.specs.Editions.{unreadable}
-use Rattle.marks.specs.Bases.{basesWith, bases-long, Filled, types-marked, types-refused}
+use Rattle.marks.specs.Bases.{basesWith, bases-long, FilledRange, types-marked, types-refused}
 use Rattle.marks.specs.Marks.{lastType, noType, markCount, unreadable-most}
 use Rattle.all_marks.proofs.type_marks.Statement.{statement}
 use Rattle.all_marks.proofs.type_marks.Tie as tie
 
-made : (c : tie.After-filled) → Filled (basesWith (c .before .before .args .trail)) (c .before .before .args .known .kinds + 1) (lastType + 1) noType (c .filled .result)
-made c = subst (λ (p : List ℕ). Filled p (c .before .before .args .known .kinds + 1) (lastType + 1) noType (c .filled .result)) (c .before .bases .ensures) (c .filled .ensures)
+made : (c : tie.After-filled) → FilledRange (basesWith (c .before .before .args .trail)) (c .before .before .args .known .kinds + 1) (lastType + 1) noType (c .filled .result)
+made c = subst (λ (p : List ℕ). FilledRange p (c .before .before .args .known .kinds + 1) (lastType + 1) noType (c .filled .result)) (c .before .bases .ensures) (c .filled .ensures)
 
 long : (c : tie.After-filled) → length (c .filled .result) ≡ markCount
 long c = made c .long ∙ bases-long (c .before .before .args .trail)

@@ -13,7 +13,7 @@ use Rattle.laws.specs.Lookup.{rows-length}
 use Rattle.blocks.specs.Steady.{sizes-same}
 use Rattle.sums.specs.Sums.{sumsOf}
 use Rattle.marks.specs.Marks.{Wanted, Marked, size-judged}
-use Rattle.slots.specs.Slots.{Filled, attributesFor}
+use Rattle.slots.specs.Slots.{SlotOf, attributesFor}
 use Rattle.event_plan.proofs.found.Statement.{statement}
 use Rattle.event_plan.proofs.found.Tie as tie
 
@@ -22,7 +22,7 @@ module _ (s : tie.Start) where
   its = attributesFor (eventsOf (now (s .args .rows))) (s .args .id)
 
   -- the slot, and that its event is in the table
-  slot : Filled (s .args .known) (eventsOf (now (s .args .rows))) (s .args .id) (now (s .args .slot))
+  slot : SlotOf (s .args .known) (eventsOf (now (s .args .rows))) (s .args .id) (now (s .args .slot))
   slot = s .pre .1 .1 .1 .1 .1 .1 .1 .0
 
   is-there : getD (now (s .args .slot)) 1 0 ≡ 2

@@ -8,7 +8,7 @@ use denote.Ref.{now}
 use borrow.Author.Needs.{needs}
 use Rattle.meaning.specs.Records.{kindOf, layout, judge}
 use Rattle.meaning.specs.Events.{eventsOf, identifierOf}
-use Rattle.slots.specs.Slots.{Filled, attributesFor, standing-small, slot-refused, slot-judged}
+use Rattle.slots.specs.Slots.{SlotOf, attributesFor, standing-small, slot-refused, slot-judged}
 use Rattle.event_plan.proofs.slot_answer.Statement.{statement}
 use Rattle.event_plan.proofs.slot_answer.Tie as tie
 
@@ -22,11 +22,11 @@ module _ (s : tie.Start) where
   its : s .args .id ≡ identifierOf (now (s .args .r))
   its = s .pre .1 .1 .1 .1 .1 .1 .1 .1 .0
 
-  held : Filled (s .args .known) (eventsOf (now (s .args .rows))) (s .args .id) (getD (now (s .args .memo)) (s .args .h) [])
+  held : SlotOf (s .args .known) (eventsOf (now (s .args .rows))) (s .args .id) (getD (now (s .args .memo)) (s .args .h) [])
   held = s .pre .1 .1 .1 .1 .1 .1 .1 .1 .1
 
-  slot : Filled (s .args .known) (eventsOf (now (s .args .rows))) (identifierOf (now (s .args .r))) (getD (now (s .args .memo)) (s .args .h) [])
-  slot = subst (λ (n : ℕ). Filled (s .args .known) (eventsOf (now (s .args .rows))) n (getD (now (s .args .memo)) (s .args .h) [])) its held
+  slot : SlotOf (s .args .known) (eventsOf (now (s .args .rows))) (identifierOf (now (s .args .r))) (getD (now (s .args .memo)) (s .args .h) [])
+  slot = subst (λ (n : ℕ). SlotOf (s .args .known) (eventsOf (now (s .args .rows))) n (getD (now (s .args .memo)) (s .args .h) [])) its held
 
 cast-result : tie.Need-cast-result
 cast-result c =

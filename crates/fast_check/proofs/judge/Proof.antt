@@ -7,7 +7,7 @@ use lib.ListN.{length}
 use denote.Ref.{now}
 use borrow.Author.Needs.{needs}
 use borrow.Author.Tests.{not-false, eqb-true, ltb-false}
-use Rattle.exact.specs.Stretches.{or-no}
+use Rattle.laws.specs.Rows.{or-false}
 use Rattle.fast_check.proofs.judge.Statement.{statement}
 use Rattle.fast_check.proofs.judge.Tie as tie
 
@@ -15,7 +15,7 @@ planned-requires : tie.Need-planned-requires
 planned-requires c κs =
     let s = c .before .before in
     let n = length (now (s .args .r)) in
-    let o = or-no (not (eqb (n % 8) 0)) (ltb 65535 n) (c .if1 .left) in
+    let o = or-false (not (eqb (n % 8) 0)) (ltb 65535 n) (c .if1 .left) in
     let l : n ≤ 65535 = ltb-false 65535 n (o .1) in
     (s .pre, (omega (arith, l), eqb-true (n % 8) 0 (not-false _ (o .0))))
 

@@ -10,7 +10,7 @@ use Rattle.meaning.specs.Refusals.{first}
 use Rattle.meaning.specs.Editions.{editions, known}
 use Rattle.meaning.specs.Ring.{askingWith, callRows, lengthAllowed}
 use Rattle.meaning.specs.Events.{eventsOf, askedEvents, judgeEvents}
-use Rattle.replay.specs.Replay.{Played, half, told, roomsOf}
+use Rattle.replay.specs.Replay.{Played, half, replayTold, roomsOf}
 use Rattle.replay.specs.Playing.{whole, call-refused, call-played, call-passes}
 use Rattle.replaying.proofs.replay.Statement.{statement}
 use Rattle.replaying.proofs.replay.Tie as tie
@@ -55,7 +55,7 @@ returns-2 c =
     ∙ call-played (askedEvents (a .limit) editions (a .e) (eventsOf (now (a .rows)))) judge (now (a .trace)) (a .count)
     (now (a .rooms)) (now (a .journal)) (s .fits .count .fits) (sym (rows-are (c .before .before .before .before .before .before .before .before)) ∙ c .before .before .before .before .before .before .before .if1 .left) in
     let d = c .before .before .before .before .play .ensures in
-    (d .0 ∙ ap told z, (d .1 .0 ∙ ap roomsOf z, d .1 .1 ∙ ap (λ (p : Played). p .now .journal) z))
+    (d .0 ∙ ap replayTold z, (d .1 .0 ∙ ap roomsOf z, d .1 .1 ∙ ap (λ (p : Played). p .now .journal) z))
 
 pub replay-spec : {M : Type 1} → statement M
 replay-spec =

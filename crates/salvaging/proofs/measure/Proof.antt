@@ -1,4 +1,4 @@
--- Each turn is a step: what is still to come is the whole (`Stands`); at the end nothing is left, so what was counted is all.
+-- Each turn is a step: what is still to come is the whole (`SalvageStands`); at the end nothing is left, so what was counted is all.
 use borrow.Author.Needs.{needs}
 use mathlib.Core.Path.{_≡_, sym, ap, _∙_, subst}
 use mathlib.Core.List.{List}
@@ -11,13 +11,13 @@ use Rattle.meaning.specs.Editions.{editions}
 use Rattle.meaning.specs.Events.{eventsOf}
 use Rattle.salvage.specs.declared.Walk.{Walk}
 use Rattle.salvage.specs.Salvage.{tableJudge}
-use Rattle.salvage.specs.Walks.{Stands}
+use Rattle.salvage.specs.Walks.{SalvageStands}
 use Rattle.salvage.specs.Turns.{sizeAt, Sized, sized, stands-start, stands-again, stands-end, most}
 use Rattle.salvaging.proofs.measure.Statement.{statement}
 use Rattle.salvaging.proofs.measure.Tie as tie
 
 abbrev Inv-loop : tie.InvT-loop
-Inv-loop xs e rows w₀ w = Stands (tableJudge editions e (eventsOf rows)) xs w
+Inv-loop xs e rows w₀ w = SalvageStands (tableJudge editions e (eventsOf rows)) xs w
 
 abbrev μ-loop : tie.MeasureT-loop
 μ-loop xs e rows w₀ w = length xs - w .at
@@ -59,7 +59,7 @@ loop-less c =
 
 loop-again : tie.Need-loop-again Inv-loop μ-loop
 loop-again c =
-    subst (Stands (J (c .before .before .before .before .before .before)) (now (c .before .before .before .before .before .before .args .xs))) (sym (c .advance .ensures))
+    subst (SalvageStands (J (c .before .before .before .before .before .before)) (now (c .before .before .before .before .before .before .args .xs))) (sym (c .advance .ensures))
     (stands-again (J (c .before .before .before .before .before .before)) (now (c .before .before .before .before .before .before .args .xs)) (c .before .before .before .before .loop .w) (c .before .before .before .before .loop .inv) (c .before .before .before .if1 .left) (c .before .kept-size .result) (size-is (c .before)))
 
 pub measure-spec : {M : Type 1} → statement M

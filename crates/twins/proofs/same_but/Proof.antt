@@ -8,7 +8,7 @@ use lib.Dec.{eqb}
 use denote.Ref.{now}
 use borrow.Author.Tests.{not-true, not-false}
 use Rattle.same_parts.specs.Parts.{aroundRes, bodySame}
-use Rattle.twins.specs.Same.{trailBits, endOf, trailBefore}
+use Rattle.twins.specs.Same.{trailBits, bodyEnd, trailBefore}
 use Rattle.twins.specs.Whole.{room-there, body-accepted}
 use Rattle.twins.proofs.Laws.{but-body, but-trail, but-flags}
 use borrow.Author.Needs.{needs}
@@ -39,7 +39,7 @@ body-same-requires c κs =
     omega (arith, t, l)
 
 -- what the body's test says
-body : (c : tie.After-body-same) → c .body-same .result ≡ bodySame (take (endOf (now (c .before .before .before .before .before .before .args .x)) (c .before .before .before .before .before .before .args .kind) (c .before .before .before .before .before .before .args .a)) (now (c .before .before .before .before .before .before .args .x))) (take (endOf (now (c .before .before .before .before .before .before .args .x)) (c .before .before .before .before .before .before .args .kind) (c .before .before .before .before .before .before .args .a)) (now (c .before .before .before .before .before .before .args .y))) (c .before .before .before .before .before .before .args .kind) (c .before .before .before .before .before .before .args .misc) (c .before .before .before .before .before .before .args .a .sample)
+body : (c : tie.After-body-same) → c .body-same .result ≡ bodySame (take (bodyEnd (now (c .before .before .before .before .before .before .args .x)) (c .before .before .before .before .before .before .args .kind) (c .before .before .before .before .before .before .args .a)) (now (c .before .before .before .before .before .before .args .x))) (take (bodyEnd (now (c .before .before .before .before .before .before .args .x)) (c .before .before .before .before .before .before .args .kind) (c .before .before .before .before .before .before .args .a)) (now (c .before .before .before .before .before .before .args .y))) (c .before .before .before .before .before .before .args .kind) (c .before .before .before .before .before .before .args .misc) (c .before .before .before .before .before .before .args .a .sample)
 body c =
     let a = c .before .before .before .before .before .before .args in
     c .body-same .ensures ∙ ap (λ (n : ℕ). bodySame (take (length (now (a .x)) - n) (now (a .x))) (take (length (now (a .x)) - n) (now (a .y))) (a .kind) (a .misc) (a .a .sample)) (c .before .before .before .trailer-room .ensures .0)
@@ -48,7 +48,7 @@ returns : tie.Need-returns
 returns c = let a = c .before .before .before .before .before .before .before .args in but-body (now (a .x)) (now (a .y)) (a .kind) (a .misc) (a .a) (sym (body (c .before)) ∙ not-true _ (c .if1 .taken))
 
 -- and the trailer's
-trail : (c : tie.After-around-res) → c .around-res .result ≡ aroundRes (now (c .before .before .before .before .before .before .before .before .before .args .x)) (now (c .before .before .before .before .before .before .before .before .before .args .y)) (trailBits (c .before .before .before .before .before .before .before .before .before .args .kind) (c .before .before .before .before .before .before .before .before .before .args .a)) trailBefore (endOf (now (c .before .before .before .before .before .before .before .before .before .args .x)) (c .before .before .before .before .before .before .before .before .before .args .kind) (c .before .before .before .before .before .before .before .before .before .args .a))
+trail : (c : tie.After-around-res) → c .around-res .result ≡ aroundRes (now (c .before .before .before .before .before .before .before .before .before .args .x)) (now (c .before .before .before .before .before .before .before .before .before .args .y)) (trailBits (c .before .before .before .before .before .before .before .before .before .args .kind) (c .before .before .before .before .before .before .before .before .before .args .a)) trailBefore (bodyEnd (now (c .before .before .before .before .before .before .before .before .before .args .x)) (c .before .before .before .before .before .before .before .before .before .args .kind) (c .before .before .before .before .before .before .before .before .before .args .a))
 trail c =
     let a = c .before .before .before .before .before .before .before .before .before .args in
     c .around-res .ensures ∙ ap₂ (λ (x n : ℕ). aroundRes (now (a .x)) (now (a .y)) x trailBefore (length (now (a .x)) - n)) (c .before .trailer-bits .ensures) (c .before .before .before .before .before .before .trailer-room .ensures .0)

@@ -5,7 +5,7 @@ use Prim.Native.Nat.{ℕ}
 use borrow.Author.Tests.{not-true, not-false}
 use Rattle.meaning.specs.Values.{slot, slotTold, lastTold, beforeTold}
 use Rattle.writer_forms.specs.Forms.{shapeForm}
-use Rattle.writer_items.specs.Fitting.{small-of}
+use Rattle.laws.specs.Numbers.{small-of}
 use Rattle.write_fits.specs.Items.{by-list, off-counted, word-at, word-after}
 use borrow.Author.Needs.{needs}
 use Rattle.write_fits.proofs.bytes.Statement.{statement}

@@ -9,7 +9,7 @@ use borrow.Author.Tests.{not-true, not-false}
 use Rattle.meaning.specs.Bytes.{nonzero}
 use Rattle.meaning.specs.Values.{slot, slotTold, lastTold, beforeTold}
 use Rattle.writer_forms.specs.Forms.{shapeForm, nameForm}
-use Rattle.writer_items.specs.Fitting.{small-of}
+use Rattle.laws.specs.Numbers.{small-of}
 use Rattle.write_fits.specs.Steps.{refused, stateOf}
 use Rattle.write_fits.specs.Items.{stay, by-name, off-counted, word-at, word-after, list-within, name-none, name-far, name-some}
 use borrow.Author.Needs.{needs}

@@ -10,7 +10,7 @@ use Rattle.meaning.specs.Bytes.{spell}
 use Rattle.meaning.specs.Values.{slot, slotTold, lastTold, beforeTold}
 use Rattle.laws.specs.Put.{put-nil}
 use Rattle.writer_forms.specs.Forms.{shapeForm, numberForm}
-use Rattle.writer_items.specs.Fitting.{small-of}
+use Rattle.laws.specs.Numbers.{small-of}
 use Rattle.write_fits.specs.Steps.{walked}
 use Rattle.write_fits.specs.Items.{word-at}
 use Rattle.write_puts.proofs.Shapes.{off, number-room, number-most, number-put}

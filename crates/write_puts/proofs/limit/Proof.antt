@@ -7,7 +7,7 @@ use lib.ListN.{getD}
 use borrow.Author.Tests.{not-true, not-false}
 use Rattle.meaning.specs.Values.{slot, slotTold, lastTold, beforeTold}
 use Rattle.writer_forms.specs.Forms.{shapeForm, numberForm}
-use Rattle.writer_items.specs.Fitting.{small-of}
+use Rattle.laws.specs.Numbers.{small-of}
 use Rattle.write_fits.specs.declared.Walked.{Walked}
 use Rattle.write_fits.specs.Steps.{walked}
 use Rattle.write_fits.specs.Items.{word-at}

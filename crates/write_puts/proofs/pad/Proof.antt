@@ -3,7 +3,7 @@ use mathlib.Core.Path.{refl}
 use borrow.Author.Tests.{not-true, not-false}
 use Rattle.meaning.specs.Values.{slotTold, lastTold, beforeTold}
 use Rattle.writer_forms.specs.Forms.{shapeForm}
-use Rattle.writer_items.specs.Fitting.{small-of}
+use Rattle.laws.specs.Numbers.{small-of}
 use Rattle.write_puts.proofs.Shapes.{off, blank-most, blank-put}
 use borrow.Author.Needs.{needs}
 use Rattle.write_puts.proofs.pad.Statement.{statement}

@@ -9,7 +9,7 @@ use Rattle.writer_forms.specs.declared.Form.{Form}
 use Rattle.writer_forms.specs.Forms.{fitsForm, formNext}
 use Rattle.writer_words.specs.Tellings.{slotOf}
 use Rattle.writer_items.specs.Tries.{unfit, mostBytes}
-use Rattle.writer_items.specs.Fitting.{small-of}
+use Rattle.laws.specs.Numbers.{small-of}
 use Rattle.writer_items.proofs.Tried.{try-beyond, try-misfit, try-fit, beyond-by, width-by, inside-by, name-by}
 use borrow.Author.Needs.{needs}
 use Rattle.writer_items.proofs.try_item.Statement.{statement}

@@ -4,7 +4,8 @@ use mathlib.Core.Path.{refl}
 use Prim.Native.Nat.{_-_}
 use native.Mathlib.Omega.{arith}
 use Rattle.writer_words.specs.Tellings.{slotOf}
-use Rattle.writer_items.specs.Fitting.{small-of, inside-source}
+use Rattle.laws.specs.Numbers.{small-of}
+use Rattle.writer_items.specs.Fitting.{inside-source}
 use Rattle.writer_parts.proofs.Putting.{Putting, Ready, ready, put-on, put-end}
 use borrow.Author.Needs.{needs}
 use Rattle.writer_parts.proofs.put_all.Statement.{statement}
