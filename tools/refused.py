@@ -4,10 +4,15 @@
   tools/refused.py          compares; says what is missing, and ends with 1
   tools/refused.py labels   prints crate/label of every wrong reader, and needs no log
 
-An edit may hold several wrong readers of one crate, each in another function, or each in another file of specs/, and each with a line '# LABEL: why'
-before it (several_1.edit and so on): a crate is then proved once for all of them. An edit of one is named after it. `rt` asks that the crate is not
-proved. Here each function that an edit changes must have an error of its own in its proof, or no proof; not just one that follows from another
-function's, nor one that only says that the proof does not fit the changed code; and so must each file of specs/ that such an edit changes.
+An edit may hold several wrong readers of one crate, each with a line '# LABEL: why' before it (several_1.edit and so on): the crate is then proved once
+for all of them. An edit of one is named after it. `rt` asks that the crate is not proved. Here each wrong reader must be refused by itself:
+
+- where no other of its edit changes the same function, or the same file of specs/: at a fact of that function's proof, or there is no proof of it; of a
+  file of specs/ at something that stands in it;
+- else at the fact that its line 'at: FACT' names, which no other of the edit names ('at: FUNCTION/FACT' where what is changed stands outside the
+  functions). Tried alone, each was refused at its fact and at no other's.
+
+An error that only follows from another one, or only says that the proof does not fit the changed code, counts for nothing.
 """
 import glob
 import os
@@ -27,20 +32,28 @@ def function_at(text, place):
 
 
 def wrong_readers(path):
-    """(label, file, old) for each replacement of an edit."""
-    label, file, old, several = os.path.basename(path)[: -len('.edit')], '', '', False
-    if re.match(r'several_\d+$', label):
-        several = True
+    """The wrong readers of an edit by label: the fact that is named, and each file with the text that is replaced there."""
+    label, file, found = os.path.basename(path)[: -len('.edit')], '', {}
+    several = re.match(r'several_\d+$', label)
     for line in open(path, encoding='utf-8').read().split('\n'):
         named = re.match(r'# (\w+): ', line)
         if several and named:
             label = named.group(1)
+        if line.startswith('at: '):
+            found.setdefault(label, ['', []])[0] = line[len('at: '):]
         elif line.startswith('file: '):
             file = line[len('file: '):]
         elif line.startswith('old: '):
-            old = line[len('old: '):]
-        elif line.startswith('new:'):
-            yield label, file, old
+            found.setdefault(label, ['', []])[1].append((file, line[len('old: '):]))
+    return found
+
+
+def place_of(crate, file, old):
+    """The function that a replacement changes, or the file of specs/; None for what stands outside all functions."""
+    if file.startswith('specs/'):
+        return file
+    text = open('crates/%s/%s' % (crate, file), encoding='utf-8').read()
+    return function_at(text, text.index(old))
 
 
 def at_a_fact(said):
@@ -48,18 +61,52 @@ def at_a_fact(said):
     return not any(words in said for words in ('was not admitted', 'has no field', 'that can be named from here'))
 
 
-def refused_in(log, crate, function):
-    """An error in this function's own proof, or no proof of it."""
-    if re.search(r'(?m)^fn ' + crate + r'::(?:\w+::)?' + function + r': no proof', log):
-        return True
-    own = re.compile(r'/proofs/(?:[\w.]+/)*' + function + r'/\S*: error: (.*)')
-    return any(at_a_fact(said) for said in own.findall(log))
+def errors(log, place):
+    """What is refused at a fact in a function's own proof, or in a file of specs/."""
+    where = re.escape(place) + r':\S*' if place.startswith('specs/') else r'proofs/(?:[\w.]+/)*' + place + r'/\S*'
+    return [said for said in re.findall(r'/' + where + r': error: (.*)', log) if at_a_fact(said)]
 
 
-def errors_in(log, file):
-    """An error in this file that does not just follow from another one."""
-    own = re.compile(r'/' + re.escape(file) + r':\S*: error: (.*)')
-    return any(at_a_fact(said) for said in own.findall(log))
+def refused_at(log, places, fact):
+    """The fact that an edit names is refused: in the proof of the function that is changed, or that is named; or in any file of specs/."""
+    if '/' in fact:
+        function, fact = fact.rsplit('/', 1)
+        places = [function]
+    files = set(re.findall(r'specs/[\w/]+\.antt', log)) if any(place.startswith('specs/') for place in places) else set()
+    return any(said.startswith('`%s`: ' % fact) for place in files.union(places) for said in errors(log, place))
+
+
+def refused(log, crate, name, place):
+    if place.startswith('specs/'):
+        return not name.startswith('several_') or bool(errors(log, place))
+    return bool(errors(log, place) or re.search(r'(?m)^fn ' + crate + r'::(?:\w+::)?' + place + r': no proof', log))
+
+
+def shared(readers):
+    """Labels of an edit that change one place without facts of their own."""
+    for place in {place for _, places in readers.values() for place in places}.union({'outside'}):
+        facts = {label: fact for label, (fact, places) in readers.items() if place in places or not places}
+        if len(facts) > 1 and (not all(facts.values()) or len(set(facts.values())) < len(facts)):
+            yield ', '.join(sorted(facts))
+
+
+def faults(edit):
+    """What is wrong with an edit, as its log tells it; and how many wrong readers it has."""
+    crate, name = edit.split('/')[1], os.path.basename(edit)[: -len('.edit')]
+    try:
+        log = open('target/must-fail/%s/%s/.log' % (crate, name), encoding='utf-8').read()
+    except OSError:
+        return ['no log of %s/%s: rt ci writes it' % (crate, name)], 0
+    readers = {}
+    for label, (fact, changes) in wrong_readers(edit).items():
+        readers[label] = fact, [place for place in (place_of(crate, file, old) for file, old in changes) if place]
+    bad = ['%s/%s: %s change one place, and not each names a fact of its own' % (crate, name, labels) for labels in shared(readers)]
+    for label, (fact, places) in readers.items():
+        if fact and not refused_at(log, places, fact):
+            bad.append('%s/%s: `%s` is not refused' % (crate, label, fact))
+        if not fact:
+            bad += ['%s/%s: nothing in `%s` is refused' % (crate, label, place) for place in places if not refused(log, crate, name, place)]
+    return bad, len(readers)
 
 
 def main():
@@ -67,32 +114,17 @@ def main():
     if not edits:
         sys.exit('refused: there is no must-fail edit')
     if sys.argv[1:] == ['labels']:
-        print('\n'.join(sorted({'%s/%s' % (e.split('/')[1], label) for e in edits for label, _, _ in wrong_readers(e)})))
+        print('\n'.join(sorted({'%s/%s' % (e.split('/')[1], label) for e in edits for label in wrong_readers(e)})))
         return
     if sys.argv[1:]:
         sys.exit('refused: no argument, or: labels')
-    bad, seen = 0, 0
+    bad, seen = [], 0
     for edit in edits:
-        crate, name = edit.split('/')[1], os.path.basename(edit)[: -len('.edit')]
-        try:
-            log = open('target/must-fail/%s/%s/.log' % (crate, name), encoding='utf-8').read()
-        except OSError:
-            print('refused: no log of %s/%s: rt ci writes it' % (crate, name))
-            bad += 1
-            continue
-        for label, file, old in wrong_readers(edit):
-            text = open('crates/%s/%s' % (crate, file), encoding='utf-8').read()
-            function = function_at(text, text.index(old)) if file.startswith('src/') else None
-            seen += 1
-            if function and not refused_in(log, crate, function):
-                print('refused: %s/%s: nothing in the proof of `%s` is refused' % (crate, label, function))
-                bad += 1
-            if name.startswith('several_') and file.startswith('specs/') and not errors_in(log, file):
-                print('refused: %s/%s: nothing in %s is refused' % (crate, label, file))
-                bad += 1
+        found, readers = faults(edit)
+        bad, seen = bad + found, seen + readers
     if bad:
-        sys.exit(1)
-    print('refused: %d replacements in %d edits, each refused where it is wrong' % (seen, len(edits)))
+        sys.exit('\n'.join('refused: ' + said for said in bad))
+    print('refused: %d wrong readers in %d edits, each refused where it is wrong' % (seen, len(edits)))
 
 
 main()

@@ -4,7 +4,7 @@ ghost use mathlib.Core.Path.{_≡_};
 ghost use Rattle.meaning.specs.Editions.{editions, known};
 ghost use Rattle.meaning.specs.Events.{eventLimit, eventsOf, askedEvents};
 ghost use Rattle.compare.specs.Compared.{eventReads, sideOf, compared, scratchThen};
-ghost use Rattle.replay.specs.Replay as Replay;
+ghost use Rattle.replay.specs.Replay.{replayTold, roomsOf, replayEvents};
 ghost use Rattle.salvage.specs.Salvage.{salvageTold, salvageOut, salvageList};
 use compare::Compared;
 use replay::Replayed;
@@ -58,9 +58,9 @@ pub extern "C" fn ollskuvan_replay(
     rooms: &mut [u8],
     journal: &mut [u8],
 ) -> Replayed
-    ensures { λ r. ⌜ r ≡ Replay.told (Replay.replayEvents eventLimit editions edition (eventsOf (now (events .entry))) (now (trace .entry)) start (now (rooms .entry)) (now (journal .entry))) ⌝ }
-    ensures { λ _. ⌜ now (rooms .exit) ≡ Replay.roomsOf (Replay.replayEvents eventLimit editions edition (eventsOf (now (events .entry))) (now (trace .entry)) start (now (rooms .entry)) (now (journal .entry))) ⌝ }
-    ensures { λ _. ⌜ now (journal .exit) ≡ Replay.replayEvents eventLimit editions edition (eventsOf (now (events .entry))) (now (trace .entry)) start (now (rooms .entry)) (now (journal .entry)) .now .journal ⌝ }
+    ensures { λ r. ⌜ r ≡ replayTold (replayEvents eventLimit editions edition (eventsOf (now (events .entry))) (now (trace .entry)) start (now (rooms .entry)) (now (journal .entry))) ⌝ }
+    ensures { λ _. ⌜ now (rooms .exit) ≡ roomsOf (replayEvents eventLimit editions edition (eventsOf (now (events .entry))) (now (trace .entry)) start (now (rooms .entry)) (now (journal .entry))) ⌝ }
+    ensures { λ _. ⌜ now (journal .exit) ≡ replayEvents eventLimit editions edition (eventsOf (now (events .entry))) (now (trace .entry)) start (now (rooms .entry)) (now (journal .entry)) .now .journal ⌝ }
 {
     let e = edition as u64;
     replaying::replay(trace, start, e, events, EVENTS, rooms, journal)
