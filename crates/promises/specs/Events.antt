@@ -1,6 +1,6 @@
 -- Several events in one ring: demand 1 for the drain and the reader of one record with a table ("refused by the numbers", what a stop and a refusal change, the
 -- counts), demand 3 with the table shared, and a table of one event beside the call with one attribute set. Over any limit of a table's length. Assumes nothing.
-use mathlib.Core.Path.{_≡_, refl, sym, ap, _∙_}
+use mathlib.Core.Path.{_≡_, refl, ap}
 use mathlib.Core.List.{List, [], _∷_}
 use mathlib.Core.Bool.{Bool, true, false, cond}
 use Prim.Native.Nat.{ℕ, _+_, _-_, _*_, _%_, _^_, _<_, _≤_}
@@ -9,7 +9,6 @@ use Rattle.meaning.specs.declared.Event.{Event}
 use Rattle.meaning.specs.declared.Frame.{Frame}
 use Rattle.meaning.specs.declared.Known.{Known}
 use Rattle.meaning.specs.declared.One.{One}
-use Rattle.meaning.specs.Bytes.{zeros}
 use Rattle.meaning.specs.Editions.{editions, allowed, known, outside, isIn}
 use Rattle.meaning.specs.Records.{layout, judge}
 use Rattle.meaning.specs.Ring.{askedOf, frame, recordAt, scratchAfter, oneFrame, notTaken, readOne}

@@ -2,7 +2,6 @@
 use mathlib.Core.Path.{_≡_, refl}
 use Prim.Native.Nat.{ℕ, _+_, _^_}
 use mathlib.Core.List.{List, [], _∷_, _++_}
-use lib.ListN.{length}
 use Rattle.meaning.specs.declared.Event.{Event}
 use Rattle.meaning.specs.Bytes.{num, spell, bit, ones, zeros, zeroIn, put}
 use Rattle.meaning.specs.Refusals.{first}

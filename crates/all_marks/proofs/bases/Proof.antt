@@ -1,6 +1,5 @@
 -- The list with the trailer added, computed.
 use mathlib.Core.Path.{refl}
-use Prim.Native.Nat.{_-_}
 use borrow.Author.Needs.{needs}
 use Rattle.marks.specs.Bases.{basesWith}
 use Rattle.all_marks.proofs.bases.Statement.{statement}

@@ -1,5 +1,4 @@
 -- The types' marks, and then the two that are made apart.
-use Prim.Native.Nat.{_-_}
 use native.Mathlib.Omega.{arith}
 use denote.Ref.{now}
 use borrow.Author.Needs.{needs}

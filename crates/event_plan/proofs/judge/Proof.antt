@@ -1,5 +1,4 @@
 -- The place is below the number of slots; the slot there is the identifier's, and tells the answer.
-use Prim.Native.Nat.{_-_}
 use native.Mathlib.Omega.{arith}
 use lib.ListN.{length}
 use denote.Ref.{now}

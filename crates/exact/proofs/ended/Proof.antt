@@ -1,5 +1,4 @@
 -- A refusal stands; else the place is the end, or bytes are left over.
-use Prim.Native.Nat.{_-_}
 use borrow.Author.Tests.{eq-eqb, ne-eqb}
 use Rattle.blocks.specs.Seen.{closedAt}
 use Rattle.exact.proofs.ended.Statement.{statement}

@@ -1,6 +1,5 @@
 -- The three cases of a comparison.
 use mathlib.Core.Path.{sym}
-use Prim.Native.Nat.{_-_}
 use native.Mathlib.Omega.{arith}
 use Rattle.blocks.specs.Steady.{sizes-same, sizes-less, sizes-more}
 use Rattle.exact.proofs.sized.Statement.{statement}

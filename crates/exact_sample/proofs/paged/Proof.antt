@@ -1,6 +1,5 @@
 -- A sum, then aux: two stretches.
 use mathlib.Core.Path.{sym}
-use Prim.Native.Nat.{_-_}
 use denote.Ref.{now}
 use borrow.Author.Needs.{needs}
 use Rattle.meaning.specs.Bytes.{bit}

@@ -1,6 +1,6 @@
 -- Four stretches, one after the other: the first that refuses answers, the last ends with the record.
 use mathlib.Core.List.{List, _++_}
-use Prim.Native.Nat.{ℕ, _+_, _-_}
+use Prim.Native.Nat.{ℕ, _+_}
 use denote.Ref.{now}
 use borrow.Author.Needs.{needs}
 use Rattle.blocks.specs.Seen.{closes-then, closes-stuck}

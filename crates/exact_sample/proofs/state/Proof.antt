@@ -1,7 +1,6 @@
 -- Two blocks one after the other: registers, then stack. Assumes nothing.
 use mathlib.Core.Path.{sym, _∙_}
 use mathlib.Core.Bool.{Bool}
-use Prim.Native.Nat.{_-_}
 use denote.Ref.{now}
 use Rattle.blocks.specs.Seen.{Ends, as-known, one-refuses, both-end}
 use Rattle.meaning.specs.Bytes.{bit}

@@ -1,5 +1,4 @@
 -- The bits, joined as the definition joins them.
-use Prim.Native.Nat.{_-_}
 use borrow.Author.Needs.{needs}
 use Rattle.marks.specs.Bases.{stretched}
 use Rattle.marks.proofs.in_stretches.Statement.{statement}

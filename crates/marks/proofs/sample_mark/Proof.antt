@@ -1,6 +1,5 @@
 -- Refused by the edition; in stretches; else the sum of its first and last fields.
 use mathlib.Core.Path.{_≡_, refl, sym, _∙_}
-use Prim.Native.Nat.{_-_}
 use native.Mathlib.Omega.{arith}
 use denote.Ref.{now}
 use borrow.Author.Needs.{needs}

@@ -1,7 +1,6 @@
 -- The three tests are those of the definition, with one version alone.
 use mathlib.Core.Path.{sym, _∙_}
 use mathlib.Core.List.{[], _∷_}
-use Prim.Native.Nat.{_-_}
 use Rattle.settings.specs.Steps.{fits-by, event-one}
 use borrow.Author.Needs.{needs}
 use Rattle.settings_entries.proofs.fits.Statement.{statement}

@@ -1,5 +1,4 @@
 -- Six words are put one right after the other.
-use Prim.Native.Nat.{_-_}
 use denote.Ref.{now}
 use Rattle.settings.specs.Puts.{words-put}
 use borrow.Author.Needs.{needs}

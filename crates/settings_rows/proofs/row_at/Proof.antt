@@ -1,6 +1,5 @@
 -- Word by word; the last is the constant 1.
 use mathlib.Core.List.{[], _∷_}
-use Prim.Native.Nat.{_-_}
 use borrow.Author.Needs.{needs}
 use Rattle.settings_rows.proofs.row_at.Statement.{statement}
 use Rattle.settings_rows.proofs.row_at.Tie as tie

@@ -1,7 +1,6 @@
 -- An entry that shows a version is 50 or passes by its number; another that fits is 52, and what fits nothing is 51.
 use mathlib.Core.Path.{_≡_, refl, sym, ap, _∙_}
 use mathlib.Core.Bool.{true, false, not}
-use Prim.Native.Nat.{_-_}
 use denote.Ref.{now}
 use borrow.Author.Tests.{eq-eqb, ne-eqb}
 use Rattle.entries.specs.declared.Entry.{Entry}

@@ -1,6 +1,5 @@
 -- Nothing under the mask counts nothing; else eight times the count.
 use mathlib.Core.Path.{sym}
-use Prim.Native.Nat.{_-_}
 use native.Mathlib.Omega.{arith}
 use borrow.Author.Needs.{needs}
 use Rattle.sums.specs.Sums.{sum-none}

@@ -1,7 +1,7 @@
 -- Selected or not.
 use mathlib.Core.Path.{sym, ap, _∙_}
 use mathlib.Core.Bool.{Bool, cond}
-use Prim.Native.Nat.{ℕ, _-_, _*_}
+use Prim.Native.Nat.{ℕ, _*_}
 use borrow.Author.Needs.{needs}
 use Rattle.meaning.specs.Bytes.{ones}
 use Rattle.sums.proofs.registers.Statement.{statement}

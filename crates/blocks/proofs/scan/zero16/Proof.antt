@@ -2,7 +2,6 @@
 use borrow.Author.Needs.{needs}
 use mathlib.Core.Path.{sym, ap₂, _∙_}
 use mathlib.Core.Bool.{_||_}
-use Prim.Native.Nat.{_-_}
 use denote.Ref.{now}
 use Rattle.blocks.specs.ScanLaws.{zero-join}
 use Rattle.blocks.proofs.scan.zero16.Statement.{statement}

@@ -1,6 +1,5 @@
 -- Four bytes, each compared with zero.
 use borrow.Author.Needs.{needs}
-use Prim.Native.Nat.{_-_}
 use denote.Ref.{now}
 use Rattle.blocks.specs.ScanLaws.{four}
 use Rattle.blocks.proofs.scan.zero4.Statement.{statement}

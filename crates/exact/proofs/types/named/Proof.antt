@@ -1,7 +1,6 @@
 -- The three cases of the definition, by the scan of the name's room.
 use mathlib.Core.Path.{_≡_, sym, _∙_}
 use mathlib.Core.Bool.{true, false}
-use Prim.Native.Nat.{_-_}
 use native.Mathlib.Omega.{arith}
 use denote.Ref.{now}
 use Rattle.blocks.specs.Scan.{nameOk}

@@ -1,5 +1,4 @@
 -- Both lengths are read before they are added; the padding ends with the record where fewer than 8 bytes are left.
-use Prim.Native.Nat.{_-_}
 use native.Mathlib.Omega.{arith}
 use denote.Ref.{now}
 use borrow.Author.Needs.{needs}
