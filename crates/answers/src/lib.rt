@@ -1,5 +1,7 @@
 // The answer for a record: the walk over its fields, the trailer, 30 to 33 after 20 to 25, and record check. The header is taken by the reader
 // that holds the record and its place.
+#![tactic(auto)]
+
 ghost use Rattle.std.specs.Prelude.{◌≡◌, ◌<◌, ◌≤◌, length, get_or};
 ghost use Rattle.meaning.specs.Items.{step, walk};
 ghost use Rattle.meaning.specs.Schema.{schema, trailer};

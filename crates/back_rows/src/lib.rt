@@ -1,4 +1,6 @@
 // The rows of the walk over a backward ring (M-109): why it ends, or the next record.
+#![tactic(auto)]
+
 ghost use Rattle.std.specs.Prelude.{◌≡◌, ◌+◌, ◌%◌, ◌≤◌, length};
 ghost use Rattle.meaning.specs.Ring.{asking_with};
 ghost use Rattle.meaning.specs.Backward.{placed, back_frame};

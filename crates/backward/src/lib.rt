@@ -1,2 +1,4 @@
 // Holds specs/ alone: the walk over a backward ring (M-109).
+#![tactic(auto)]
+
 pub fn nothing() {}

@@ -1,4 +1,6 @@
 // The stretches of a record, each as one straight piece of code: the place after it, or the refusal. And the rule of a name's room.
+#![tactic(auto)]
+
 ghost use Rattle.std.specs.Prelude.{◌≡◌, true, List, ◌+◌, ◌*◌, ◌≤◌, ◌<◌, length};
 ghost use Rattle.meaning.specs.declared.Item.{Item};
 ghost use Rattle.meaning.specs.Bytes.{number_at, ones};
@@ -9,7 +11,7 @@ ghost use Rattle.blocks.specs.Blocks.{counted_list, counted_place, branch_list, 
 pub mod scan;
 
 // A place in a record, or why it is refused (0: it is not).
-#[derive(Drop)]
+#[derive(Clone, Copy)]
 pub struct Place {
     pub at: usize,
     pub why: u16,

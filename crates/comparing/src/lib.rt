@@ -1,4 +1,6 @@
 // Two rings compared (M-108): the loop over records, and in it the loop over fields, left by a label at the first that differs.
+#![tactic(auto)]
+
 ghost use Rattle.std.specs.Prelude.{◌≡◌};
 ghost use Rattle.meaning.specs.Editions.{editions, known};
 ghost use Rattle.meaning.specs.Events.{events_of, asked_events};

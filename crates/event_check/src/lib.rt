@@ -1,4 +1,6 @@
 // Record check with a table of events, for a lent slice (M-112). A table's limit is a number of 32 bits, as the number inspected is that is told.
+#![tactic(auto)]
+
 ghost use Rattle.std.specs.Prelude.{◌≡◌, ◌≤◌, ◌<◌, length};
 ghost use Rattle.meaning.specs.Editions.{editions, known};
 ghost use Rattle.meaning.specs.Events.{events_of, inspected, judged, unasked, record_check_events};

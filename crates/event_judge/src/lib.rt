@@ -1,4 +1,6 @@
 // A record under a table of events: its identifier, where its event stands, how many were inspected for that, and its answer.
+#![tactic(auto)]
+
 ghost use Rattle.std.specs.Prelude.{◌≡◌, ◌<◌, ◌≤◌, length};
 ghost use Rattle.meaning.specs.Editions.{editions, known};
 ghost use Rattle.meaning.specs.Records.{kind_of};

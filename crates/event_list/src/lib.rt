@@ -1,5 +1,7 @@
 // A lent list of events as structs, and thin functions over it. The borrow checker covers no function that has a `&[Event]`,
 // so each is proved by hand. What is done with an event is a function that takes it by value.
+#![tactic(auto)]
+
 ghost use Rattle.std.specs.Prelude.{◌≡◌, length};
 ghost use Rattle.meaning.specs.Events.{identifiers, event_at, index_of};
 

@@ -1,6 +1,8 @@
 // One record with a table of events. The reader: the chain of stops with a budget of one and no journal; then the record, gathered
 // where it goes round the ring's end, is read under the attributes of its event. A table's limit is a number of 32 bits, as the number inspected is
 // that is told.
+#![tactic(auto)]
+
 ghost use Rattle.std.specs.Prelude.{◌≡◌};
 ghost use Rattle.meaning.specs.Editions.{editions};
 ghost use Rattle.meaning.specs.Events.{events_of, one_events_scratch};

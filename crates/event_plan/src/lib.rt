@@ -1,5 +1,7 @@
 // The exact judge under a table of events, by the slot of a record's identifier: what edition and attributes fix of an event, its sums and marks, is
 // made once and held in slots that are lent (crates slots and held_slots).
+#![tactic(auto)]
+
 ghost use Rattle.std.specs.Prelude.{◌≡◌, [], ◌%◌, ◌≤◌, ◌<◌, length, get_or};
 ghost use Rattle.meaning.specs.Records.{kind_of, layout, judge};
 ghost use Rattle.meaning.specs.Events.{events_of, identifier_of, judge_events};

@@ -1,4 +1,6 @@
 // The reader of a record's words under a table of events, for a lent slice (M-112).
+#![tactic(auto)]
+
 ghost use Rattle.std.specs.Prelude.{◌≡◌, ◌≤◌, ◌<◌, length};
 ghost use Rattle.meaning.specs.Editions.{editions, known};
 ghost use Rattle.meaning.specs.Events.{events_of, inspected, judged, read_events, read_events_words};

@@ -1,4 +1,6 @@
 // A table of events, lent as rows of seven words: the lookup, a row's event, and whether the table is sound.
+#![tactic(auto)]
+
 ghost use Rattle.std.specs.Prelude.{◌≡◌, not, ◌&&◌, ◌+◌, ◌<◌, eqb, length, drop};
 ghost use Rattle.meaning.specs.Editions.{is_in};
 ghost use Rattle.meaning.specs.Events.{attributes_of, identifiers, event_at, event_of, events_of, marked, all_marked, distinct, sound, index_of};

@@ -1,5 +1,7 @@
 // The exact answer for a record's fields, by kind of layout: a name after fields of one width, lists that the record counts; a SAMPLE is judged by
 // crate exact_sample. Each is given what the attributes fix, as sums; none walks a list of items.
+#![tactic(auto)]
+
 ghost use Rattle.std.specs.Prelude.{◌≡◌};
 ghost use Rattle.meaning.specs.Schema.{group_bytes};
 ghost use Rattle.blocks.specs.Seen.{closed_at};

@@ -1,4 +1,6 @@
 // A SAMPLE in stretches, in known order: the fields of one width as sums, the lists between them as blocks.
+#![tactic(auto)]
+
 ghost use Rattle.std.specs.Prelude.{◌≡◌, true, false, ◌*◌, ◌≤◌, ◌<◌, length};
 ghost use Rattle.meaning.specs.Bytes.{bit, ones};
 ghost use Rattle.meaning.specs.Schema.{sample, sample_last};

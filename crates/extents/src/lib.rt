@@ -1,4 +1,6 @@
 // The field of an item where it lies in a record's bytes.
+#![tactic(auto)]
+
 ghost use Rattle.std.specs.Prelude.{◌≡◌, true, false, ◌≤◌, length, drop};
 ghost use Rattle.meaning.specs.Items.{shape_step};
 ghost use Rattle.extents.specs.Extent.{extent, Lies};
@@ -6,7 +8,7 @@ ghost use Rattle.extents.specs.Extent.{extent, Lies};
 use meaning::{Cursor, Shape};
 
 // A number and the bytes at a place, where the item has a field; w is the item's own number.
-#[derive(Drop)]
+#[derive(Clone, Copy)]
 pub struct Extent {
     pub has: bool,
     pub num: u64,

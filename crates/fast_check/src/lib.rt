@@ -1,6 +1,8 @@
 // The judge of one record and record check once more, for speed: by the mark of the record's type and the exact judge, which the drain has too. What a
 // caller sees is the same as by the plain walk. Of the sums only those are made that the type needs. The header is taken by the reader that holds the
 // record and its place.
+#![tactic(auto)]
+
 ghost use Rattle.std.specs.Prelude.{◌≡◌, ◌%◌, ◌<◌, ◌≤◌, length};
 ghost use Rattle.meaning.specs.Editions.{editions, known};
 ghost use Rattle.meaning.specs.Records.{layout, kind_of, judge, check};

@@ -1,5 +1,7 @@
 // The reader of one record into lent words once more, for speed: the answer by the exact judge, then every word straight into its place. What a caller
 // sees is the same as by the plain walk.
+#![tactic(auto)]
+
 ghost use Rattle.std.specs.Prelude.{◌≡◌, cond, ◌+◌, ◌-◌, length};
 ghost use Rattle.meaning.specs.Bytes.{put, zeros};
 ghost use Rattle.meaning.specs.Schema.{schema, trailer};

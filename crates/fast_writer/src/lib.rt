@@ -1,6 +1,8 @@
 // Values to bytes once more, for speed: a call for each item of the type instead of a walk over the table. One pass tests and measures, and only when all
 // fits and there is room does a second one write. What a caller sees is the same as by the plain walk, which is asked where a value is refused: it
 // tells 41 from 42.
+#![tactic(auto)]
+
 ghost use Rattle.std.specs.Prelude.{◌≡◌, true, false, cond, ◌≤◌, ◌<◌, length, take, drop, get_or, eqb};
 ghost use Rattle.meaning.specs.Bytes.{all_zero, put};
 ghost use Rattle.meaning.specs.Editions.{editions, allowed};

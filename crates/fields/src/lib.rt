@@ -1,5 +1,7 @@
 // The step over an item, by its shape, and the words that an item tells.
 // The cursor goes by value, with the record's fields beside it as a slice: the fields' end is the slice's length.
+#![tactic(auto)]
+
 ghost use Rattle.std.specs.Prelude.{◌≡◌, [], ◌∷◌, ◌+◌, ◌≤◌, length, drop};
 ghost use Rattle.meaning.specs.declared.Shape.TheVariants.{Filled};
 ghost use Rattle.meaning.specs.Bytes.{num, zero_in};
@@ -56,7 +58,7 @@ pub fn step(s: &[u8], i: Item, c: Cursor) -> Cursor
 // ---- the words of an item
 
 // The words that an item tells: how many, the first and the second; a word that is not there is 0.
-#[derive(Drop)]
+#[derive(Clone, Copy)]
 pub struct Words {
     pub n: usize,
     pub first: u64,

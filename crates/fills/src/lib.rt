@@ -1,5 +1,7 @@
 // The words of one item that is accepted, into lent words that are zero: one function for each shape. Nothing is asked again: the check has found
 // every byte and every count. An item that is not selected changes nothing. `at` is the item's first word.
+#![tactic(auto)]
+
 ghost use Rattle.std.specs.Prelude.{◌≡◌, cond, [], ◌∷◌, ◌+◌, ◌-◌, ◌<◌, ◌≤◌, length, drop, eqb};
 ghost use Rattle.meaning.specs.declared.Shape.TheVariants.{Number, Ignored, Count, Size, Times, Earlier, Registers, Filled, Abi, Limit, Listed, Bytes, Pad, Name};
 ghost use Rattle.meaning.specs.declared.Width.TheVariants.{W2, W4, W8};

@@ -1,4 +1,6 @@
 // The attributes from C's numbers: sample_id_all is a number of 32 bits, and any but 0 is set.
+#![tactic(auto)]
+
 ghost use Rattle.std.specs.Prelude.{◌≡◌};
 ghost use Rattle.given.specs.Given.{given};
 

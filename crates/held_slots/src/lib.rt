@@ -2,6 +2,8 @@
 // and attributes fix of an event is made when its first record comes.
 // The lookup walks the table, once an identifier. Where the table is long, `enter_rows` notes the indices first, in one pass, and no walk is left for
 // an event whose slot no other has taken.
+#![tactic(auto)]
+
 ghost use Rattle.std.specs.Prelude.{◌≡◌, true, [], ◌≤◌, ◌<◌, length, get_or};
 ghost use Rattle.meaning.specs.Events.{identifiers, events_of, distinct};
 ghost use Rattle.slots.specs.Slots.{SlotOf, SlotHolds, Memo};

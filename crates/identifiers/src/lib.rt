@@ -1,4 +1,6 @@
 // Identifiers of events, lent as words: the lookup among them, and whether two are equal.
+#![tactic(auto)]
+
 ghost use Rattle.std.specs.Prelude.{◌≡◌, not, ◌&&◌, eqb};
 ghost use Rattle.meaning.specs.Editions.{is_in};
 ghost use Rattle.meaning.specs.Events.{distinct, index_of};

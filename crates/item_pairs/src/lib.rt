@@ -1,4 +1,6 @@
 // One item of two records passed at once: where its fields lie, and whether they are the same.
+#![tactic(auto)]
+
 ghost use Rattle.std.specs.Prelude.{◌≡◌, ◌+◌, ◌≤◌, length};
 ghost use Rattle.meaning.specs.Items.{step};
 ghost use Rattle.compare.specs.Compared.{alike};
@@ -33,7 +35,7 @@ fn same_fields(s: &[u8], e: Extent, t: &[u8], g: Extent) -> bool
 }
 
 // What one item of two records is.
-#[derive(Drop)]
+#[derive(Clone, Copy)]
 pub struct Both {
     pub c: Cursor,
     pub d: Cursor,

@@ -1,4 +1,6 @@
 // The item that a row of the table stands for: whether it is selected, and its shape.
+#![tactic(auto)]
+
 ghost use Rattle.std.specs.Prelude.{◌≡◌, false, ◌<◌, get_or};
 ghost use Rattle.meaning.specs.Schema.{trails};
 ghost use Rattle.table.specs.Rows.{rows, all_rows, guard, guards, shape, item_of};

@@ -1,4 +1,6 @@
 // The items of each type's fields and of the trailer, as lists (specs/Lists, written by tools/chains.py), and the bits that select the trailer.
+#![tactic(auto)]
+
 ghost use Rattle.std.specs.Prelude.{◌≡◌, cond, not, ◌&&◌, eqb};
 
 use meaning::Attributes;

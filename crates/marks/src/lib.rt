@@ -4,6 +4,8 @@
 //   STRETCHED       a SAMPLE in stretches
 //   OPEN + from     a name starts at `from`
 //   REFUSED + why   refused whatever the bytes are: 20, 21, 22, 25 or 24
+#![tactic(auto)]
+
 ghost use Rattle.std.specs.Prelude.{◌≡◌, ◌≤◌, get_or};
 ghost use Rattle.meaning.specs.Editions.{unreadable};
 ghost use Rattle.meaning.specs.Schema.{trailer};

@@ -1,9 +1,10 @@
 // The public types of the reader: what an edition knows, the attributes, the items of a record's layout, the reader's
 // place in it, and what the callers are told. What document 01 says of them stands in specs/.
+#![tactic(auto)]
 
 // What an edition knows: record types 1 to `kinds`, sample bits below `samples`, read-format bits below `formats`, the
 // build-id form of MMAP2 or not, branch sample bit 17 (the hardware index) or not.
-#[derive(Drop)]
+#[derive(Clone, Copy)]
 pub struct Known {
     pub kinds: u64,
     pub samples: u64,
@@ -14,7 +15,7 @@ pub struct Known {
 
 // One attribute set serves a whole ring: sample type, read format, sample_id_all, user and interrupt register masks,
 // branch sample type.
-#[derive(Drop)]
+#[derive(Clone, Copy)]
 pub struct Attributes {
     pub sample: u64,
     pub format: u64,
@@ -27,7 +28,7 @@ pub struct Attributes {
 // An event: its identifier and its attributes, seven words of eight bytes, as C lends them; a row of seven words is the
 // same memory. `all` is sample_id_all: nonzero is set. `branch` is the branch sample type.
 #[repr(C)]
-#[derive(Drop)]
+#[derive(Clone, Copy)]
 pub struct Event {
     pub identifier: u64,
     pub sample: u64,
@@ -38,7 +39,7 @@ pub struct Event {
     pub all: u64,
 }
 
-#[derive(Drop)]
+#[derive(Clone, Copy)]
 pub enum Width {
     W1,
     W2,
@@ -47,7 +48,7 @@ pub enum Width {
 }
 
 // The shapes of a record's items. A width is that of a number; a `usize` counts bytes.
-#[derive(Drop)]
+#[derive(Clone, Copy)]
 pub enum Shape {
     // a number
     Number(Width),
@@ -80,14 +81,14 @@ pub enum Shape {
 }
 
 // An item is selected or not, by misc and the attributes.
-#[derive(Drop)]
+#[derive(Clone, Copy)]
 pub struct Item {
     pub on: bool,
     pub shape: Shape,
 }
 
 // The reader's state: the place, the count remembered last, the one before it, the refusal so far (0: none).
-#[derive(Drop)]
+#[derive(Clone, Copy)]
 pub struct Cursor {
     pub at: usize,
     pub n: u64,
@@ -96,7 +97,7 @@ pub struct Cursor {
 }
 
 // The next record of a ring: where it is, or, if `go` is false, the number that stops the reader.
-#[derive(Drop)]
+#[derive(Clone, Copy)]
 pub struct Frame {
     pub go: bool,
     pub stop: u16,
@@ -106,7 +107,7 @@ pub struct Frame {
 
 // What a drain tells: records and bytes taken, the new tail, why it stopped.
 #[repr(C)]
-#[derive(Drop)]
+#[derive(Clone, Copy)]
 pub struct Drained {
     pub taken: u64,
     pub bytes: u64,
@@ -116,7 +117,7 @@ pub struct Drained {
 
 // What a walk over a backward ring tells: records taken, bytes walked, why it ended. No tail moves.
 #[repr(C)]
-#[derive(Drop)]
+#[derive(Clone, Copy)]
 pub struct Walked {
     pub taken: u64,
     pub bytes: u64,
@@ -124,14 +125,14 @@ pub struct Walked {
 }
 
 // The words of a value: type, misc, size; the body's from 3 on; the trailer's from 48 on.
-#[derive(Drop)]
+#[derive(Clone, Copy)]
 pub struct Reading {
     pub answer: u16,
     pub words: [u64; 56],
 }
 
 // What the reader of one record tells: the frame (a stop, or where the record lies), its answer, the next tail, its words.
-#[derive(Drop)]
+#[derive(Clone, Copy)]
 pub struct One {
     pub frame: Frame,
     pub answer: u16,
@@ -141,14 +142,14 @@ pub struct One {
 
 // What is told of a record under a table of events (M-112): its answer, and how many events were inspected to find its own.
 #[repr(C)]
-#[derive(Drop)]
+#[derive(Clone, Copy)]
 pub struct Judged {
     pub answer: u32,
     pub inspected: u32,
 }
 
 // Bit 13 of misc, by the record's type.
-#[derive(Drop)]
+#[derive(Clone, Copy)]
 pub enum Bit13 {
     Nothing,
     DataMapping,
@@ -157,7 +158,7 @@ pub enum Bit13 {
 }
 
 // Bit 14 of misc, by the record's type.
-#[derive(Drop)]
+#[derive(Clone, Copy)]
 pub enum Bit14 {
     Nothing,
     ExactAddress,

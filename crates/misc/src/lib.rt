@@ -1,4 +1,6 @@
 // What misc means: the CPU mode, and bits 13 and 14 by the record's type.
+#![tactic(auto)]
+
 ghost use Rattle.std.specs.Prelude.{◌≡◌, ◌≤◌};
 ghost use Rattle.meaning.specs.Misc.{cpu_mode, means13, means14, number13, number14, misc_meaning};
 

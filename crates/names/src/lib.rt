@@ -1,4 +1,6 @@
 // A name copied out of a record into a lent buffer, with a zero after it.
+#![tactic(auto)]
+
 ghost use Rattle.std.specs.Prelude.{◌≡◌};
 ghost use Rattle.meaning.specs.Names.{name_answer, name_buffer};
 

@@ -1,5 +1,7 @@
 // What C calls: numbers and byte slices in, numbers out. Each entry is thin and has the whole contract of what it calls; the
 // numbers of 32 bits are not narrowed, so edition 257 is no edition and any sample_id_all but 0 is set.
+#![tactic(auto)]
+
 ghost use Rattle.std.specs.Prelude.{◌≡◌, length};
 ghost use Rattle.meaning.specs.Editions.{editions};
 ghost use Rattle.meaning.specs.Misc.{misc_meaning};

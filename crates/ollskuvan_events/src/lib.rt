@@ -1,5 +1,7 @@
 // What C calls for one record under a table of events: the reader of one record, record check, a record's words. Each entry is thin and has
 // the whole contract of what it calls.
+#![tactic(auto)]
+
 ghost use Rattle.std.specs.Prelude.{◌≡◌};
 ghost use Rattle.meaning.specs.Editions.{editions};
 ghost use Rattle.meaning.specs.Events.{event_limit, events_of, one_events_scratch, record_check_events, read_events, read_events_words};

@@ -1,5 +1,7 @@
 // What C calls for what was saved: two rings compared (M-108), a recorded trace played (M-106), a damaged stream (M-111). Each entry is
 // thin and has the whole contract of what it calls.
+#![tactic(auto)]
+
 ghost use Rattle.std.specs.Prelude.{◌≡◌};
 ghost use Rattle.meaning.specs.Editions.{editions, known};
 ghost use Rattle.meaning.specs.Events.{event_limit, events_of, asked_events};

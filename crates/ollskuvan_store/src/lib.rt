@@ -1,4 +1,6 @@
 // What C calls for a store of settings (M-103). Each entry is thin and has the whole contract of what it calls.
+#![tactic(auto)]
+
 ghost use Rattle.std.specs.Prelude.{◌≡◌, length};
 ghost use Rattle.meaning.specs.Editions.{editions};
 ghost use Rattle.settings.specs.Versions.{versions};

@@ -1,5 +1,7 @@
 // What C calls, with a table of events and a loop: the drain and the walk over a backward ring. They stand apart from the other exports so that the exact
 // judge has one caller in their archive and is compiled into the loop.
+#![tactic(auto)]
+
 ghost use Rattle.std.specs.Prelude.{◌≡◌};
 ghost use Rattle.meaning.specs.Editions.{editions};
 ghost use Rattle.meaning.specs.Drain.{told};

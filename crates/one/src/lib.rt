@@ -1,5 +1,7 @@
 // The reader of one record: the chain of stops with a budget of one and no journal; then the record, gathered where it
 // goes round the ring's end, is read.
+#![tactic(auto)]
+
 ghost use Rattle.std.specs.Prelude.{◌≡◌};
 ghost use Rattle.meaning.specs.Editions.{editions};
 ghost use Rattle.meaning.specs.Ring.{read_one, one_scratch};
@@ -10,7 +12,7 @@ use meaning::{Attributes, One};
 // What C is told of one record. A stop: place, size, in_scratch and answer 0, the tail as given. Taken: place and size of
 // the part shown, in the ring or (in_scratch 1) in the scratch, the tail moved by the size, and the record's answer.
 #[repr(C)]
-#[derive(Drop)]
+#[derive(Clone, Copy)]
 pub struct OneTold {
     pub place: u64,
     pub size: u64,

@@ -1,4 +1,6 @@
 // Two records of a pair (M-108), field by field: where the loop over their fields stands, and its next field.
+#![tactic(auto)]
+
 ghost use Rattle.std.specs.Prelude.{◌≡◌, true, false, ◌<◌, ◌≤◌};
 ghost use Rattle.pair_fields.specs.Inner.{Settled, moved, trailing, Ready, FieldsStand, is_alike, is_field, to_go};
 
@@ -9,7 +11,7 @@ use meaning::{Attributes, Cursor};
 // k differs. Else both records are accepted, of one type, misc and event, and the rows from `row` up to `to` come next, in the
 // first `end` bytes of both: those of the body or, where `last` is set, those of the trailer. w and x are the numbers of the items
 // before, c and d the states of the two walks.
-#[derive(Drop)]
+#[derive(Clone, Copy)]
 pub struct Pos {
     pub k: u32,
     pub same: bool,

@@ -1,4 +1,6 @@
 // A pair of records (M-108) before the loop over its fields: equal bytes, equal but for ignored bytes, or the first five fields.
+#![tactic(auto)]
+
 ghost use Rattle.std.specs.Prelude.{◌≡◌, true, ◌≤◌, length};
 ghost use Rattle.meaning.specs.Schema.{trailer};
 ghost use Rattle.meaning.specs.Records.{room};

@@ -1,4 +1,6 @@
 // The plain reader of a record's words, by the table's rows: its answer is record check's.
+#![tactic(auto)]
+
 ghost use Rattle.std.specs.Prelude.{◌≡◌};
 ghost use Rattle.meaning.specs.Editions.{editions};
 ghost use Rattle.meaning.specs.Values.{read};

@@ -1,4 +1,6 @@
 // The exact answer for a record's bytes, by its type's mark.
+#![tactic(auto)]
+
 ghost use Rattle.std.specs.Prelude.{◌≡◌, true, ◌&&◌, ◌%◌, ◌≤◌, ◌<◌, eqb, length};
 ghost use Rattle.meaning.specs.Bytes.{bit};
 ghost use Rattle.meaning.specs.Editions.{unreadable};

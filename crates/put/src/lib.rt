@@ -1,5 +1,7 @@
 // Bytes put into lent slices: runs copied or zeroed, numbers written, the lowest byte first. What does not fit leaves the slice as it was.
 // Every definition is of crate `meaning`, file Bytes.
+#![tactic(auto)]
+
 ghost use Rattle.std.specs.Prelude.{◌≡◌};
 ghost use Rattle.meaning.specs.Bytes.{spell, zeros, put};
 

@@ -1,5 +1,7 @@
 // The bytes of each type's fields and of the trailer: a call for each item, in the order of the schema.
 // Written by tools/write_chains.py from the rows of crate table.
+#![tactic(auto)]
+
 ghost use Rattle.std.specs.Prelude.{◌≤◌, length};
 ghost use Rattle.meaning.specs.Schema.{schema, trailer as trailer_of};
 ghost use Rattle.meaning.specs.Values.{body_words, trail_words, value_words};

@@ -1,19 +1,21 @@
 // "Inside, field after field is taken by a reader that holds the record and its place": the struct over the record's slice.
 // Each function over it is thin: it takes the struct apart and calls a function over the slice and the place, which does the work.
+#![tactic(auto)]
+
 ghost use Rattle.std.specs.Prelude.{◌≡◌, true, ◌+◌, ◌-◌, ◌≤◌, leb, length, take, drop};
 ghost use Rattle.meaning.specs.Bytes.{number_at};
 ghost use Rattle.meaning.specs.Refusals.{or_else};
 ghost use Rattle.reader.specs.Field.{is_width, field_at, field_found, passes, forward_at, header_of, header_at};
 
 // The record's bytes, and the place of the next field.
-#[derive(Drop)]
+#[derive(Clone, Copy)]
 pub struct Reader<'a> {
     pub record: &'a [u8],
     pub at: usize,
 }
 
 // A field: 0, its number and the place after it; or, where it would pass the record's end, 30, no number and its own place.
-#[derive(Drop)]
+#[derive(Clone, Copy)]
 pub struct Field {
     pub why: u16,
     pub value: u64,
@@ -21,7 +23,7 @@ pub struct Field {
 }
 
 // "Header: type u32, misc u16, size u16", and the place after it.
-#[derive(Drop)]
+#[derive(Clone, Copy)]
 pub struct Header {
     pub why: u16,
     pub kind: u64,

@@ -1,10 +1,12 @@
 // Two readers of one ring, each with its own tail (M-105): which tail is handed to the kernel. The positions go by value; each
 // reader drains by its own tail alone.
+#![tactic(auto)]
+
 ghost use Rattle.std.specs.Prelude.{◌≡◌};
 ghost use Rattle.readers.specs.Readers.{readers_at, first_moved, second_moved, published};
 
 // The tail counts of the two readers.
-#[derive(Drop)]
+#[derive(Clone, Copy)]
 pub struct Readers {
     pub first: u64,
     pub second: u64,
@@ -12,7 +14,7 @@ pub struct Readers {
 
 // The tail for the kernel, and 0; or a refusal, and then the tail is 0 and is not handed out.
 #[repr(C)]
-#[derive(Drop)]
+#[derive(Clone, Copy)]
 pub struct Published {
     pub tail: u64,
     pub answer: u32,

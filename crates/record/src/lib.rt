@@ -1,4 +1,6 @@
 // One record: the flag of its name, and record check's 44. What it is read by is passed on: editions and 20 to 25, the walk, the trailer, record check.
+#![tactic(auto)]
+
 ghost use Rattle.std.specs.Prelude.{◌≡◌};
 ghost use Rattle.meaning.specs.Records.{kind_of};
 ghost use Rattle.record.specs.Into.{Accepted, or_dirty};

@@ -1,4 +1,6 @@
 // An entry of a recorded trace (M-106): a record that is offered, a drain, or the fault that ends the replay.
+#![tactic(auto)]
+
 ghost use Rattle.std.specs.Prelude.{◌≡◌};
 ghost use Rattle.runs.specs.Cutting.{framed};
 ghost use Rattle.replay.specs.Replay.{of_store, fault_at};

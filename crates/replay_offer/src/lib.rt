@@ -1,4 +1,6 @@
 // What a replay counts at an entry (M-106), and an offered record: put into the ring whole, or dropped.
+#![tactic(auto)]
+
 ghost use Rattle.std.specs.Prelude.{◌≡◌, ◌+◌, ◌^◌, ◌<◌, ◌≤◌, [], length};
 ghost use Rattle.replay.specs.Steps.{count_in, count_by, count_drain, lent, offered};
 

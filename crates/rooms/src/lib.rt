@@ -1,4 +1,6 @@
 // Ring and scratch as the two halves of one lent slice: a record put round the ring, a drain with a table within.
+#![tactic(auto)]
+
 ghost use Rattle.std.specs.Prelude.{◌≡◌, ◌+◌, ◌≤◌, true, ◌++◌, length, take, drop};
 ghost use Rattle.meaning.specs.Bytes.{put};
 ghost use Rattle.meaning.specs.Editions.{editions, known};

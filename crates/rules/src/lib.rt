@@ -1,4 +1,6 @@
 // What an edition knows, and the refusals 20 to 25, one Bool each, in document 01's order, with M-102's 25 between 23 and 24.
+#![tactic(auto)]
+
 ghost use Rattle.std.specs.Prelude.{◌≡◌, ◌&&◌, ◌||◌, cond, not, ◌^◌, leb, ltb, eqb};
 ghost use Rattle.meaning.specs.Bytes.{bit};
 ghost use Rattle.meaning.specs.Editions.{editions, allowed, known, has_sample_bits, has_read_values, has_build_id, has_branches, strange_branch, unreadable};

@@ -1,4 +1,6 @@
 // A salvage at one place: the record that is kept there, if one is.
+#![tactic(auto)]
+
 ghost use Rattle.std.specs.Prelude.{◌≡◌, cond};
 ghost use Rattle.meaning.specs.Editions.{editions};
 ghost use Rattle.meaning.specs.Events.{events_of};

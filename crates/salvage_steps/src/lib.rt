@@ -1,4 +1,6 @@
 // A step of a salvage: the place, the counts, and what is written: a record that is kept, the entry of a hole that ends.
+#![tactic(auto)]
+
 ghost use Rattle.std.specs.Prelude.{◌≡◌, cond, ◌+◌, ◌*◌, ◌^◌, ◌<◌, ◌≤◌, ltb, length};
 ghost use Rattle.meaning.specs.Bytes.{put};
 ghost use Rattle.salvage.specs.Salvage.{run, hole_bytes};

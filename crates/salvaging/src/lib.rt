@@ -1,4 +1,6 @@
 // The salvage of a damaged stream: accepted records are kept, what lies between them is dropped and listed.
+#![tactic(auto)]
+
 ghost use Rattle.std.specs.Prelude.{◌≡◌, length};
 ghost use Rattle.meaning.specs.Bytes.{put};
 ghost use Rattle.meaning.specs.Editions.{editions};

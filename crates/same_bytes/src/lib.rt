@@ -1,4 +1,6 @@
 // Bytes of two slices compared: four words of eight at once, then words, then bytes.
+#![tactic(auto)]
+
 ghost use Rattle.std.specs.Prelude.{◌≡◌, ◌+◌, ◌≤◌, length, take, drop};
 ghost use Rattle.compare.specs.Compared.{same_bytes};
 ghost use Rattle.same_bytes.specs.Rest.{four_words, Rest};

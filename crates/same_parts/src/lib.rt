@@ -1,5 +1,7 @@
 // Are the fields of two records the same but for ignored bytes? The type and the attributes say where those lie: "res, bytes after a name's zero, build-id
 // padding, text padding, the reserved three". The bytes before and after them are compared as they stand; no field is read.
+#![tactic(auto)]
+
 ghost use Rattle.std.specs.Prelude.{◌≡◌, ◌≤◌, length};
 ghost use Rattle.same_parts.specs.Parts.{same_span, same_but_four, around_res, name_same, build_same, text_same, name_at, body_same};
 

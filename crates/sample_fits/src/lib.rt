@@ -1,5 +1,7 @@
 // Whether the words of SAMPLE's fields fit: a call for each item, in the order of the schema.
 // Written by tools/write_chains.py from the rows of crate table.
+#![tactic(auto)]
+
 ghost use Rattle.std.specs.Prelude.{◌≤◌, length};
 ghost use Rattle.meaning.specs.Values.{body_words, value_words};
 ghost use Rattle.writer_items.specs.Tries.{most_bytes};

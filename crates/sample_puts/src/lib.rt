@@ -1,5 +1,7 @@
 // The bytes of SAMPLE's fields: a call for each item, in the order of the schema.
 // Written by tools/write_chains.py from the rows of crate table.
+#![tactic(auto)]
+
 ghost use Rattle.std.specs.Prelude.{◌≤◌, length};
 ghost use Rattle.meaning.specs.Values.{body_words, value_words};
 ghost use Rattle.layouts.specs.Lists.{sample-1, sample-2, sample-3, sample-4, sample-5, sample-6, sample-7, sample};

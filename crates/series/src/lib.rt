@@ -1,2 +1,4 @@
 // Holds specs/ alone: drains cut anywhere (M-113).
+#![tactic(auto)]
+
 pub fn nothing() {}

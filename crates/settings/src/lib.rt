@@ -1,7 +1,8 @@
 // The store of settings: the public types. What document 02 says of it stands in specs/, with the theorems.
+#![tactic(auto)]
 
 // A version of the store: its number, how many bytes an event's index has, how many events a table holds at most.
-#[derive(Drop)]
+#[derive(Clone, Copy)]
 pub struct Version {
     pub number: u64,
     pub width: usize,
@@ -10,7 +11,7 @@ pub struct Version {
 
 // What reading a store tells: 0, and the number of events, ring length, edition and budget; or a refusal, and zeros.
 #[repr(C)]
-#[derive(Drop)]
+#[derive(Clone, Copy)]
 pub struct Settings {
     pub events: u64,
     pub ring: u64,
@@ -21,7 +22,7 @@ pub struct Settings {
 
 // What writing a store tells: 0, and the number of bytes; or a refusal, and zero.
 #[repr(C)]
-#[derive(Drop)]
+#[derive(Clone, Copy)]
 pub struct Stored {
     pub bytes: u64,
     pub answer: u32,

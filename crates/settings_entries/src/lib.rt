@@ -1,4 +1,6 @@
 // An entry of a store of settings: the version that it shows, its kind by its length, and an event in its turn.
+#![tactic(auto)]
+
 ghost use Rattle.std.specs.Prelude.{◌≡◌, [], ◌∷◌, ◌+◌, ◌≤◌, length};
 ghost use Rattle.meaning.specs.Bytes.{number_at};
 ghost use Rattle.settings.specs.Versions.{versions, version_of, place_of};

@@ -1,4 +1,6 @@
 // The entries of a store of settings, put into a lent buffer: each event at its place, then the last.
+#![tactic(auto)]
+
 ghost use Rattle.std.specs.Prelude.{◌≡◌, ◌+◌, ◌≤◌, length};
 ghost use Rattle.meaning.specs.Bytes.{spell, put};
 ghost use Rattle.settings.specs.Versions.{place_of};

@@ -1,4 +1,6 @@
 // A store of settings, read into a lent table.
+#![tactic(auto)]
+
 ghost use Rattle.std.specs.Prelude.{◌≡◌, length};
 ghost use Rattle.meaning.specs.Editions.{editions};
 ghost use Rattle.settings.specs.Versions.{versions};

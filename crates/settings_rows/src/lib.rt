@@ -1,4 +1,6 @@
 // The events of a store of settings: row 11 of them, and their rows put into a lent table.
+#![tactic(auto)]
+
 ghost use Rattle.std.specs.Prelude.{◌≡◌, ◌++◌, ◌+◌, ◌≤◌, length, drop};
 ghost use Rattle.meaning.specs.Events.{identifiers, events_of, all_marked, sound};
 ghost use Rattle.settings.specs.Versions.{place_of};

@@ -1,4 +1,6 @@
 // A store of settings, entry by entry: how many events stand in turn, and the refusal of the first faulty entry.
+#![tactic(auto)]
+
 ghost use Rattle.std.specs.Prelude.{◌≡◌, ◌+◌};
 ghost use Rattle.meaning.specs.Refusals.{first};
 ghost use Rattle.meaning.specs.Editions.{editions};
@@ -30,7 +32,7 @@ pub fn first_answer(bytes: &[u8]) -> u16
 }
 
 // How many event entries stand one after the other after the first entry, and where the last of them ends.
-#[derive(Drop)]
+#[derive(Clone, Copy)]
 pub struct Walked {
     pub count: usize,
     pub at: usize,

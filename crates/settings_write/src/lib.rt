@@ -1,4 +1,6 @@
 // A store of settings, written into a lent buffer.
+#![tactic(auto)]
+
 ghost use Rattle.std.specs.Prelude.{◌≡◌, length};
 ghost use Rattle.meaning.specs.Editions.{editions};
 ghost use Rattle.settings.specs.Writing.{writes, stored, write_store, buffer_after};

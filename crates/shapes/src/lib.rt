@@ -1,5 +1,7 @@
 // The shapes of items that a rule looks at, or that later items are counted by: names, counts, sizes, registers. Each is proved against the
 // one definition `shape_step`.
+#![tactic(auto)]
+
 ghost use Rattle.std.specs.Prelude.{◌≡◌, ◌+◌, ◌≤◌, length, drop};
 ghost use Rattle.meaning.specs.declared.Shape.TheVariants.{Count, Size, Filled, Abi, Limit, Name};
 ghost use Rattle.meaning.specs.Bytes.{number_at, zero_in};

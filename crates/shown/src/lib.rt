@@ -1,5 +1,7 @@
 // "Two lent slices go in; the record comes back as a part of whichever holds it whole, status beside it": the struct that
 // holds the part and the status. Both functions are thin: `ring::shown` finds the part, `fast_read::read_into` reads it.
+#![tactic(auto)]
+
 ghost use Rattle.std.specs.Prelude.{◌≡◌};
 ghost use Rattle.meaning.specs.Editions.{editions};
 ghost use Rattle.meaning.specs.Ring.{shown};
@@ -9,7 +11,7 @@ ghost use Rattle.ring.specs.Part.{shown_from};
 use meaning::{Attributes, Frame};
 
 // The part of the slice that holds the record whole; whether there is a record, and why not.
-#[derive(Drop)]
+#[derive(Clone, Copy)]
 pub struct Shown<'a> {
     pub part: &'a [u8],
     pub go: bool,

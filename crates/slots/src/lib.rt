@@ -3,6 +3,8 @@
 //   the identifier; the slot's state; the refusal of the types other than READ and SAMPLE, or 0; SAMPLE's mark; READ's mark; the event's index; the
 //   event's sums, four in a word
 // The state: 0 empty; 1 where the index alone is noted; 2 where the identifier is in the table; else the answer of its records (21, 26).
+#![tactic(auto)]
+
 ghost use Rattle.std.specs.Prelude.{◌≡◌, ◌<◌, length};
 ghost use Rattle.meaning.specs.Events.{identifiers, events_of, index_of};
 ghost use Rattle.slots.specs.Slots.{quarter, Four, SlotOf};

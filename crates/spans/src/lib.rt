@@ -1,5 +1,7 @@
 // The shapes of items whose bytes no rule looks at and no count remembers: past them, or 30. Each is proved against the one definition `shape_step`.
 // The cursor goes by value, with the record's fields beside it as a slice: the fields' end is the slice's length.
+#![tactic(auto)]
+
 ghost use Rattle.std.specs.Prelude.{◌≡◌, ◌-◌, ◌*◌, ◌≤◌, length, drop};
 ghost use Rattle.meaning.specs.declared.Shape.TheVariants.{Number, Ignored, Times, Earlier, Registers, Listed, Bytes, Pad};
 ghost use Rattle.meaning.specs.Items.{bytes, refuse, shape_step};

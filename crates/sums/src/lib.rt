@@ -1,4 +1,6 @@
 // The sums that the attributes fix: eight bytes for each bit of a mask that is set.
+#![tactic(auto)]
+
 ghost use Rattle.std.specs.Prelude.{◌≡◌, cond, ◌*◌, ◌≤◌};
 ghost use Rattle.meaning.specs.Bytes.{ones};
 ghost use Rattle.exact.specs.Stretches.{group_fixed};

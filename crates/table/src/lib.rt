@@ -1,4 +1,6 @@
 // The layouts of the record types as a table of rows: which rows a type has. Crate items has the item that a row stands for.
+#![tactic(auto)]
+
 ghost use Rattle.std.specs.Prelude.{◌≡◌, ◌<◌, get_or};
 ghost use Rattle.table.specs.Rows.{rows, all_rows};
 ghost use Rattle.table.specs.Flags.{flag_at};
@@ -7,7 +9,7 @@ ghost use Rattle.table.specs.Same.{LaidOut};
 pub mod rows;
 
 // The rows from `from` up to, and not with, `to`.
-#[derive(Drop)]
+#[derive(Clone, Copy)]
 pub struct Part {
     pub from: usize,
     pub to: usize,

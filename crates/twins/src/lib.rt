@@ -1,4 +1,6 @@
 // Is a record the same as an accepted one but for ignored bytes? The fields' and the trailer's, each without them, and the flag of a name.
+#![tactic(auto)]
+
 ghost use Rattle.std.specs.Prelude.{◌≡◌};
 ghost use Rattle.twins.specs.Twins.{Beside};
 ghost use Rattle.twins.specs.Same.{trail_bits, same_but};

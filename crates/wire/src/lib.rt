@@ -1,5 +1,7 @@
 // Bytes in lent slices: little-endian numbers read, single bits; what is written (crate `put`) is passed on.
 // Every definition is of crate `meaning`, file Bytes; each reader of a width cites one law over the width.
+#![tactic(auto)]
+
 ghost use Rattle.std.specs.Prelude.{◌≡◌, ◌+◌, ◌≤◌, ◌<◌, ◌%◌, length};
 ghost use Rattle.meaning.specs.Bytes.{number_at, bit, ones};
 

@@ -1,5 +1,7 @@
 // Whether what the words give of one item fits it, and the state after it: one function for each shape, given its guard and the number of its first
 // word. A refusal stays; from it on nothing else counts. Nothing is written.
+#![tactic(auto)]
+
 ghost use Rattle.std.specs.Prelude.{◌≡◌, cond, ◌&&◌, [], ◌∷◌, ◌+◌, ◌-◌, ◌*◌, ◌≤◌, ◌<◌, length, leb, eqb};
 ghost use Rattle.meaning.specs.declared.Shape.TheVariants.{Number, Ignored, Count, Size, Times, Earlier, Registers, Filled, Abi, Limit, Listed, Bytes, Pad, Name};
 ghost use Rattle.meaning.specs.Items.{bytes};
@@ -15,7 +17,7 @@ const MOST_COUNT: u64 = writer_items::MOST_BYTES as u64;
 
 // The place in the record; the last count and the one before it; the same two as the words tell them, which the abi words do not change; and whether
 // something did not fit.
-#[derive(Drop)]
+#[derive(Clone, Copy)]
 pub struct Walked {
     pub at: usize,
     pub n: u64,

@@ -1,5 +1,7 @@
 // The bytes of one item that fits: one function for each shape, given its guard and the number of its first word. Nothing is tested again. An item
 // that is not selected has no bytes.
+#![tactic(auto)]
+
 ghost use Rattle.std.specs.Prelude.{◌≡◌, [], ◌∷◌, ◌++◌, ◌+◌, ◌*◌, ◌≤◌, length, take, drop};
 ghost use Rattle.meaning.specs.declared.Shape.TheVariants.{Number, Ignored, Count, Size, Times, Earlier, Registers, Filled, Abi, Limit, Listed, Bytes, Pad, Name};
 ghost use Rattle.meaning.specs.Bytes.{spell, zeros, put};

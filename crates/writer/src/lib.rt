@@ -1,5 +1,7 @@
 // Values to bytes: the words of a value and a lent source of bytes, written as a record into a lent buffer. It goes by the
 // items of the type's layout: two loops test, and only when all fits and there is room does a third one write.
+#![tactic(auto)]
+
 ghost use Rattle.std.specs.Prelude.{◌≡◌, true, length, get_or};
 ghost use Rattle.meaning.specs.Editions.{editions, allowed};
 ghost use Rattle.meaning.specs.Values.{write_answer, write_buffer};

@@ -1,4 +1,6 @@
 // An item at a place, as it is written.
+#![tactic(auto)]
+
 ghost use Rattle.std.specs.Prelude.{◌≡◌, ◌-◌, ◌+◌, ◌%◌, ◌≤◌, cond, eqb};
 ghost use Rattle.meaning.specs.Bytes.{ones};
 ghost use Rattle.meaning.specs.Items.{bytes};
@@ -11,7 +13,7 @@ use writer_words::Given;
 // An item at a place, as it is written: a number of so many bytes, at most so large (and, with its own bytes, a multiple of 8
 // or not); then the bytes of a list of `want` elements (a name has no zero among them); then zero bytes. And the counts that
 // are remembered after it.
-#[derive(Drop)]
+#[derive(Clone, Copy)]
 pub struct Form {
     pub width: usize,
     pub top: u64,

@@ -1,4 +1,6 @@
 // One item: whether what is given fits it, the place after it, and its bytes.
+#![tactic(auto)]
+
 ghost use Rattle.std.specs.Prelude.{◌≡◌, cond, true, false, ◌+◌, ◌*◌, ◌≤◌, ◌<◌, ◌^◌, length, take, drop, leb};
 ghost use Rattle.meaning.specs.Bytes.{nonzero, put};
 ghost use Rattle.meaning.specs.Values.{beyond};

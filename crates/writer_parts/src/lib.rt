@@ -1,5 +1,7 @@
 // The items of a part of the table, with the words that tell them: three loops over the rows. The first two only look, the
 // third writes.
+#![tactic(auto)]
+
 ghost use Rattle.std.specs.Prelude.{◌≡◌, ◌≤◌, ◌<◌, length};
 ghost use Rattle.meaning.specs.Bytes.{put};
 ghost use Rattle.meaning.specs.Schema.{schema, trailer};
@@ -12,7 +14,7 @@ use meaning::{Attributes, Cursor, Item};
 use writer_words::Reached;
 
 // Rows of the table of items: the fields of a type, or its trailer.
-#[derive(Drop)]
+#[derive(Clone, Copy)]
 pub struct TypePart {
     pub attributes: Attributes,
     pub kind: u64,

@@ -1,5 +1,7 @@
 // A whole record: the words that no item has, the size of the record that the words tell, and its bytes. Nothing is written
 // before the size is known and there is room.
+#![tactic(auto)]
+
 ghost use Rattle.std.specs.Prelude.{◌≡◌, ◌++◌, ◌+◌, ◌≤◌, ◌<◌, length, take, drop};
 ghost use Rattle.meaning.specs.Bytes.{all_zero, spell, put};
 ghost use Rattle.meaning.specs.Schema.{trailer};

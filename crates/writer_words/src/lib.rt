@@ -1,4 +1,6 @@
 // What the words of a value give of an item.
+#![tactic(auto)]
+
 ghost use Rattle.std.specs.Prelude.{◌≡◌, cond, ◌≤◌, get_or};
 ghost use Rattle.writer_words.specs.Tellings.{unspoken, number, list, telling, slot_of, start_at, given_slot, reached_after, few_words};
 
@@ -6,7 +8,7 @@ pub use fields::{BODY_WORDS, FREE_WORD, TRAIL_WORDS, VALUE_WORDS};
 use meaning::{Item, Shape};
 
 // How far the words are told: the next word, and the counts remembered last and before that.
-#[derive(Drop)]
+#[derive(Clone, Copy)]
 pub struct Reached {
     pub at: usize,
     pub n: u64,
@@ -14,7 +16,7 @@ pub struct Reached {
 }
 
 // What the words give of an item: its number; of a list or a name the place in the source and the count, in elements.
-#[derive(Drop)]
+#[derive(Clone, Copy)]
 pub struct Given {
     pub number: u64,
     pub place: u64,
@@ -23,7 +25,7 @@ pub struct Given {
 
 // How words tell a shape: how many of them, is the first a number or a place; which count a list has (the last one, the
 // one before it, else its second word); and whether the number is remembered as a count, and the last count before it too.
-#[derive(Drop)]
+#[derive(Clone, Copy)]
 pub struct Telling {
     pub many: usize,
     pub number: bool,

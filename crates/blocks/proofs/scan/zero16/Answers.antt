@@ -1,0 +1,11 @@
+-- Sixteen bytes have a zero where one of their two halves has.
+use borrow.Author.Rules.{rules}
+use mathlib.Core.Path.{sym, ap₂, ◌∙◌}
+use mathlib.Core.Bool.{◌||◌}
+use Rattle.blocks.specs.ScanLaws.{zero-join}
+use Rattle.blocks.proofs.scan.zero16.Goals as goal
+
+pub returns : goal.returns
+returns c =
+    let a = c.args in
+    ap₂ ◌||◌ c.zero8.ensures c.zero8-2.ensures ∙ sym (zero-join 8 8 a.s.now a.at)

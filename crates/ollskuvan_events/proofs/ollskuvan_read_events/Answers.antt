@@ -1,0 +1,6 @@
+-- It has the contract of `event_read::read_events`, at this edition and 1,024 events at the most.
+use borrow.Author.Rules.{rules}
+use Rattle.ollskuvan_events.proofs.ollskuvan_read_events.Goals as goal
+
+pub returns : goal.returns
+returns c = let old : _ × _ = c.read_events.ensures in record { value = old.0; fields_after = old.1; }

@@ -1,0 +1,6 @@
+-- It has the contract of `event_one::read_one_events`, at this edition and 1,024 events at the most.
+use borrow.Author.Rules.{rules}
+use Rattle.ollskuvan_events.proofs.ollskuvan_read_one_events.Goals as goal
+
+pub returns : goal.returns
+returns c = let old : _ × _ × _ = c.read_one_events.ensures in record { value = old.0; scratch_after = old.1.0; fields_after = old.1.1; }

@@ -1,0 +1,6 @@
+-- It has the contract of `fast_event_drain::drain_events`, at this edition and 1,024 events at the most.
+use borrow.Author.Rules.{rules}
+use Rattle.ollskuvan_table.proofs.ollskuvan_drain_events.Goals as goal
+
+pub returns : goal.returns
+returns c = let old : _ × _ × _ = c.drain_events.ensures in record { value = old.0; journal_after = old.1.0; scratch_after = old.1.1; }

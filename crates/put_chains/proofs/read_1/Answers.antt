@@ -1,0 +1,36 @@
+-- `put_chains::read_1` meets its contract: each call puts the next item of the list, its guard found bit by bit, from where the call before it ended. Assumes nothing.
+-- Written by tools/write_chains.py from the rows of crate table.
+use mathlib.Core.Path.{refl, ap, ◌∙◌}
+use mathlib.Core.Bool.{not}
+use native.Mathlib.Omega.{arith}
+use Rattle.meaning.specs.Values.{tell, width}
+use Rattle.write_puts.specs.Puts.{placed-none, placed₁, head₁, next₁}
+use borrow.Author.Rules.{rules}
+use Rattle.put_chains.proofs.read_1.Goals as goal
+
+pub number-c0-requires : goal.number-c0-requires
+unfolding tell
+number-c0-requires c = (head₁ refl c.requires.0, omega (arith, c.requires.1))
+
+pub number-c1-requires : goal.number-c1-requires
+unfolding tell
+number-c1-requires c = (head₁ refl (next₁ refl c.requires.0 c.number-c0.ensures), omega (arith, c.requires.1))
+
+pub number-c2-requires : goal.number-c2-requires
+unfolding tell
+number-c2-requires c = (head₁ (ap not c.has_bit.ensures) (next₁ refl (next₁ refl c.requires.0 c.number-c0.ensures) c.number-c1.ensures), omega (arith, c.requires.1))
+
+pub count-c3-requires : goal.count-c3-requires
+unfolding tell
+count-c3-requires c = (head₁ c.has_bit-2.ensures (next₁ (ap not c.has_bit.ensures) (next₁ refl (next₁ refl c.requires.0 c.number-c0.ensures) c.number-c1.ensures) c.number-c2.ensures), omega (arith, c.requires.1))
+
+pub number-requires : goal.number-requires
+unfolding tell
+number-requires c = (head₁ c.has_bit-3.ensures (next₁ c.has_bit-2.ensures (next₁ (ap not c.has_bit.ensures) (next₁ refl (next₁ refl c.requires.0 c.number-c0.ensures) c.number-c1.ensures) c.number-c2.ensures) c.count-c3.ensures), omega (arith, c.requires.1))
+
+pub shape_of-buffer : goal.shape_of-buffer
+shape_of-buffer c = c.number.ensures.long ∙ c.count-c3.ensures.long ∙ c.number-c2.ensures.long ∙ c.number-c1.ensures.long ∙ c.number-c0.ensures.long
+
+pub returns : goal.returns
+unfolding tell width
+returns c = (placed₁ c.has_bit-3.ensures (placed₁ c.has_bit-2.ensures (placed₁ (ap not c.has_bit.ensures) (placed₁ refl (placed₁ refl placed-none c.number-c0.ensures) c.number-c1.ensures) c.number-c2.ensures) c.count-c3.ensures) c.number.ensures)

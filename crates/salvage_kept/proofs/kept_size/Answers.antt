@@ -1,0 +1,65 @@
+-- Each refusal denies one of the four things that a kept record has (`Kept`); past the last test all four hold.
+use mathlib.Core.Path.{◌≡◌, sym, ap, ◌∙◌}
+use Prim.Native.Nat.{ℕ, ◌%◌}
+use native.Mathlib.Omega.{arith}
+use lib.ListN.{take}
+use lib.Seq.{length-take-le}
+use Rattle.meaning.specs.Editions.{editions}
+use Rattle.meaning.specs.Events.{events_of}
+use Rattle.meaning.specs.Records.{size_of}
+use Rattle.salvage.specs.Salvage.{table_judge}
+use Rattle.salvage.specs.Steps.{Kept}
+use Rattle.salvage.specs.Turns.{size_none, size-some}
+use borrow.Author.Rules.{rules}
+use Rattle.salvage_kept.proofs.kept_size.Goals as goal
+
+pub returns-then-left-lt8 : goal.returns-then-left-lt8
+returns-then-left-lt8 c = let a = c.args in size_none _ a.left.now (λ (k : Kept (table_judge editions a.e (events_of a.rows.now)) a.left.now). omega (arith, k.low, k.inside, c.if-left-lt8.true))
+
+pub returns-then-size-lt8 : goal.returns-then-size-lt8
+unfolding size_of
+returns-then-size-lt8 c =
+    let a = c.args in
+    let z : size_of a.left.now ≡ c.u16_at-size.result = sym c.u16_at-size.ensures.0 in
+    size_none _ a.left.now (λ (k : Kept (table_judge editions a.e (events_of a.rows.now)) a.left.now). omega (arith, z, k.low, c.if-size-lt8.true))
+
+pub returns-then-size-ne0 : goal.returns-then-size-ne0
+unfolding size_of
+returns-then-size-ne0 c =
+    let a = c.args in
+    let z : size_of a.left.now ≡ c.u16_at-size.result = sym c.u16_at-size.ensures.0 in
+    size_none _ a.left.now (λ (k : Kept (table_judge editions a.e (events_of a.rows.now)) a.left.now). c.if-size-ne0.true (ap (λ (n : ℕ). n % 8) (sym z) ∙ k.eight))
+
+pub returns-then-left-size : goal.returns-then-left-size
+unfolding size_of
+returns-then-left-size c =
+    let a = c.args in
+    let z : size_of a.left.now ≡ c.u16_at-size.result = sym c.u16_at-size.ensures.0 in
+    size_none _ a.left.now (λ (k : Kept (table_judge editions a.e (events_of a.rows.now)) a.left.now). omega (arith, z, k.inside, c.if-left-size.true))
+
+pub slice_bounds-judge-end : goal.slice_bounds-judge-end
+slice_bounds-judge-end c = sym (length-take-le _ _ c.if-left-size.false)
+
+pub judge-requires : goal.judge-requires
+judge-requires c = omega (arith, c.if-size-lt8.false, c.if-left-size.false, length-take-le c.u16_at-size.result c.args.left.now c.if-left-size.false)
+
+pub returns-then-judge-ne0 : goal.returns-then-judge-ne0
+unfolding size_of
+returns-then-judge-ne0 c =
+    let a = c.args in
+    let z : size_of a.left.now ≡ c.u16_at-size.result = sym c.u16_at-size.ensures.0 in
+    size_none _ a.left.now (λ (k : Kept (table_judge editions a.e (events_of a.rows.now)) a.left.now).
+    c.if-judge-ne0.true (c.judge.ensures ∙ ap (λ (n : ℕ). table_judge editions a.e (events_of a.rows.now) (take n a.left.now)) (sym z) ∙ k.body))
+
+pub returns : goal.returns
+unfolding size_of
+returns c =
+    let a = c.args in
+    let z : size_of a.left.now ≡ c.u16_at-size.result = sym c.u16_at-size.ensures.0 in
+    sym z ∙ size-some _ a.left.now
+    (record {
+      low = omega (arith, z, c.if-size-lt8.false);
+      eight = ap (λ (n : ℕ). n % 8) z ∙ c.if-size-ne0.false;
+      inside = omega (arith, z, c.if-left-size.false);
+      body = ap (λ (n : ℕ). table_judge editions a.e (events_of a.rows.now) (take n a.left.now)) z ∙ sym c.judge.ensures ∙ c.if-judge-ne0.false;
+    })

@@ -1,0 +1,40 @@
+-- `sample_fills::sample_4` meets its contract: each call fills the words of the next item of the list, its guard found bit by bit, and leaves what the item after it asks. Assumes nothing.
+-- Written by tools/chains.py from the rows of crate table.
+use mathlib.Core.Path.{ap₂}
+use mathlib.Core.Bool.{◌&&◌}
+use Rattle.meaning.specs.Values.{tell}
+use Rattle.fills.specs.Chains.{start, done, long, head₁, next₁}
+use borrow.Author.Rules.{rules}
+use Rattle.sample_fills.proofs.sample_4.Goals as goal
+
+pub count8-c0-requires : goal.count8-c0-requires
+unfolding tell
+count8-c0-requires c = head₁ c.has_bit.ensures (start c.requires)
+
+pub times-c1-requires : goal.times-c1-requires
+unfolding tell
+times-c1-requires c = head₁ c.has_bit-2.ensures (next₁ c.has_bit.ensures (start c.requires) c.count8-c0.ensures)
+
+pub size4-c2-requires : goal.size4-c2-requires
+unfolding tell
+size4-c2-requires c = head₁ c.has_bit-3.ensures (next₁ c.has_bit-2.ensures (next₁ c.has_bit.ensures (start c.requires) c.count8-c0.ensures) c.times-c1.ensures)
+
+pub times-c3-requires : goal.times-c3-requires
+unfolding tell
+times-c3-requires c = head₁ c.has_bit-4.ensures (next₁ c.has_bit-3.ensures (next₁ c.has_bit-2.ensures (next₁ c.has_bit.ensures (start c.requires) c.count8-c0.ensures) c.times-c1.ensures) c.size4-c2.ensures)
+
+pub count8-c4-requires : goal.count8-c4-requires
+unfolding tell
+count8-c4-requires c = head₁ c.has_bit-5.ensures (next₁ c.has_bit-4.ensures (next₁ c.has_bit-3.ensures (next₁ c.has_bit-2.ensures (next₁ c.has_bit.ensures (start c.requires) c.count8-c0.ensures) c.times-c1.ensures) c.size4-c2.ensures) c.times-c3.ensures)
+
+pub number8-requires : goal.number8-requires
+unfolding tell
+number8-requires c = head₁ (ap₂ ◌&&◌ c.has_bit-6.ensures c.has_bit-7.ensures) (next₁ c.has_bit-5.ensures (next₁ c.has_bit-4.ensures (next₁ c.has_bit-3.ensures (next₁ c.has_bit-2.ensures (next₁ c.has_bit.ensures (start c.requires) c.count8-c0.ensures) c.times-c1.ensures) c.size4-c2.ensures) c.times-c3.ensures) c.count8-c4.ensures)
+
+pub shape_of-out : goal.shape_of-out
+unfolding tell
+shape_of-out c = long (done (next₁ (ap₂ ◌&&◌ c.has_bit-6.ensures c.has_bit-7.ensures) (next₁ c.has_bit-5.ensures (next₁ c.has_bit-4.ensures (next₁ c.has_bit-3.ensures (next₁ c.has_bit-2.ensures (next₁ c.has_bit.ensures (start c.requires) c.count8-c0.ensures) c.times-c1.ensures) c.size4-c2.ensures) c.times-c3.ensures) c.count8-c4.ensures) c.number8.ensures))
+
+pub returns : goal.returns
+unfolding tell
+returns c = done (next₁ (ap₂ ◌&&◌ c.has_bit-6.ensures c.has_bit-7.ensures) (next₁ c.has_bit-5.ensures (next₁ c.has_bit-4.ensures (next₁ c.has_bit-3.ensures (next₁ c.has_bit-2.ensures (next₁ c.has_bit.ensures (start c.requires) c.count8-c0.ensures) c.times-c1.ensures) c.size4-c2.ensures) c.times-c3.ensures) c.count8-c4.ensures) c.number8.ensures)

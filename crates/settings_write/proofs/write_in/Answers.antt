@@ -1,0 +1,94 @@
+-- The tests in their order; where none refuses, three runs of bytes, each right after the other, are the store.
+use mathlib.Core.Path.{◌≡◌, sym, ap, ◌∙◌}
+use mathlib.Core.Bool.{true}
+use mathlib.Core.List.{List}
+use Prim.Native.Nat.{ℕ, ◌+◌, ◌≤◌}
+use native.Mathlib.Omega.{arith}
+use lib.ListN.{length}
+use borrow.Author.Tests.{not-true, not-false}
+use Rattle.meaning.specs.Bytes.{put}
+use Rattle.meaning.specs.Editions.{editions, allowed}
+use Rattle.meaning.specs.Ring.{length_allowed}
+use Rattle.settings.specs.Versions.{place_of}
+use Rattle.settings.specs.Puts.{place-bound, store-put, write-11, write-1, write-2, write-40, write-0, write-refused, write-given}
+use Rattle.entries.specs.Entries.{entry_bytes}
+use Rattle.meaning.specs.Events.{events_of, sound}
+use Rattle.settings.specs.Writing.{stored}
+use Rattle.settings.specs.Back.{rows-limit}
+use borrow.Author.Rules.{rules}
+use Rattle.settings_write.proofs.write_in.Tie as tie
+use Rattle.settings_write.proofs.write_in.Goals as goal
+
+sounds : (c : tie.Else1) → sound c.args.v.limit (events_of c.args.rows.now) ≡ true
+sounds c = sym c.sound.ensures ∙ not-false c.sound.result c.if-not-sound.false
+
+ringed : (c : tie.Else2) → length_allowed c.args.ring ≡ true
+ringed c = sym c.length_allowed.ensures ∙ not-false c.length_allowed.result c.if-not-length_allowed.false
+
+editioned : (c : tie.Else3) → allowed editions c.args.edition ≡ true
+editioned c = sym c.allowed.ensures ∙ not-false c.allowed.result c.if-not-allowed.false
+
+few : (c : tie.Else3) → length c.args.rows.now ≤ 1024
+few c =
+    let a = c.args in
+    omega (arith, rows-limit a.v.limit a.rows.now (sounds c.before.before.before.before.before), c.requires.most)
+
+pub returns-then-not-sound : goal.returns-then-not-sound
+returns-then-not-sound c =
+    let a = c.args in
+    let rows = a.rows.now in
+    let d = a.buffer.now in
+    let p = write-refused a.v editions rows a.ring a.edition a.budget d 11
+    (write-11 a.v editions rows a.ring a.edition a.budget (length d) (sym c.sound.ensures ∙ not-true c.sound.result c.if-not-sound.true))
+    (λ (e : ◌≡◌ {A = ℕ} 11 0). omega arith) in record { value = c.told.ensures ∙ p.0; buffer_after = p.1; }
+
+pub returns-then-not-length_allowed : goal.returns-then-not-length_allowed
+returns-then-not-length_allowed c =
+    let a = c.args in
+    let rows = a.rows.now in
+    let d = a.buffer.now in
+    let p = write-refused a.v editions rows a.ring a.edition a.budget d 1
+    (write-1 a.v editions rows a.ring a.edition a.budget (length d) (sounds c.before.before.before.before)
+    (sym c.length_allowed.ensures ∙ not-true c.length_allowed.result c.if-not-length_allowed.true))
+    (λ (e : ◌≡◌ {A = ℕ} 1 0). omega arith) in record { value = c.told-then-not-length_allowed.ensures ∙ p.0; buffer_after = p.1; }
+
+pub returns-then-not-allowed : goal.returns-then-not-allowed
+returns-then-not-allowed c =
+    let a = c.args in
+    let rows = a.rows.now in
+    let d = a.buffer.now in
+    let p = write-refused a.v editions rows a.ring a.edition a.budget d 2
+    (write-2 a.v editions rows a.ring a.edition a.budget (length d) (sounds c.before.before.before.before.before.before) (ringed c.before.before.before.before)
+    (sym c.allowed.ensures ∙ not-true c.allowed.result c.if-not-allowed.true))
+    (λ (e : ◌≡◌ {A = ℕ} 2 0). omega arith) in record { value = c.told-then-not-allowed.ensures ∙ p.0; buffer_after = p.1; }
+
+pub place_of-at-requires : goal.place_of-at-requires
+place_of-at-requires c = (c.requires, few c)
+
+pub overflow_add-at : goal.overflow_add-at
+overflow_add-at c =
+    omega (arith, c.place_of-at.ensures, place-bound c.args.v (length c.args.rows.now) c.requires, few c.before.before)
+
+pub returns-then-buffer-at : goal.returns-then-buffer-at
+returns-then-buffer-at c =
+    let a = c.args in
+    let rows = a.rows.now in
+    let d = a.buffer.now in
+    let p = write-refused a.v editions rows a.ring a.edition a.budget d 40
+    (write-40 a.v editions rows a.ring a.edition a.budget (length d) (sounds c.before.before.before.before.before.before.before.before) (ringed c.before.before.before.before.before.before) (editioned c.before.before.before.before) (omega (arith, c.if-buffer-at.true, c.place_of-at.ensures)))
+    (λ (e : ◌≡◌ {A = ℕ} 40 0). omega arith) in record { value = c.told-then-buffer-at.ensures ∙ p.0; buffer_after = p.1; }
+
+pub overflow_add-at-2 : goal.overflow_add-at-2
+overflow_add-at-2 c =
+    omega (arith, c.place_of-at.ensures, place-bound c.args.v (length c.args.rows.now) c.requires, few c.before.before.before.before.before.before.before.before.before.before.before.before.before.before.before.before.before)
+
+pub returns : goal.returns
+returns c =
+    let a = c.args in
+    let rows = a.rows.now in
+    let d = a.buffer.now in
+    let p : c.before.before.before.before.before.before.before.before.before.before.before.before.before.before.before.before.place_of.result ≡ place_of a.v (length rows) = c.place_of-at.ensures in
+    let m : place_of a.v (length rows) + 19 ≤ length d = omega (arith, c.if-buffer-at.false, p) in
+    let g = write-given a.v editions rows a.ring a.edition a.budget d (write-0 a.v editions rows a.ring a.edition a.budget (length d) (sounds c.before.before.before.before.before.before.before.before.before.before.before.before.before.before.before.before.before.before.before.before.before.before) (ringed c.before.before.before.before.before.before.before.before.before.before.before.before.before.before.before.before.before.before.before.before) (editioned c.before.before.before.before.before.before.before.before.before.before.before.before.before.before.before.before.before.before) m) in record { value = c.told-2.ensures ∙ ap (λ (k : ℕ). stored 0 (k + 19)) p ∙ g.0; buffer_after = store-put a.v d _ _ _ rows c.place_of-at.result a.ring a.edition a.budget p m
+          (c.put_entry.ensures ∙ ap (λ (b : List ℕ). put d 0 (entry_bytes 1 b)) c.le16-shown.ensures) c.put_rows.ensures c.put_last.ensures
+          ∙ g.1; }
