@@ -172,12 +172,12 @@ module _ (R : Reads) (good : SoundReads R) (xs ys : List ℕ) (wx : Whole xs) (w
 
 -- ---- tests of equality
 
-pub same_bytes : (xs ys : List ℕ) → same_bytes xs ys ≡ true → xs ≡ ys
+pub same_bytes_lem : (xs ys : List ℕ) → same_bytes xs ys ≡ true → xs ≡ ys
 unfolding same_bytes
-same_bytes [] [] h = refl
-same_bytes [] (y ∷ ys) h = absurd (apart h)
-same_bytes (x ∷ xs) [] h = absurd (apart h)
-same_bytes (x ∷ xs) (y ∷ ys) h = let p = and-true (eqb x y) (same_bytes xs ys) h in ap₂ (λ (a : ℕ) (l : List ℕ). a ∷ l) (eqb-true x y p.0) (same_bytes xs ys p.1)
+same_bytes_lem [] [] h = refl
+same_bytes_lem [] (y ∷ ys) h = absurd (apart h)
+same_bytes_lem (x ∷ xs) [] h = absurd (apart h)
+same_bytes_lem (x ∷ xs) (y ∷ ys) h = let p = and-true (eqb x y) (same_bytes xs ys) h in ap₂ (λ (a : ℕ) (l : List ℕ). a ∷ l) (eqb-true x y p.0) (same_bytes_lem xs ys p.1)
 
 bytes_same : (xs : List ℕ) → same_bytes xs xs ≡ true
 unfolding same_bytes
@@ -186,7 +186,7 @@ bytes_same (x ∷ xs) = true-and _ _ (eq-eqb x x refl) (bytes_same xs)
 
 pub same-con : (u v : Con) → same u v ≡ true → u ≡ v
 unfolding same
-same-con u v h = let p = and-true (eqb u.num v.num) (same_bytes u.list v.list) h in con-of v u.num u.list (eqb-true _ _ p.0) (same_bytes _ _ p.1)
+same-con u v h = let p = and-true (eqb u.num v.num) (same_bytes u.list v.list) h in con-of v u.num u.list (eqb-true _ _ p.0) (same_bytes_lem _ _ p.1)
 
 con-same : (u : Con) → same u u ≡ true
 unfolding same

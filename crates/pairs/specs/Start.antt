@@ -26,7 +26,7 @@ use Rattle.table.specs.Turns.{rows_next, rows-over}
 use Rattle.event_laws.specs.Match.{matched-has}
 use Rattle.compare.specs.Fields.{first, other_fields, Reads, fields}
 use Rattle.compare.specs.Compared.{same_bytes, alike, agree, event_reads}
-use Rattle.compare.specs.Pairs.{same_bytes, same_alike}
+use Rattle.compare.specs.Pairs.{same_bytes_lem, same_alike}
 use Rattle.compare.specs.Others.{five}
 use Rattle.twins.specs.Twins.{Beside, Like}
 use Rattle.pair_fields.specs.declared.Pos.{Pos}
@@ -39,7 +39,7 @@ pub other_length : (xs ys : List ℕ) → (length xs ≡ length ys → ⊥) → 
 other_length xs ys n = by (same_bytes xs ys) refl
   where
     by : (b : Bool) → same_bytes xs ys ≡ b → false ≡ b
-    by true e = absurd (n (ap length (same_bytes xs ys e)))
+    by true e = absurd (n (ap length (same_bytes_lem xs ys e)))
     by false e = refl
 
 pub whole-bytes : (xs ys : List ℕ) → length xs ≡ length ys → same_bytes (take (length xs) (drop 0 xs)) (take (length xs) (drop 0 ys)) ≡ same_bytes xs ys

@@ -21,7 +21,7 @@ use Rattle.laws.specs.There.{item}
 use Rattle.laws.specs.Again.{fine, stepped, ItemPassed, item-passed, outcome}
 use Rattle.blocks.specs.Seen.{walk-append}
 use Rattle.blocks.specs.Steady.{steady, total, steady-in, steady-out}
-use Rattle.compare.specs.Pairs.{same_bytes}
+use Rattle.compare.specs.Pairs.{same_bytes_lem}
 use Rattle.twins.specs.Twins.{Abreast, Read, Twins}
 use Rattle.same_parts.specs.Parts.{same_span, same_but_four, name_same}
 
@@ -168,7 +168,7 @@ span-abreast s t i j e h =
       long = e;
       low = leb-true i j a.0;
       high = leb-true j (length s) b.0;
-      bytes = sym (same_bytes (take (j - i) (drop i s)) (take (j - i) (drop i t)) c.1);
+      bytes = sym (same_bytes_lem (take (j - i) (drop i s)) (take (j - i) (drop i t)) c.1);
     }
 
 -- ---- one item

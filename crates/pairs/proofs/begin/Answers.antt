@@ -12,7 +12,7 @@ use Rattle.meaning.specs.Events.{attributes_of, event_at, events_of, identifiers
 use Rattle.laws.specs.Bytes.{apart}
 use Rattle.laws.specs.Lookup.{rows-length}
 use Rattle.compare.specs.Compared.{event_reads}
-use Rattle.compare.specs.Pairs.{same_bytes}
+use Rattle.compare.specs.Pairs.{same_bytes_lem}
 use Rattle.compare.specs.Others.{same-record, other-answer, other-refused, other-kind, other-misc, other-size, other-identifier}
 use Rattle.pair_fields.specs.Fields.{settled-stands, differs-stands}
 use Rattle.laws.specs.Numbers.{kind-is, misc-is, size_is}
@@ -52,7 +52,7 @@ attributes-are c = c.attributes_at.ensures ∙ ap (λ (i : ℕ). attributes_of (
 -- equal bytes
 pub returns-then-same_record : goal.returns-then-same_record
 returns-then-same_record c =
-    let e = same-record (event_reads (known editions c.args.e) (events_of c.args.rows.now)) c.args.x.now c.args.y.now (same_bytes c.args.x.now c.args.y.now (sym c.same_record.ensures ∙ c.if-same_record.true)) in
+    let e = same-record (event_reads (known editions c.args.e) (events_of c.args.rows.now)) c.args.x.now c.args.y.now (same_bytes_lem c.args.x.now c.args.y.now (sym c.same_record.ensures ∙ c.if-same_record.true)) in
     settled-stands c.args.x.now c.args.y.now _ _ 0 _ c.settled.result c.settled.ensures (sym e) (λ z. absurd (apart (sym z ∙ e)))
 
 pub judge-answer-requires : goal.judge-answer-requires

@@ -5,7 +5,7 @@ use Rattle.meaning.specs.Editions.{editions, known}
 use Rattle.meaning.specs.Events.{events_of}
 use Rattle.laws.specs.Bytes.{apart}
 use Rattle.compare.specs.Compared.{event_reads}
-use Rattle.compare.specs.Pairs.{same_bytes}
+use Rattle.compare.specs.Pairs.{same_bytes_lem}
 use Rattle.compare.specs.Others.{same-record}
 use Rattle.pair_fields.specs.Fields.{settled-stands}
 use Rattle.pairs.proofs.look.Goals as goal
@@ -13,7 +13,7 @@ use Rattle.pairs.proofs.look.Goals as goal
 pub returns-then-same_record : goal.returns-then-same_record
 returns-then-same_record c =
     let a = c.args in
-    let e = same-record (event_reads (known editions a.e) (events_of a.rows.now)) a.x.now a.y.now (same_bytes a.x.now a.y.now (sym c.same_record.ensures ∙ c.if-same_record.true)) in
+    let e = same-record (event_reads (known editions a.e) (events_of a.rows.now)) a.x.now a.y.now (same_bytes_lem a.x.now a.y.now (sym c.same_record.ensures ∙ c.if-same_record.true)) in
     settled-stands a.x.now a.y.now _ _ 0 _ c.settled.result c.settled.ensures (sym e) (λ z. absurd (apart (sym z ∙ e)))
 
 pub returns-then-like : goal.returns-then-like
