@@ -9,12 +9,14 @@ use Rattle.meaning.specs.Editions.{unreadable}
 use Rattle.marks.specs.Bases.{bases_with, bases-long, FilledRange, types-marked, types-refused}
 use Rattle.marks.specs.Marks.{last_type, no_type, mark_count, unreadable-most}
 use Rattle.all_marks.proofs.type_marks.Tie as tie
+use Rattle.all_marks.proofs.type_marks.Lts as lts
+use Rattle.all_marks.proofs.type_marks.Reads as reads
 use Rattle.all_marks.proofs.type_marks.Goals as goal
 
-made : (c : tie.After-filled) → FilledRange (bases_with c.args.trail) (c.args.known.kinds + 1) (last_type + 1) no_type c.filled-p.result
+made : (c : lts.After-filled tie.the-claims reads.Pre reads.Post tie.handed_clauses) → FilledRange (bases_with c.args.trail) (c.args.known.kinds + 1) (last_type + 1) no_type c.filled-p.result
 made c = subst (λ (p : List ℕ). FilledRange p (c.args.known.kinds + 1) (last_type + 1) no_type c.filled-p.result) c.bases.ensures c.filled-p.ensures
 
-long : (c : tie.After-filled) → length c.filled-p.result ≡ mark_count
+long : (c : lts.After-filled tie.the-claims reads.Pre reads.Post tie.handed_clauses) → length c.filled-p.result ≡ mark_count
 long c = (made c).long ∙ bases-long c.args.trail
 
 pub overflow_add-next : goal.overflow_add-next

@@ -12,29 +12,31 @@ use Rattle.meaning.specs.Backward.{back_call_rows, placed, back_frame}
 use Rattle.laws.specs.Rows.{stopped-yes, stopped-no, stopped_none}
 use Rattle.laws.specs.Rings.{length-bounds, header-whole}
 use Rattle.back_rows.proofs.next_back.Tie as tie
+use Rattle.back_rows.proofs.next_back.Lts as lts
+use Rattle.back_rows.proofs.next_back.Reads as reads
 use Rattle.back_rows.proofs.next_back.Goals as goal
 
 -- the rows from row k on, at the function's arguments
-abbrev Rest : ℕ → tie.Start → Frame
+abbrev Rest : ℕ → lts.Start tie.the-claims reads.Pre reads.Post tie.handed_clauses → Frame
 Rest k s =
     let a = s.args in
     stopped (drop k (back_call_rows (asking_with a.ok a.table) (length a.ring.now) a.head))
     (placed a.ring.now (distance a.count a.head) (a.count % length a.ring.now) a.left a.journal a.scratch)
 
-past1 : (c : tie.Else1) → Rest 0 c.before.before.before.before ≡ Rest 1 c.before.before.before.before
+past1 : (c : lts.Else1 tie.the-claims reads.Pre reads.Post tie.handed_clauses) → Rest 0 c.before.before.before.before ≡ Rest 1 c.before.before.before.before
 past1 c = stopped-no _ _ _ (ap not (sym c.length_allowed.ensures) ∙ c.if-not-length_allowed.false)
 
-past2 : (c : tie.Else2) → Rest 0 c.before.before.before.before.before ≡ Rest 2 c.before.before.before.before.before
+past2 : (c : lts.Else2 tie.the-claims reads.Pre reads.Post tie.handed_clauses) → Rest 0 c.before.before.before.before.before ≡ Rest 2 c.before.before.before.before.before
 past2 c = past1 c.before.before ∙ stopped-no _ _ _ c.if-not-ok.false
 
-past3 : (c : tie.Else3) → Rest 0 c.before.before.before.before.before.before ≡ Rest 3 c.before.before.before.before.before.before
+past3 : (c : lts.Else3 tie.the-claims reads.Pre reads.Post tie.handed_clauses) → Rest 0 c.before.before.before.before.before.before ≡ Rest 3 c.before.before.before.before.before.before
 past3 c = past2 c.before.before ∙ stopped-no _ _ _ (ap not (eq-eqb _ _ c.if-head-ne0.false))
 
-past4 : (c : tie.Else4) → Rest 0 c.before.before.before.before.before.before.before ≡ Rest 4 c.before.before.before.before.before.before.before
+past4 : (c : lts.Else4 tie.the-claims reads.Pre reads.Post tie.handed_clauses) → Rest 0 c.before.before.before.before.before.before.before ≡ Rest 4 c.before.before.before.before.before.before.before
 past4 c = past3 c.before.before ∙ stopped-no _ _ _ c.if-not-table.false
 
 -- the ring's length is allowed
-lawful : (c : tie.Else1) → length_allowed (length c.args.ring.now) ≡ true
+lawful : (c : lts.Else1 tie.the-claims reads.Pre reads.Post tie.handed_clauses) → length_allowed (length c.args.ring.now) ≡ true
 lawful c = not-false _ (ap not (sym c.length_allowed.ensures) ∙ c.if-not-length_allowed.false)
 
 pub returns-then-not-length_allowed : goal.returns-then-not-length_allowed

@@ -12,15 +12,17 @@ use Rattle.meaning.specs.Ring.{go_at, stopped}
 use Rattle.laws.specs.Rows.{stopped-yes, stopped-no, stopped_none}
 use Rattle.meaning.specs.Backward.{place_rows, placed}
 use Rattle.back_rows.proofs.placed_at.Tie as tie
+use Rattle.back_rows.proofs.placed_at.Lts as lts
+use Rattle.back_rows.proofs.placed_at.Reads as reads
 use Rattle.back_rows.proofs.placed_at.Goals as goal
 
 -- the rows from row k on, of the size that was read
-abbrev Rest : ℕ → tie.After-u16-at → Frame
+abbrev Rest : ℕ → lts.After-u16_at tie.the-claims reads.Pre reads.Post tie.handed_clauses → Frame
 Rest k u =
     let a = u.before.before.args in
     stopped (drop k (place_rows a.ring.now a.way a.place u.u16-at.result a.left a.journal a.scratch)) (go_at a.place u.u16-at.result)
 
-begin : (u : tie.After-u16-at)
+begin : (u : lts.After-u16_at tie.the-claims reads.Pre reads.Post tie.handed_clauses)
     → placed u.args.ring.now u.args.way u.args.place u.args.left u.args.journal u.args.scratch ≡ Rest 0 u
 unfolding placed
 begin u =
@@ -35,25 +37,25 @@ far : (n way size : ℕ) → way < n → n - way < size → ltb n (way + size) �
 far n way size h e = lt-ltb n (way + size) (omega arith)
 
 -- past row k, the answer is that of the rows after it
-past1 : (c : tie.Else1) → Rest 0 c.before.before ≡ Rest 1 c.before.before
+past1 : (c : lts.Else1 tie.the-claims reads.Pre reads.Post tie.handed_clauses) → Rest 0 c.before.before ≡ Rest 1 c.before.before
 past1 c = stopped-no _ _ _ (lt-leb _ _ c.if-len-way.false)
 
-past2 : (c : tie.Else2) → Rest 0 c.before.before.before ≡ Rest 2 c.before.before.before
+past2 : (c : lts.Else2 tie.the-claims reads.Pre reads.Post tie.handed_clauses) → Rest 0 c.before.before.before ≡ Rest 2 c.before.before.before
 past2 c = past1 c.before.before ∙ stopped-no _ _ _ (ne_eqb _ _ c.if-size-eq0.false)
 
-past3 : (c : tie.Else3) → Rest 0 c.before.before.before.before ≡ Rest 3 c.before.before.before.before
+past3 : (c : lts.Else3 tie.the-claims reads.Pre reads.Post tie.handed_clauses) → Rest 0 c.before.before.before.before ≡ Rest 3 c.before.before.before.before
 past3 c = past2 c.before.before ∙ stopped-no _ _ _ (le-ltb _ _ c.if-size-lt8.false)
 
-past4 : (c : tie.Else4) → Rest 0 c.before.before.before.before.before ≡ Rest 4 c.before.before.before.before.before
+past4 : (c : lts.Else4 tie.the-claims reads.Pre reads.Post tie.handed_clauses) → Rest 0 c.before.before.before.before.before ≡ Rest 4 c.before.before.before.before.before
 past4 c = past3 c.before.before ∙ stopped-no _ _ _ (ap not (eq-eqb _ _ c.if-size-ne0.false))
 
-past5 : (c : tie.Else5) → Rest 0 c.before.before.before.before.before.before ≡ Rest 5 c.before.before.before.before.before.before
+past5 : (c : lts.Else5 tie.the-claims reads.Pre reads.Post tie.handed_clauses) → Rest 0 c.before.before.before.before.before.before ≡ Rest 5 c.before.before.before.before.before.before
 past5 c = past4 c.before.before ∙ stopped-no _ _ _ (near _ _ _ c.if-len-way.false c.if-len-way-2.false)
 
-past6 : (c : tie.Else6) → Rest 0 c.before.before.before.before.before.before.before ≡ Rest 6 c.before.before.before.before.before.before.before
+past6 : (c : lts.Else6 tie.the-claims reads.Pre reads.Post tie.handed_clauses) → Rest 0 c.before.before.before.before.before.before.before ≡ Rest 6 c.before.before.before.before.before.before.before
 past6 c = past5 c.before.before ∙ stopped-no _ _ _ (ne_eqb _ _ c.if-left-eq0.false)
 
-past7 : (c : tie.Else7) → Rest 0 c.before.before.before.before.before.before.before.before ≡ Rest 7 c.before.before.before.before.before.before.before.before
+past7 : (c : lts.Else7 tie.the-claims reads.Pre reads.Post tie.handed_clauses) → Rest 0 c.before.before.before.before.before.before.before.before ≡ Rest 7 c.before.before.before.before.before.before.before.before
 past7 c = past6 c.before.before ∙ stopped-no _ _ _ (le-ltb _ _ c.if-journal-lt16.false)
 
 pub returns-then-len-way : goal.returns-then-len-way

@@ -9,9 +9,11 @@ use borrow.Author.Tests.{not-true, not-false}
 use Rattle.blocks.specs.Seen.{size_bound, going, as-known}
 use Rattle.blocks.specs.Blocks.{branch_list, branch_fixed, counted_place, three-off, branch-ends}
 use Rattle.blocks.proofs.branches.Tie as tie
+use Rattle.blocks.proofs.branches.Lts as lts
+use Rattle.blocks.proofs.branches.Reads as reads
 use Rattle.blocks.proofs.branches.Goals as goal
 
-fixed-is : (c : tie.Joined2) → c.if-index.fixed ≡ branch_fixed c.args.index
+fixed-is : (c : lts.Joined2 tie.the-claims reads.Pre reads.Post tie.handed_clauses) → c.if-index.fixed ≡ branch_fixed c.args.index
 fixed-is c = ⊎_elim (λ w. w.1 ∙ sym (ap branch_fixed w.0.taken)) (λ w. w.1 ∙ sym (ap branch_fixed w.0.left)) c.if-index.branch
 
 -- 8 or 16
@@ -23,7 +25,7 @@ pub returns-then-not-on : goal.returns-then-not-on
 returns-then-not-on c =
     let a = c.args in
     let xs : List ℕ = a.s.now in
-    as-known (λ (t : Bool). branch_list t a.index) xs a.at _ false a.on (not-true a.on c.if-not-on.true) (going xs _ a.at a.at (omega arith) (three-off xs _ _ _ a.at))
+    as-known (λ (t : Bool). branch_list t a.index) xs a.at _ false a.on c.if-not-on.true (going xs _ a.at a.at (omega arith) (three-off xs _ _ _ a.at))
 
 pub elements-requires : goal.elements-requires
 elements-requires c =
@@ -33,5 +35,5 @@ pub returns : goal.returns
 returns c =
     let a = c.args in
     let xs : List ℕ = a.s.now in
-    as-known (λ (t : Bool). branch_list t a.index) xs a.at _ true a.on (not-false a.on c.if-not-on.false)
+    as-known (λ (t : Bool). branch_list t a.index) xs a.at _ true a.on c.if-not-on.false
     (branch-ends xs a.index a.at c.requires.at_in_bounds _ (c.elements.ensures ∙ ap (λ (k : ℕ). counted_place xs a.at k 24) (fixed-is c.before.before)))

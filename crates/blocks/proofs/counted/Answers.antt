@@ -15,11 +15,11 @@ pub returns-then-not-on : goal.returns-then-not-on
 returns-then-not-on c =
     let a = c.args in
     let xs : List ℕ = a.s.now in
-    as-known (λ (t : Bool). counted_list t a.unit) xs a.at _ false a.on (not-true a.on c.if-not-on.true) (going xs _ a.at a.at (omega arith) (two-off xs _ _ a.at))
+    as-known (λ (t : Bool). counted_list t a.unit) xs a.at _ false a.on c.if-not-on.true (going xs _ a.at a.at (omega arith) (two-off xs _ _ a.at))
 
 pub returns : goal.returns
 unfolding steady total
 returns c =
     let a = c.args in
-    as-known (λ (t : Bool). counted_list t a.unit) a.s.now a.at _ true a.on (not-false a.on c.if-not-on.false)
+    as-known (λ (t : Bool). counted_list t a.unit) a.s.now a.at _ true a.on c.if-not-on.false
     (counted-ends a.s.now a.at 8 a.unit [] refl refl c.requires.at_in_bounds _ c.elements.ensures)

@@ -18,17 +18,19 @@ use Rattle.pair_fields.specs.Inner.{FieldsStand, to_go}
 use Rattle.laws.specs.Numbers.{small_of}
 use Rattle.pair_fields.specs.Fields.{stands_on, stands-ended, stands-other}
 use Rattle.comparing.proofs.compare_rings.Tie as tie
+use Rattle.comparing.proofs.compare_rings.Lts as lts
+use Rattle.comparing.proofs.compare_rings.Reads as reads
 use Rattle.comparing.proofs.compare_rings.Goals as goal
 
 -- the frames of this turn, as the definition has them
-left-frame : (c : tie.After-next-frame2 invariant-loop decreases-loop invariant-records decreases-records)
+left-frame : (c : lts.After-next_frame2 tie.the-claims reads.Pre reads.Post tie.handed_clauses goal.the-invariant-loop-p goal.the-decreases-loop-p goal.the-invariant-records goal.the-decreases-records invariant-records decreases-records)
     → c.next_frame-f.result ≡ frame (asked_events c.args.limit editions c.args.e (events_of c.args.rows.now)) c.args.left.now c.args.lhead c.records.tl 1 16 (length c.records.lscratch)
 left-frame c =
     let a = c.args in
     let l = c.records in
     c.next_frame-f.ensures ∙ ap₂ (λ (ok table : Bool). frame (asking_with ok table) a.left.now a.lhead l.tl 1 16 (length l.lscratch)) c.allowed-ok.ensures c.sound-table.ensures
 
-right-frame : (c : tie.After-next-frame2 invariant-loop decreases-loop invariant-records decreases-records)
+right-frame : (c : lts.After-next_frame2 tie.the-claims reads.Pre reads.Post tie.handed_clauses goal.the-invariant-loop-p goal.the-decreases-loop-p goal.the-invariant-records goal.the-decreases-records invariant-records decreases-records)
     → c.next_frame-g.result ≡ frame (asked_events c.args.limit editions c.args.e (events_of c.args.rows.now)) c.args.right.now c.args.rhead c.records.tr 1 16 (length c.records.rscratch)
 right-frame c =
     let a = c.args in
@@ -36,10 +38,10 @@ right-frame c =
     c.next_frame-g.ensures ∙ ap₂ (λ (ok table : Bool). frame (asking_with ok table) a.right.now a.rhead l.tr 1 16 (length l.rscratch)) c.allowed-ok.ensures c.sound-table.ensures
 
 -- both go on
-both : (c : tie.Else1 invariant-loop decreases-loop invariant-records decreases-records) → (c.next_frame-f.result.go ≡ true) × (c.next_frame-g.result.go ≡ true)
-both c = and-true c.next_frame-f.result.go c.next_frame-g.result.go (not-false (c.next_frame-f.result.go && c.next_frame-g.result.go) c.if-not-both.false)
+both : (c : lts.Else1 tie.the-claims reads.Pre reads.Post tie.handed_clauses goal.the-invariant-loop-p goal.the-decreases-loop-p goal.the-invariant-records goal.the-decreases-records invariant-records decreases-records) → (c.next_frame-f.result.go ≡ true) × (c.next_frame-g.result.go ≡ true)
+both c = and-true c.next_frame-f.result.go c.next_frame-g.result.go c.if-not-both.false
 
-pair-at : (c : tie.Else1 invariant-loop decreases-loop invariant-records decreases-records)
+pair-at : (c : lts.Else1 tie.the-claims reads.Pre reads.Post tie.handed_clauses goal.the-invariant-loop-p goal.the-decreases-loop-p goal.the-invariant-records goal.the-decreases-records invariant-records decreases-records)
     → PairOf (event_reads (known editions c.args.e) (events_of c.args.rows.now)) (asked_events c.args.limit editions c.args.e (events_of c.args.rows.now)) c.args.left.now c.args.right.now c.args.lhead c.args.rhead c.args.ltail c.args.rtail c.args.lscratch.now c.args.rscratch.now
     c.records.n c.records.tl c.records.tr c.records.lscratch c.records.rscratch c.next_frame-f.result c.next_frame-g.result
 pair-at c =
@@ -49,16 +51,16 @@ pair-at c =
     (small_of a.left.now c.type_inv.left.given) (small_of a.right.now c.type_inv.right.given) c.ranges.lhead.fits c.ranges.rhead.fits
     l.n l.tl l.tr l.lscratch l.rscratch c.next_frame-f.result c.next_frame-g.result l.invariant (left-frame c.before.before.before.before) (right-frame c.before.before.before.before) (both c).0 (both c).1
 
-left-going : (c : tie.Else1 invariant-loop decreases-loop invariant-records decreases-records)
+left-going : (c : lts.Else1 tie.the-claims reads.Pre reads.Post tie.handed_clauses goal.the-invariant-loop-p goal.the-decreases-loop-p goal.the-invariant-records goal.the-decreases-records invariant-records decreases-records)
     → Going (asked_events c.args.limit editions c.args.e (events_of c.args.rows.now)) c.args.left.now c.args.lhead c.records.tl 1 16 (length c.records.lscratch) c.next_frame-f.result
 left-going c = frame-going _ _ _ _ _ _ _ c.next_frame-f.result (left-frame c.before.before.before.before) (both c).0
 
-right-going : (c : tie.Else1 invariant-loop decreases-loop invariant-records decreases-records)
+right-going : (c : lts.Else1 tie.the-claims reads.Pre reads.Post tie.handed_clauses goal.the-invariant-loop-p goal.the-decreases-loop-p goal.the-invariant-records goal.the-decreases-records invariant-records decreases-records)
     → Going (asked_events c.args.limit editions c.args.e (events_of c.args.rows.now)) c.args.right.now c.args.rhead c.records.tr 1 16 (length c.records.rscratch) c.next_frame-g.result
 right-going c = frame-going _ _ _ _ _ _ _ c.next_frame-g.result (right-frame c.before.before.before.before) (both c).1
 
 -- what is shown are the records
-left-bytes : (c : tie.After-shown invariant-loop decreases-loop invariant-records decreases-records)
+left-bytes : (c : lts.After-shown tie.the-claims reads.Pre reads.Post tie.handed_clauses goal.the-invariant-loop-p goal.the-decreases-loop-p goal.the-invariant-records goal.the-decreases-records invariant-records decreases-records)
     → c.shown-x.result.now ≡ record_at c.args.left.now c.next_frame-f.result.place c.next_frame-f.result.size
 left-bytes c =
     let a = c.args in
@@ -68,7 +70,7 @@ left-bytes c =
     ∙ ap (λ (l : List ℕ). shown a.left.now l f) c.gather.ensures
     ∙ shown-record a.left.now c.records.lscratch f (both c.before.before.before.before.before.before.before.before.before.before.before).0 (le_of_lt w.inside) (le_trans w.size-near w.near) w.fits
 
-right-bytes : (c : tie.After-shown2 invariant-loop decreases-loop invariant-records decreases-records)
+right-bytes : (c : lts.After-shown2 tie.the-claims reads.Pre reads.Post tie.handed_clauses goal.the-invariant-loop-p goal.the-decreases-loop-p goal.the-invariant-records goal.the-decreases-records invariant-records decreases-records)
     → c.shown-y.result.now ≡ record_at c.args.right.now c.next_frame-g.result.place c.next_frame-g.result.size
 right-bytes c =
     let a = c.args in
@@ -100,7 +102,7 @@ returns-then-not-both c =
     let r =
     here-ends (event_reads (known editions a.e) (events_of a.rows.now)) (asked_events a.limit editions a.e (events_of a.rows.now)) a.left.now a.right.now a.lhead a.rhead a.ltail a.rtail a.lscratch.now a.rscratch.now
     (small_of a.left.now c.type_inv.left.given) (small_of a.right.now c.type_inv.right.given) c.ranges.lhead.fits c.ranges.rhead.fits
-    l.n l.tl l.tr l.lscratch l.rscratch f g c.ended.result l.invariant (left-frame c.before.before.before.before.before) (right-frame c.before.before.before.before.before) (not-true (f.go && g.go) c.if-not-both.true) c.ended.ensures in record { value = r.result; lscratch_after = r.left; rscratch_after = r.right; }
+    l.n l.tl l.tr l.lscratch l.rscratch f g c.ended.result l.invariant (left-frame c.before.before.before.before.before) (right-frame c.before.before.before.before.before) c.if-not-both.true c.ended.ensures in record { value = r.result; lscratch_after = r.left; rscratch_after = r.right; }
 
 -- a frame that goes on has a sound table, and its record is whole
 pub look-p-requires : goal.look-p-requires
@@ -136,7 +138,7 @@ records-preserved c =
     let l = c.records in
     let R : Reads = event_reads (known editions a.e) (events_of a.rows.now) in
     let i = c.loop-p.invariant in
-    let s = stands-ended c.shown-x.result.now c.shown-y.result.now _ _ c.loop-p.p i (not-false _ c.if-not-p.false) c.if-p.true in
+    let s = stands-ended c.shown-x.result.now c.shown-y.result.now _ _ c.loop-p.p i c.if-not-p.false c.if-p.true in
     let t = ap₂ (λ (x y : List ℕ). alike (fields R x) (fields R y)) (sym (left-bytes c.before.before.before.before.before.before.before.before.before.before)) (sym (right-bytes c.before.before.before.before.before.before.before.before)) ∙ s in
     here-same R (asked_events a.limit editions a.e (events_of a.rows.now)) a.left.now a.right.now a.lhead a.rhead a.ltail a.rtail a.lscratch.now a.rscratch.now
     _ _ _ _ _ _ _ _ _ _ (sym (add-one l.n)) (sym c.wrapping_add_u64-tl.ensures) (sym c.wrapping_add_u64-tr.ensures) (sym c.gather.ensures) (sym c.gather-in-records.ensures)
@@ -153,7 +155,7 @@ returns c =
     let a = c.args in
     let R : Reads = event_reads (known editions a.e) (events_of a.rows.now) in
     let i = c.loop-p.invariant in
-    let d = stands-other c.shown-x.result.now c.shown-y.result.now _ _ c.loop-p.p i (not-true _ c.if-not-p.true) in
+    let d = stands-other c.shown-x.result.now c.shown-y.result.now _ _ c.loop-p.p i c.if-not-p.true in
     let s = ap₂ (λ (x y : List ℕ). alike (fields R x) (fields R y)) (sym (left-bytes c.before.before.before.before.before.before.before.before)) (sym (right-bytes c.before.before.before.before.before.before)) ∙ d.0 in
     let t = ap₂ (λ (x y : List ℕ). agree (fields R x) (fields R y)) (sym (left-bytes c.before.before.before.before.before.before.before.before)) (sym (right-bytes c.before.before.before.before.before.before)) ∙ d.1 in
     let r = ensured-same R (asked_events a.limit editions a.e (events_of a.rows.now)) a.left.now a.right.now a.lhead a.rhead a.ltail a.rtail a.lscratch.now a.rscratch.now c.tell.result _ _ _ _

@@ -15,24 +15,24 @@ use Rattle.event_check.proofs.unasked.Goals as goal
 pub returns-then-not-allowed : goal.returns-then-not-allowed
 returns-then-not-allowed c =
     let a = c.args in
-    asks-2 a.limit editions a.e (events_of a.rows.now) a.r.now (sym c.allowed.ensures ∙ not-true c.allowed.result c.if-not-allowed.true)
+    asks-2 a.limit editions a.e (events_of a.rows.now) a.r.now (sym c.allowed.ensures ∙ c.if-not-allowed.true)
 
 pub returns-then-not-sound : goal.returns-then-not-sound
 returns-then-not-sound c =
     let a = c.args in
-    asks-11 a.limit editions a.e (events_of a.rows.now) a.r.now (sym c.allowed.ensures ∙ not-false c.allowed.result c.if-not-allowed.false) (sym c.sound.ensures ∙ not-true c.sound.result c.if-not-sound.true)
+    asks-11 a.limit editions a.e (events_of a.rows.now) a.r.now (sym c.allowed.ensures ∙ c.if-not-allowed.false) (sym c.sound.ensures ∙ c.if-not-sound.true)
 
 pub returns-then-r-lt8 : goal.returns-then-r-lt8
 returns-then-r-lt8 c =
     let a = c.args in
-    asks-short a.limit editions a.e (events_of a.rows.now) a.r.now (sym c.allowed.ensures ∙ not-false c.allowed.result c.if-not-allowed.false) (sym c.sound.ensures ∙ not-false c.sound.result c.if-not-sound.false) c.if-r-lt8.true
+    asks-short a.limit editions a.e (events_of a.rows.now) a.r.now (sym c.allowed.ensures ∙ c.if-not-allowed.false) (sym c.sound.ensures ∙ c.if-not-sound.false) c.if-r-lt8.true
 
 pub returns-then-not-even : goal.returns-then-not-even
 unfolding size_of
 returns-then-not-even c =
     let a = c.args in
     let n = c.u16_at-size.result in
-    asks-6 a.limit editions a.e (events_of a.rows.now) a.r.now (sym c.allowed.ensures ∙ not-false c.allowed.result c.if-not-allowed.false) (sym c.sound.ensures ∙ not-false c.sound.result c.if-not-sound.false) c.if-r-lt8.false n c.u16_at-size.ensures.0
+    asks-6 a.limit editions a.e (events_of a.rows.now) a.r.now (sym c.allowed.ensures ∙ c.if-not-allowed.false) (sym c.sound.ensures ∙ c.if-not-sound.false) c.if-r-lt8.false n c.u16_at-size.ensures.0
     (not-true (leb 8 n && eqb (n % 8) 0) c.if-not-even.true)
 
 pub returns-then-not-whole : goal.returns-then-not-whole
@@ -40,7 +40,7 @@ unfolding size_of
 returns-then-not-whole c =
     let a = c.args in
     let n = c.u16_at-size.result in
-    asks-7 a.limit editions a.e (events_of a.rows.now) a.r.now (sym c.allowed.ensures ∙ not-false c.allowed.result c.if-not-allowed.false) (sym c.sound.ensures ∙ not-false c.sound.result c.if-not-sound.false) c.if-r-lt8.false n c.u16_at-size.ensures.0
+    asks-7 a.limit editions a.e (events_of a.rows.now) a.r.now (sym c.allowed.ensures ∙ c.if-not-allowed.false) (sym c.sound.ensures ∙ c.if-not-sound.false) c.if-r-lt8.false n c.u16_at-size.ensures.0
     (not-false (leb 8 n && eqb (n % 8) 0) c.if-not-even.false) (not-true (eqb n (length a.r.now)) c.if-not-whole.true)
 
 pub returns : goal.returns
@@ -48,5 +48,5 @@ unfolding size_of
 returns c =
     let a = c.args in
     let n = c.u16_at-size.result in
-    asks-0 a.limit editions a.e (events_of a.rows.now) a.r.now (sym c.allowed.ensures ∙ not-false c.allowed.result c.if-not-allowed.false) (sym c.sound.ensures ∙ not-false c.sound.result c.if-not-sound.false) c.if-r-lt8.false n c.u16_at-size.ensures.0
+    asks-0 a.limit editions a.e (events_of a.rows.now) a.r.now (sym c.allowed.ensures ∙ c.if-not-allowed.false) (sym c.sound.ensures ∙ c.if-not-sound.false) c.if-r-lt8.false n c.u16_at-size.ensures.0
     (not-false (leb 8 n && eqb (n % 8) 0) c.if-not-even.false) (not-false (eqb n (length a.r.now)) c.if-not-whole.false)

@@ -13,22 +13,24 @@ use Rattle.event_laws.specs.Told.{read_event_answer, read_event_words}
 use Rattle.event_one.specs.Told.{with_inspected}
 use Rattle.event_one.proofs.Laws.{told-frame, scratch-frame, words-frame}
 use Rattle.event_one.proofs.read_one_events.Tie as tie
+use Rattle.event_one.proofs.read_one_events.Lts as lts
+use Rattle.event_one.proofs.read_one_events.Reads as reads
 use Rattle.event_one.proofs.read_one_events.Goals as goal
 
-framed : (c : tie.After-next-frame) → c.next_frame-frame.result ≡ one_events_frame c.args.limit editions c.args.e (events_of c.args.rows.now) c.args.ring.now c.args.head c.args.tail c.args.scratch.now
+framed : (c : lts.After-next_frame tie.the-claims reads.Pre reads.Post tie.handed_clauses) → c.next_frame-frame.result ≡ one_events_frame c.args.limit editions c.args.e (events_of c.args.rows.now) c.args.ring.now c.args.head c.args.tail c.args.scratch.now
 framed c =
     let s = c.args in
     c.next_frame-frame.ensures
     ∙ ap₂ (λ (b k : Bool). frame (asking_with b k) s.ring.now s.head s.tail 1 16 (length s.scratch.now)) c.allowed-ok.ensures c.sound-table.ensures
 
-go : (c : tie.Else1) → c.next_frame-frame.result.go ≡ true
-go c = not-false c.next_frame-frame.result.go c.if-not-frame.false
+go : (c : lts.Else1 tie.the-claims reads.Pre reads.Post tie.handed_clauses) → c.next_frame-frame.result.go ≡ true
+go c = c.if-not-frame.false
 
-going : (c : tie.Else1) → Going (asked_events c.args.limit editions c.args.e (events_of c.args.rows.now)) c.args.ring.now c.args.head c.args.tail 1 16 (length c.args.scratch.now) c.next_frame-frame.result
+going : (c : lts.Else1 tie.the-claims reads.Pre reads.Post tie.handed_clauses) → Going (asked_events c.args.limit editions c.args.e (events_of c.args.rows.now)) c.args.ring.now c.args.head c.args.tail 1 16 (length c.args.scratch.now) c.next_frame-frame.result
 going c = frame-going _ _ _ _ _ _ _ c.next_frame-frame.result (framed c.before.before.before) (go c)
 
 -- what is shown of the ring and the gathered scratch is the record, whichever of them it lies in
-bytes : (c : tie.After-shown) → c.shown-r.result.now ≡ record_at c.args.ring.now c.next_frame-frame.result.place c.next_frame-frame.result.size
+bytes : (c : lts.After-shown tie.the-claims reads.Pre reads.Post tie.handed_clauses) → c.shown-r.result.now ≡ record_at c.args.ring.now c.next_frame-frame.result.place c.next_frame-frame.result.size
 bytes c =
     let s = c.args in
     let f = c.next_frame-frame.result in
@@ -42,7 +44,7 @@ returns-then-not-frame c =
     let s = c.args in
     let f = c.next_frame-frame.result in
     let e = framed c.before.before.before.before in
-    let stops = not-true f.go c.if-not-frame.true in record { value = told-frame s.limit editions s.e (events_of s.rows.now) s.ring.now s.head s.tail s.scratch.now s.words.now f e false stops; scratch_after = scratch-frame s.limit editions s.e (events_of s.rows.now) s.ring.now s.head s.tail s.scratch.now s.words.now f e false stops; words_after = words-frame s.limit editions s.e (events_of s.rows.now) s.ring.now s.head s.tail s.scratch.now s.words.now f e false stops; }
+    let stops = c.if-not-frame.true in record { value = told-frame s.limit editions s.e (events_of s.rows.now) s.ring.now s.head s.tail s.scratch.now s.words.now f e false stops; scratch_after = scratch-frame s.limit editions s.e (events_of s.rows.now) s.ring.now s.head s.tail s.scratch.now s.words.now f e false stops; words_after = words-frame s.limit editions s.e (events_of s.rows.now) s.ring.now s.head s.tail s.scratch.now s.words.now f e false stops; }
 
 pub read_event-j-requires : goal.read_event-j-requires
 read_event-j-requires c =

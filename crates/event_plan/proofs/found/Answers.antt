@@ -14,9 +14,11 @@ use Rattle.sums.specs.Sums.{sums_of}
 use Rattle.marks.specs.Marks.{Wanted, Marked, size-judged}
 use Rattle.slots.specs.Slots.{SlotOf, attributes_for}
 use Rattle.event_plan.proofs.found.Tie as tie
+use Rattle.event_plan.proofs.found.Lts as lts
+use Rattle.event_plan.proofs.found.Reads as reads
 use Rattle.event_plan.proofs.found.Goals as goal
 
-module _ (s : tie.Start) where
+module _ (s : lts.Start tie.the-claims reads.Pre reads.Post tie.handed_clauses) where
   abbrev its : Attributes
   its = attributes_for (events_of s.args.rows.now) s.args.id
 
@@ -27,7 +29,7 @@ module _ (s : tie.Start) where
   is-there : get_or s.args.slot.now 1 0 ≡ 2
   is-there = s.requires.slot_value
 
-same : (c : tie.After-attributes-at) → c.attributes_at-a.result ≡ its c.before.before.before.before.before.before
+same : (c : lts.After-attributes_at tie.the-claims reads.Pre reads.Post tie.handed_clauses) → c.attributes_at-a.result ≡ its c.before.before.before.before.before.before
 same c =
     c.attributes_at-a.ensures ∙ ap (λ (j : ℕ). attributes_of (event_at (events_of c.args.rows.now) j)) ((slot c.before.before.before.before.before.before).index (is-there c.before.before.before.before.before.before)).0
 

@@ -14,14 +14,16 @@ use Rattle.sums.specs.Sums.{trail-small, sums-given}
 use Rattle.marks.specs.Marks.{Marked, unreadable-most}
 use Rattle.slots.specs.Slots.{Planned, attributes_for}
 use Rattle.event_plan.proofs.mark_of.Tie as tie
+use Rattle.event_plan.proofs.mark_of.Lts as lts
+use Rattle.event_plan.proofs.mark_of.Reads as reads
 use Rattle.event_plan.proofs.mark_of.Goals as goal
 
 -- what the slot says of the event
-planned : (s : tie.Start) → Planned s.args.known (attributes_for (events_of s.args.rows.now) s.args.id) s.args.slot.now
+planned : (s : lts.Start tie.the-claims reads.Pre reads.Post tie.handed_clauses) → Planned s.args.known (attributes_for (events_of s.args.rows.now) s.args.id) s.args.slot.now
 planned s = s.requires.slot_of.planned s.requires.slot_value
 
 -- the attributes at the noted index are the event's
-same : (c : tie.After-attributes-at) → c.attributes_at-a.result ≡ attributes_for (events_of c.args.rows.now) c.args.id
+same : (c : lts.After-attributes_at tie.the-claims reads.Pre reads.Post tie.handed_clauses) → c.attributes_at-a.result ≡ attributes_for (events_of c.args.rows.now) c.args.id
 same c =
     c.attributes_at-a.ensures ∙ ap (λ (j : ℕ). attributes_of (event_at (events_of c.args.rows.now) j)) (c.requires.slot_of.index c.requires.slot_value).0
 

@@ -9,9 +9,11 @@ use Rattle.meaning.specs.Records.{kind_of, layout, judge}
 use Rattle.meaning.specs.Events.{events_of, identifier_of}
 use Rattle.slots.specs.Slots.{SlotOf, attributes_for, standing-small, slot-refused, slot-judged}
 use Rattle.event_plan.proofs.slot_answer.Tie as tie
+use Rattle.event_plan.proofs.slot_answer.Lts as lts
+use Rattle.event_plan.proofs.slot_answer.Reads as reads
 use Rattle.event_plan.proofs.slot_answer.Goals as goal
 
-module _ (s : tie.Start) where
+module _ (s : lts.Start tie.the-claims reads.Pre reads.Post tie.handed_clauses) where
   from : 1 ≤ kind_of s.args.r.now
   from = omega (arith, s.requires.kind_value, s.requires.le_kind)
 

@@ -17,16 +17,16 @@ pub returns-then-limit-n : goal.returns-then-limit-n
 returns-then-limit-n c = let a = c.args in sym (sound-long a.limit (events_of a.rows.now) (omega (arith, c.if-limit-n.true, rows-length a.rows.now)))
 
 pub returns-then-not-all_marked : goal.returns-then-not-all_marked
-returns-then-not-all_marked c = let a = c.args in sym (sound-unmarked a.limit (events_of a.rows.now) (sym c.all_marked.ensures ∙ not-true c.all_marked.result c.if-not-all_marked.true))
+returns-then-not-all_marked c = let a = c.args in sym (sound-unmarked a.limit (events_of a.rows.now) (sym c.all_marked.ensures ∙ c.if-not-all_marked.true))
 
 pub returns-then-rises : goal.returns-then-rises
 returns-then-rises c =
     let a = c.args in
-    sym (sound-by a.limit (events_of a.rows.now) (omega (arith, rows-length a.rows.now)) (omega (arith, rows-length a.rows.now)) (sym c.all_marked.ensures ∙ not-false c.all_marked.result c.if-not-all_marked.false)
+    sym (sound-by a.limit (events_of a.rows.now) (omega (arith, rows-length a.rows.now)) (omega (arith, rows-length a.rows.now)) (sym c.all_marked.ensures ∙ c.if-not-all_marked.false)
     ∙ rises-distinct (keys a.rows.now) (sym c.rises.ensures ∙ c.if-rises.true))
 
 pub returns : goal.returns
 returns c =
     let a = c.args in
     c.apart.ensures
-    ∙ sym (sound-by a.limit (events_of a.rows.now) (omega (arith, rows-length a.rows.now)) (omega (arith, rows-length a.rows.now)) (sym c.all_marked.ensures ∙ not-false c.all_marked.result c.if-not-all_marked.false))
+    ∙ sym (sound-by a.limit (events_of a.rows.now) (omega (arith, rows-length a.rows.now)) (omega (arith, rows-length a.rows.now)) (sym c.all_marked.ensures ∙ c.if-not-all_marked.false))

@@ -13,10 +13,12 @@ use Rattle.blocks.specs.Steady.{steady, total}
 use Rattle.blocks.specs.Blocks.{counted_place}
 use Rattle.exact.specs.Stretches.{groups, group_fixed, group-bound, unit-bound, front-stuck, front-plain, front-group}
 use Rattle.exact_sample.proofs.front.Tie as tie
+use Rattle.exact_sample.proofs.front.Lts as lts
+use Rattle.exact_sample.proofs.front.Reads as reads
 use Rattle.exact_sample.proofs.front.Goals as goal
 
 -- what the sum leaves of any fields that it is the sum of
-summed : (c : tie.After-sum) (is : List Item) → steady is ≡ true → total is ≡ get_or c.args.sums.now 1 0 → Ends c.args.s.now is 8 c.sum-c.result
+summed : (c : lts.After-sum tie.the-claims reads.Pre reads.Post tie.handed_clauses) (is : List Item) → steady is ≡ true → total is ≡ get_or c.args.sums.now 1 0 → Ends c.args.s.now is 8 c.sum-c.result
 summed c is f e = (c.sum-c.ensures.leaves is f e, c.sum-c.ensures.at_in_bounds)
 
 pub returns-then-c-ne0 : goal.returns-then-c-ne0

@@ -6,14 +6,16 @@ use Rattle.blocks.specs.Seen.{Ends, as-known, first-refuses, second-refuses, all
 use Rattle.meaning.specs.Bytes.{bit}
 use Rattle.blocks.specs.Blocks.{counted_list, raw_bytes, branch_list}
 use Rattle.exact_sample.proofs.lists.Tie as tie
+use Rattle.exact_sample.proofs.lists.Lts as lts
+use Rattle.exact_sample.proofs.lists.Reads as reads
 use Rattle.exact_sample.proofs.lists.Goals as goal
 
 -- what each block left, by the attributes' own bits
-chain : (c : tie.After-counted) → Ends c.args.s.now (counted_list (bit c.args.a.sample 5) 8) c.args.at c.counted-c.result
+chain : (c : lts.After-counted tie.the-claims reads.Pre reads.Post tie.handed_clauses) → Ends c.args.s.now (counted_list (bit c.args.a.sample 5) 8) c.args.at c.counted-c.result
 chain c = as-known (λ (t : Bool). counted_list t 8) _ _ _ _ _ (sym c.has_bit.ensures) c.counted-c.ensures
 
-rawed : (c : tie.After-raw) → Ends c.args.s.now (raw_bytes (bit c.args.a.sample 10)) c.counted-c.result.at c.raw-d.result
-rawed c = as-known raw_bytes _ _ _ _ _ (sym c.has_bit-2.ensures) c.raw-d.ensures
+rawed : (c : lts.After-raw tie.the-claims reads.Pre reads.Post tie.handed_clauses) → Ends c.args.s.now (raw_bytes (bit c.args.a.sample 10)) c.counted-c.result.at c.raw-d.result
+rawed c = as-known raw_bytes _ _ _ _ _ (sym c.has_bit-2.ensures) (c.raw-d.ensures.leaves, c.raw-d.ensures.at_in_bounds)
 
 pub returns-then-c-ne0 : goal.returns-then-c-ne0
 returns-then-c-ne0 c = first-refuses _ _ (raw_bytes (bit c.args.a.sample 10)) (branch_list (bit c.args.a.sample 11) (bit c.args.a.branch 17)) _ _ (chain c.before.before.before) c.if-c-ne0.true

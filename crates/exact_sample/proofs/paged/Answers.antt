@@ -6,9 +6,11 @@ use Rattle.blocks.specs.Seen.{Ends, as-known, one-refuses, both_end}
 use Rattle.blocks.specs.Blocks.{aux_bytes}
 use Rattle.exact.specs.Stretches.{after, after-steady}
 use Rattle.exact_sample.proofs.paged.Tie as tie
+use Rattle.exact_sample.proofs.paged.Lts as lts
+use Rattle.exact_sample.proofs.paged.Reads as reads
 use Rattle.exact_sample.proofs.paged.Goals as goal
 
-summed : (c : tie.After-sum) → Ends c.args.s.now (after c.args.a) c.args.at c.sum-c.result
+summed : (c : lts.After-sum tie.the-claims reads.Pre reads.Post tie.handed_clauses) → Ends c.args.s.now (after c.args.a) c.args.at c.sum-c.result
 summed c = (c.sum-c.ensures.leaves (after c.args.a) (after-steady c.args.a) (sym c.requires.sums.after-sum), c.sum-c.ensures.at_in_bounds)
 
 pub returns-then-c-ne0 : goal.returns-then-c-ne0
@@ -19,4 +21,4 @@ aux-requires c = (summed c.before.before.before.before).1 c.if-c-ne0.false
 
 pub returns : goal.returns
 returns c =
-    both_end _ _ (aux_bytes (bit c.args.a.sample 20)) _ _ _ (summed c.before.before.before.before.before) c.if-c-ne0.false (as-known aux_bytes _ _ _ _ _ (sym c.has_bit.ensures) c.aux.ensures)
+    both_end _ _ (aux_bytes (bit c.args.a.sample 20)) _ _ _ (summed c.before.before.before.before.before) c.if-c-ne0.false (as-known aux_bytes _ _ _ _ _ (sym c.has_bit.ensures) (c.aux.ensures.leaves, c.aux.ensures.at_in_bounds))

@@ -11,16 +11,18 @@ use Rattle.blocks.specs.Steady.{sizes, sizes-same}
 use Rattle.meaning.specs.Schema.{sample_last}
 use Rattle.exact.specs.Stretches.{late, weighed, paged, last-closes}
 use Rattle.exact_sample.proofs.rest.Tie as tie
+use Rattle.exact_sample.proofs.rest.Lts as lts
+use Rattle.exact_sample.proofs.rest.Reads as reads
 use Rattle.exact_sample.proofs.rest.Goals as goal
 
 -- neither is selected
-early : (c : tie.Then1) → late c.args.a ≡ false
+early : (c : lts.Then1 tie.the-claims reads.Pre reads.Post tie.handed_clauses) → late c.args.a ≡ false
 early c =
-    let g₀ = not-true (c.has_bit.result || c.has_bit-2.result) c.if-not-late.true in
+    let g₀ = c.if-not-late.true in
     cc
 
 -- one sum, compared with what is left
-one-sum : (c : tie.Then1) → Closes c.args.s.now (sample_last c.args.a) c.args.at (sizes (length c.args.s.now - c.args.at) (get_or c.args.sums.now 2 0))
+one-sum : (c : lts.Then1 tie.the-claims reads.Pre reads.Post tie.handed_clauses) → Closes c.args.s.now (sample_last c.args.a) c.args.at (sizes (length c.args.s.now - c.args.at) (get_or c.args.sums.now 2 0))
 one-sum c =
     last-closes c.args.s.now c.args.a c.args.at _ (early c) (c.requires.sums.last c.requires.a_value (early c)) c.requires.at_in_bounds
 

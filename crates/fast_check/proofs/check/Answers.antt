@@ -13,26 +13,28 @@ use Rattle.laws.specs.Bytes.{and-true}
 use Rattle.reader.specs.Laws.{headed}
 use Rattle.answers.specs.Checks.{check-edition, check-short, check-odd, check-other, check-whole}
 use Rattle.fast_check.proofs.check.Tie as tie
+use Rattle.fast_check.proofs.check.Lts as lts
+use Rattle.fast_check.proofs.check.Reads as reads
 use Rattle.fast_check.proofs.check.Goals as goal
 
 -- past the first test
-known-edition : (c : tie.Else1) → allowed editions c.args.e ≡ true
-known-edition c = sym c.allowed.ensures ∙ not-false _ c.if-not-allowed.false
+known-edition : (c : lts.Else1 tie.the-claims reads.Pre reads.Post tie.handed_clauses) → allowed editions c.args.e ≡ true
+known-edition c = sym c.allowed.ensures ∙ c.if-not-allowed.false
 
 -- the size that the header tells
-told : (c : tie.After-read-header) → c.read_header-h.result.size ≡ size_of c.args.r.now
+told : (c : lts.After-read_header tie.the-claims reads.Pre reads.Post tie.handed_clauses) → c.read_header-h.result.size ≡ size_of c.args.r.now
 told c = (headed _ _ c.read_header-h.ensures c.if-r-lt8.false).size_is
 
 -- the judge's answer where the size is the slice's length
-sized : (c : tie.Else4) → (x : ℕ) → x ≡ judge (layout (known editions c.args.e) c.args.a) c.args.r.now
+sized : (c : lts.Else4 tie.the-claims reads.Pre reads.Post tie.handed_clauses) → (x : ℕ) → x ≡ judge (layout (known editions c.args.e) c.args.a) c.args.r.now
     → x ≡ check editions c.args.e c.args.a c.args.r.now
 sized c x h =
     let a = c.args in
     h
-    ∙ check-whole editions a.e a.a a.r.now (known-edition c.before.before.before.before.before) c.if-r-lt8.false _ (told c.before.before.before) (not-false _ c.if-not-even.false) (not-false _ c.if-not-whole.false)
+    ∙ check-whole editions a.e a.a a.r.now (known-edition c.before.before.before.before.before) c.if-r-lt8.false _ (told c.before.before.before) c.if-not-even.false c.if-not-whole.false
 
 pub returns-then-not-allowed : goal.returns-then-not-allowed
-returns-then-not-allowed c = let a = c.args in check-edition editions a.e a.a a.r.now (sym c.allowed.ensures ∙ not-true _ c.if-not-allowed.true)
+returns-then-not-allowed c = let a = c.args in check-edition editions a.e a.a a.r.now (sym c.allowed.ensures ∙ c.if-not-allowed.true)
 
 pub returns-then-r-lt8 : goal.returns-then-r-lt8
 returns-then-r-lt8 c = let a = c.args in check-short editions a.e a.a a.r.now (known-edition c.before.before) c.if-r-lt8.true
@@ -40,12 +42,12 @@ returns-then-r-lt8 c = let a = c.args in check-short editions a.e a.a a.r.now (k
 pub returns-then-not-even : goal.returns-then-not-even
 returns-then-not-even c =
     let a = c.args in
-    check-odd editions a.e a.a a.r.now (known-edition c.before.before.before.before) c.if-r-lt8.false _ (told c.before.before) (not-true _ c.if-not-even.true)
+    check-odd editions a.e a.a a.r.now (known-edition c.before.before.before.before) c.if-r-lt8.false _ (told c.before.before) c.if-not-even.true
 
 pub returns-then-not-whole : goal.returns-then-not-whole
 returns-then-not-whole c =
     let a = c.args in
-    check-other editions a.e a.a a.r.now (known-edition c.before.before.before.before.before) c.if-r-lt8.false _ (told c.before.before.before) (not-false _ c.if-not-even.false) (not-true _ c.if-not-whole.true)
+    check-other editions a.e a.a a.r.now (known-edition c.before.before.before.before.before) c.if-r-lt8.false _ (told c.before.before.before) c.if-not-even.false c.if-not-whole.true
 
 pub returns-then-size-gt65535 : goal.returns-then-size-gt65535
 returns-then-size-gt65535 c = sized c.before.before.before _ c.judge.ensures
@@ -55,9 +57,9 @@ planned-requires c =
     let a = c.args in
     let n = length a.r.now in
     let size = c.read_header-h.result.size in
-    let v = and-true (leb 8 size) (eqb (size % 8) 0) (not-false _ c.if-not-even.false) in
+    let v = and-true (leb 8 size) (eqb (size % 8) 0) c.if-not-even.false in
     let d = eqb-true (size % 8) 0 v.1 in
-    let w : size ≡ n = eqb-true size n (not-false _ c.if-not-whole.false) in
+    let w : size ≡ n = eqb-true size n c.if-not-whole.false in
     let l = c.if-size-gt65535.false in record { in_bounds = c.if-r-lt8.false; r_len_bound = omega (arith, w, l); r_len = sym (ap (λ (i : ℕ). i % 8) w) ∙ d; }
 
 pub returns : goal.returns

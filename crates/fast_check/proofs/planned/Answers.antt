@@ -8,10 +8,12 @@ use Rattle.meaning.specs.Records.{layout, judge}
 use Rattle.reader.specs.Laws.{Headed, headed}
 use Rattle.marks.specs.Marks.{last_type, kinds-most}
 use Rattle.fast_check.proofs.planned.Tie as tie
+use Rattle.fast_check.proofs.planned.Lts as lts
+use Rattle.fast_check.proofs.planned.Reads as reads
 use Rattle.fast_check.proofs.planned.Goals as goal
 
 -- the header of a record that has one
-whole : (c : tie.After-read-header) → Headed c.args.r.now c.read_header-h.result
+whole : (c : lts.After-read_header tie.the-claims reads.Pre reads.Post tie.handed_clauses) → Headed c.args.r.now c.read_header-h.result
 whole c = headed _ _ c.read_header-h.ensures c.requires.in_bounds
 
 pub sampled-requires : goal.sampled-requires

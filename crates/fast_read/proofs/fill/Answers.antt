@@ -12,18 +12,20 @@ use Rattle.fills.specs.Chains as chains
 use Rattle.fast_read.proofs.Laws.{headed, two-set, fields-ready, one-long, trailer-ready, mid-long, words-filled}
 use borrow.Author.Rules.{rules}
 use Rattle.fast_read.proofs.fill.Tie as tie
+use Rattle.fast_read.proofs.fill.Lts as lts
+use Rattle.fast_read.proofs.fill.Reads as reads
 use Rattle.fast_read.proofs.fill.Goals as goal
 
 -- an accepted record has a header
-long : (s : tie.Start) → 8 ≤ length s.args.r.now
+long : (s : lts.Start tie.the-claims reads.Pre reads.Post tie.handed_clauses) → 8 ≤ length s.args.r.now
 long s = let h = trailer-there s.args.a s.args.r.now _ s.requires.0 _ refl in omega (arith, h)
 
 -- the header that the reader took
-whole : (c : tie.After-read-header) → Headed c.args.r.now c.read_header-h.result
+whole : (c : lts.After-read_header tie.the-claims reads.Pre reads.Post tie.handed_clauses) → Headed c.args.r.now c.read_header-h.result
 whole c = read-headed _ _ c.read_header-h.ensures (long c.before.before.before.before.before.before.before.before)
 
 -- what is known once the trailer's room is
-header : (c : tie.After-trailer-room)
+header : (c : lts.After-trailer_room tie.the-claims reads.Pre reads.Post tie.handed_clauses)
     → Header c.args.a c.args.r.now c.read_header-h.result.kind c.read_header-h.result.misc c.trailer_room.result
 header c = let h = whole c.before.before in record { kind-is = h.kind-is; misc-is = h.misc-is; room-is = c.trailer_room.ensures.0; accepted = c.requires.0.answer-is }
 

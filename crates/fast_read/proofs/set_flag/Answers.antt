@@ -10,17 +10,19 @@ use Rattle.table.specs.Flags.{flag_at}
 use Rattle.record.specs.Flag.{trailer-there, dirty-some, number_is, word_none, word-there, word_some}
 use borrow.Author.Rules.{rules}
 use Rattle.fast_read.proofs.set_flag.Tie as tie
+use Rattle.fast_read.proofs.set_flag.Lts as lts
+use Rattle.fast_read.proofs.set_flag.Reads as reads
 use Rattle.fast_read.proofs.set_flag.Goals as goal
 
 -- eight bytes or more are before the trailer
-long : (s : tie.Start) → (8 ≤ s.args.end) × (s.args.end ≤ length s.args.r.now)
+long : (s : lts.Start tie.the-claims reads.Pre reads.Post tie.handed_clauses) → (8 ≤ s.args.end) × (s.args.end ≤ length s.args.r.now)
 long s =
     let h = trailer-there s.args.a s.args.r.now s.args.kind s.requires.0 _ refl in
     let e = s.requires.1 in
     (omega (arith, h, e), omega (arith, h, e))
 
 -- the word is there
-there : (c : tie.After-number) → c.flag_at-at.result < 56
+there : (c : lts.After-number tie.the-claims reads.Pre reads.Post tie.handed_clauses) → c.flag_at-at.result < 56
 there c =
     let s = c.before.before.before.before.before.before.before in
     let e = c.flag_at-at.ensures in

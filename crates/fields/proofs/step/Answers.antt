@@ -8,15 +8,17 @@ use Rattle.laws.specs.Walks.{step-refused, step-off}
 use Rattle.laws.specs.Shapes.{step_is}
 use borrow.Author.Rules.{rules}
 use Rattle.fields.proofs.step.Tie as tie
+use Rattle.fields.proofs.step.Lts as lts
+use Rattle.fields.proofs.step.Reads as reads
 use Rattle.fields.proofs.step.Goals as goal
 
 -- past the two tests, the step is that of the item's shape
-chosen : (c : tie.Else2) (sh : Shape) → c.args.i.shape ≡ sh
+chosen : (c : lts.Else2 tie.the-claims reads.Pre reads.Post tie.handed_clauses) (sh : Shape) → c.args.i.shape ≡ sh
     → shape_step sh c.args.c (drop c.args.c.at c.args.s.now)
     ≡ step c.args.s.now c.args.i c.args.c
 chosen c sh e =
     let a = c.args in
-    step_is a.s.now a.c a.i sh c.if-why-ne0.false (not-false _ c.if-not-on.false) e
+    step_is a.s.now a.c a.i sh c.if-why-ne0.false c.if-not-on.false e
 
 pub returns-then-why-ne0 : goal.returns-then-why-ne0
 returns-then-why-ne0 c =
@@ -26,7 +28,7 @@ returns-then-why-ne0 c =
 pub returns-then-not-on : goal.returns-then-not-on
 returns-then-not-on c =
     let a = c.args in
-    sym (step-off a.s.now a.i a.c (not-true _ c.if-not-on.true))
+    sym (step-off a.s.now a.i a.c c.if-not-on.true)
 
 pub returns-in-Number : goal.returns-in-Number
 returns-in-Number c = c.number.ensures ∙ chosen c.before.before.before.before.before _ c.shape-1.given.1

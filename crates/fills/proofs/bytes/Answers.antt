@@ -10,23 +10,23 @@ use borrow.Author.Rules.{rules}
 use Rattle.fills.proofs.bytes.Goals as goal
 
 pub returns-then-not-on : goal.returns-then-not-on
-returns-then-not-on c = off c.requires (not-true _ c.if-not-on.true)
+returns-then-not-on c = off c.requires c.if-not-on.true
 
 pub bounds-out-at : goal.bounds-out-at
 unfolding tell
-bounds-out-at c = let r = room c.requires (not-false _ c.if-not-on.false) refl in omega (arith, r)
+bounds-out-at c = let r = room c.requires c.if-not-on.false refl in omega (arith, r)
 
 pub bounds-out-at-2 : goal.bounds-out-at-2
 unfolding tell
 bounds-out-at-2 c =
     let a = c.args in
-    let r = room c.requires (not-false _ c.if-not-on.false) refl in
+    let r = room c.requires c.if-not-on.false refl in
     omega (arith, r, length-set a.out.now a.at a.c.at)
 
 pub past-requires : goal.past-requires
 unfolding span
-past-requires c = let h = has c.requires (not-false _ c.if-not-on.false) refl (omega arith) in omega (arith, h)
+past-requires c = let h = has c.requires c.if-not-on.false refl (omega arith) in omega (arith, h)
 
 pub returns : goal.returns
 unfolding span part tell slot_shape holds counted before
-returns c = two-words c.requires (not-false _ c.if-not-on.false) refl refl refl c.past.ensures refl refl
+returns c = two-words c.requires c.if-not-on.false refl refl refl c.past.ensures refl refl

@@ -14,26 +14,26 @@ use borrow.Author.Rules.{rules}
 use Rattle.fills.proofs.filled.Goals as goal
 
 pub returns-then-not-on : goal.returns-then-not-on
-returns-then-not-on c = off c.requires (not-true _ c.if-not-on.true)
+returns-then-not-on c = off c.requires c.if-not-on.true
 
 pub returns-then-c-eq0 : goal.returns-then-c-eq0
-returns-then-c-eq0 c = unfilled c.requires (not-false _ c.if-not-on.false) c.if-c-eq0.true
+returns-then-c-eq0 c = unfilled c.requires c.if-not-on.false c.if-c-eq0.true
 
 pub u64_at-requires : goal.u64_at-requires
 unfolding span
-u64_at-requires c = has c.requires (not-false _ c.if-not-on.false) {k = 8} (rw (ne_eqb _ 0 c.if-c-eq0.false)) (omega arith)
+u64_at-requires c = has c.requires c.if-not-on.false {k = 8} (rw (ne_eqb _ 0 c.if-c-eq0.false)) (omega arith)
 
 pub bounds-out-at : goal.bounds-out-at
 unfolding tell
-bounds-out-at c = let r = room c.requires (not-false _ c.if-not-on.false) refl in omega (arith, r)
+bounds-out-at c = let r = room c.requires c.if-not-on.false refl in omega (arith, r)
 
 pub past-requires : goal.past-requires
 unfolding span
-past-requires c = let h = has c.requires (not-false _ c.if-not-on.false) {k = 8} (rw (ne_eqb _ 0 c.if-c-eq0.false)) (omega arith) in omega (arith, h)
+past-requires c = let h = has c.requires c.if-not-on.false {k = 8} (rw (ne_eqb _ 0 c.if-c-eq0.false)) (omega arith) in omega (arith, h)
 
 pub returns : goal.returns
 unfolding span part tell slot_shape holds counted before
 returns c =
     let a = c.args in
     let e : span Filled a.c (length (drop a.c.at a.s.now)) ≡ 8 = rw (ne_eqb a.c.n 0 c.if-c-eq0.false) in
-    one_word c.requires (not-false _ c.if-not-on.false) (sym e) refl refl c.past.ensures refl (ap (λ (k : ℕ). num (take k (drop a.c.at a.s.now)) ∷ []) e ∙ ap (λ (v : ℕ). v ∷ []) (sym c.u64_at.ensures))
+    one_word c.requires c.if-not-on.false (sym e) refl refl c.past.ensures refl (ap (λ (k : ℕ). num (take k (drop a.c.at a.s.now)) ∷ []) e ∙ ap (λ (v : ℕ). v ∷ []) (sym c.u64_at.ensures))

@@ -11,20 +11,20 @@ use borrow.Author.Rules.{rules}
 use Rattle.fills.proofs.limit.Goals as goal
 
 pub returns-then-not-on : goal.returns-then-not-on
-returns-then-not-on c = off c.requires (not-true _ c.if-not-on.true)
+returns-then-not-on c = off c.requires c.if-not-on.true
 
 pub u8_at-v-requires : goal.u8_at-v-requires
 unfolding span
-u8_at-v-requires c = has c.requires (not-false _ c.if-not-on.false) refl (omega arith)
+u8_at-v-requires c = has c.requires c.if-not-on.false refl (omega arith)
 
 pub bounds-out-at : goal.bounds-out-at
 unfolding tell
-bounds-out-at c = let r = room c.requires (not-false _ c.if-not-on.false) refl in omega (arith, r)
+bounds-out-at c = let r = room c.requires c.if-not-on.false refl in omega (arith, r)
 
 pub overflow_add-result : goal.overflow_add-result
 unfolding span
-overflow_add-result c = let h = has c.requires (not-false _ c.if-not-on.false) refl (omega arith) in omega (arith, h)
+overflow_add-result c = let h = has c.requires c.if-not-on.false refl (omega arith) in omega (arith, h)
 
 pub returns : goal.returns
 unfolding span part tell slot_shape holds counted before
-returns c = one_word c.requires (not-false _ c.if-not-on.false) refl c.u8_at-v.ensures.0 refl refl refl (ap (λ (v : ℕ). v ∷ []) (sym c.u8_at-v.ensures.0))
+returns c = one_word c.requires c.if-not-on.false refl c.u8_at-v.ensures.0 refl refl refl (ap (λ (v : ℕ). v ∷ []) (sym c.u8_at-v.ensures.0))

@@ -14,20 +14,20 @@ use borrow.Author.Rules.{rules}
 use Rattle.fills.proofs.name.Goals as goal
 
 pub returns-then-not-on : goal.returns-then-not-on
-returns-then-not-on c = off c.requires (not-true _ c.if-not-on.true)
+returns-then-not-on c = off c.requires c.if-not-on.true
 
 pub bounds-out-at : goal.bounds-out-at
 unfolding tell
-bounds-out-at c = let r = room c.requires (not-false _ c.if-not-on.false) refl in omega (arith, r)
+bounds-out-at c = let r = room c.requires c.if-not-on.false refl in omega (arith, r)
 
 pub zero_of-requires : goal.zero_of-requires
-zero_of-requires c = name-has c.requires (not-false _ c.if-not-on.false)
+zero_of-requires c = name-has c.requires c.if-not-on.false
 
 pub bounds-out-at-2 : goal.bounds-out-at-2
 unfolding tell
 bounds-out-at-2 c =
     let a = c.args in
-    let r = room c.requires (not-false _ c.if-not-on.false) refl in
+    let r = room c.requires c.if-not-on.false refl in
     omega (arith, r, length-set a.out.now a.at a.c.at)
 
 pub returns : goal.returns
@@ -36,10 +36,10 @@ returns c =
     let a = c.args in
     let xs = a.s.now in
     let at = a.c.at in
-    let h = name-has c.requires (not-false _ c.if-not-on.false) in
+    let h = name-has c.requires c.if-not-on.false in
     let l = length-drop at xs in
     let z = c.zero_of.ensures.0 in
     let k : at + length (drop at xs) ≡ length xs = omega (arith, h.0, l) in
     let v : c.zero_of.result - at ≡ zero_in (drop at xs) = omega (arith, z) in
-    two-words c.requires (not-false _ c.if-not-on.false) refl refl refl (ap (λ (k : ℕ). cursor k a.c.n a.c.old a.c.why) (sym k)) refl
+    two-words c.requires c.if-not-on.false refl refl refl (ap (λ (k : ℕ). cursor k a.c.n a.c.old a.c.why) (sym k)) refl
     (ap (λ (ys : List ℕ). at ∷ zero_in ys ∷ []) (take-length (drop at xs)) ∙ ap (λ (n : ℕ). at ∷ n ∷ []) (sym v))

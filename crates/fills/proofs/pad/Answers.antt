@@ -10,16 +10,16 @@ use borrow.Author.Rules.{rules}
 use Rattle.fills.proofs.pad.Goals as goal
 
 pub returns-then-not-on : goal.returns-then-not-on
-returns-then-not-on c = off c.requires (not-true _ c.if-not-on.true)
+returns-then-not-on c = off c.requires c.if-not-on.true
 
 pub past-requires : goal.past-requires
 unfolding span
 past-requires c =
-    let t = (took c.requires (not-false _ c.if-not-on.false)).there in
+    let t = (took c.requires c.if-not-on.false).there in
     let l = length-drop c.args.c.at c.args.s.now in
-    let q = c.well-formed in
+    let q = c.well_formed in
     omega (arith, t, l, q)
 
 pub returns : goal.returns
 unfolding span part tell slot_shape holds counted before
-returns c = no_word c.requires (not-false _ c.if-not-on.false) refl refl refl c.past.ensures refl refl
+returns c = no_word c.requires c.if-not-on.false refl refl refl c.past.ensures refl refl

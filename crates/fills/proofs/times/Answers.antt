@@ -10,27 +10,27 @@ use borrow.Author.Rules.{rules}
 use Rattle.fills.proofs.times.Goals as goal
 
 pub returns-then-not-on : goal.returns-then-not-on
-returns-then-not-on c = off c.requires (not-true _ c.if-not-on.true)
+returns-then-not-on c = off c.requires c.if-not-on.true
 
 pub bounds-out-at : goal.bounds-out-at
 unfolding tell
-bounds-out-at c = let r = room c.requires (not-false _ c.if-not-on.false) refl in omega (arith, r)
+bounds-out-at c = let r = room c.requires c.if-not-on.false refl in omega (arith, r)
 
 pub overflow_mul-c : goal.overflow_mul-c
 unfolding span
 overflow_mul-c c =
-    let t = (took c.requires (not-false _ c.if-not-on.false)).there in
+    let t = (took c.requires c.if-not-on.false).there in
     let l = length-drop c.args.c.at c.args.s.now in
     omega (arith, t, l)
 
 pub past-requires : goal.past-requires
 unfolding span
 past-requires c =
-    let t = (took c.requires (not-false _ c.if-not-on.false)).there in
+    let t = (took c.requires c.if-not-on.false).there in
     let l = length-drop c.args.c.at c.args.s.now in
-    let q = c.well-formed in
+    let q = c.well_formed in
     omega (arith, t, l, q)
 
 pub returns : goal.returns
 unfolding span part tell slot_shape holds counted before
-returns c = one_word c.requires (not-false _ c.if-not-on.false) refl refl refl c.past.ensures refl refl
+returns c = one_word c.requires c.if-not-on.false refl refl refl c.past.ensures refl refl

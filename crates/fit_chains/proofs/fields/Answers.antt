@@ -9,70 +9,70 @@ use borrow.Author.Rules.{rules}
 use Rattle.fit_chains.proofs.fields.Goals as goal
 
 pub returns-in-0 : goal.returns-in-0
-returns-in-0 c = tried-as (ap (λ (k : ℕ). schema k c.args.misc c.args.a) (sym c.in-0.keys1)) (tried-none c.requires.0)
+returns-in-0 c = tried-as (ap (λ (k : ℕ). schema k c.args.misc c.args.a) (sym c.in-0.is)) (tried-none c.requires.0)
 
 pub returns-in-1 : goal.returns-in-1
-returns-in-1 c = tried-as (ap (λ (k : ℕ). schema k c.args.misc c.args.a) (sym c.in-1.keys2)) c.mmap.ensures
+returns-in-1 c = tried-as (ap (λ (k : ℕ). schema k c.args.misc c.args.a) (sym c.in-1.is)) c.mmap.ensures
 
 pub returns-in-2 : goal.returns-in-2
-returns-in-2 c = tried-as (ap (λ (k : ℕ). schema k c.args.misc c.args.a) (sym c.in-2.keys3)) c.lost.ensures
+returns-in-2 c = tried-as (ap (λ (k : ℕ). schema k c.args.misc c.args.a) (sym c.in-2.is)) c.lost.ensures
 
 pub returns-in-3 : goal.returns-in-3
-returns-in-3 c = tried-as (ap (λ (k : ℕ). schema k c.args.misc c.args.a) (sym c.in-3.keys4)) c.comm.ensures
+returns-in-3 c = tried-as (ap (λ (k : ℕ). schema k c.args.misc c.args.a) (sym c.in-3.is)) c.comm.ensures
 
 pub returns-in-4 : goal.returns-in-4
-returns-in-4 c = tried-as (ap (λ (k : ℕ). schema k c.args.misc c.args.a) (sym c.in-4.keys5)) c.exit.ensures
+returns-in-4 c = tried-as (ap (λ (k : ℕ). schema k c.args.misc c.args.a) (sym c.in-4.is)) c.exit.ensures
 
 pub returns-in-5 : goal.returns-in-5
-returns-in-5 c = tried-as (ap (λ (k : ℕ). schema k c.args.misc c.args.a) (sym c.in-5.keys6)) c.throttle.ensures
+returns-in-5 c = tried-as (ap (λ (k : ℕ). schema k c.args.misc c.args.a) (sym c.in-5.is)) c.throttle.ensures
 
 pub returns-in-6 : goal.returns-in-6
-returns-in-6 c = tried-as (ap (λ (k : ℕ). schema k c.args.misc c.args.a) (sym c.in-6.keys7)) c.throttle-in-6.ensures
+returns-in-6 c = tried-as (ap (λ (k : ℕ). schema k c.args.misc c.args.a) (sym c.in-6.is)) c.throttle-in-6.ensures
 
 pub returns-in-7 : goal.returns-in-7
-returns-in-7 c = tried-as (ap (λ (k : ℕ). schema k c.args.misc c.args.a) (sym c.in-7.keys8)) c.exit-in-7.ensures
+returns-in-7 c = tried-as (ap (λ (k : ℕ). schema k c.args.misc c.args.a) (sym c.in-7.is)) c.exit-in-7.ensures
 
 pub returns-in-8 : goal.returns-in-8
-returns-in-8 c = tried-as (ap (λ (k : ℕ). schema k c.args.misc c.args.a) (sym c.in-8.keys9)) c.read.ensures
+returns-in-8 c = tried-as (ap (λ (k : ℕ). schema k c.args.misc c.args.a) (sym c.in-8.is)) c.read.ensures
 
 pub returns-in-9 : goal.returns-in-9
-returns-in-9 c = tried-as (ap (λ (k : ℕ). schema k c.args.misc c.args.a) (sym c.in-9.keys10)) c.sample.ensures
+returns-in-9 c = tried-as (ap (λ (k : ℕ). schema k c.args.misc c.args.a) (sym c.in-9.is)) c.sample.ensures
 
 pub returns-in-10 : goal.returns-in-10
-returns-in-10 c = tried-as (ap (λ (k : ℕ). schema k c.args.misc c.args.a) (sym c.in-10.keys11)) c.mmap2.ensures
+returns-in-10 c = tried-as (ap (λ (k : ℕ). schema k c.args.misc c.args.a) (sym c.in-10.is)) c.mmap2.ensures
 
 pub returns-in-11 : goal.returns-in-11
-returns-in-11 c = tried-as (ap (λ (k : ℕ). schema k c.args.misc c.args.a) (sym c.in-11.keys12)) c.throttle-in-11.ensures
+returns-in-11 c = tried-as (ap (λ (k : ℕ). schema k c.args.misc c.args.a) (sym c.in-11.is)) c.throttle-in-11.ensures
 
 pub returns-in-12 : goal.returns-in-12
-returns-in-12 c = tried-as (ap (λ (k : ℕ). schema k c.args.misc c.args.a) (sym c.in-12.keys13)) c.itrace_start.ensures
+returns-in-12 c = tried-as (ap (λ (k : ℕ). schema k c.args.misc c.args.a) (sym c.in-12.is)) c.itrace_start.ensures
 
 pub returns-in-13 : goal.returns-in-13
-returns-in-13 c = tried-as (ap (λ (k : ℕ). schema k c.args.misc c.args.a) (sym c.in-13.keys14)) c.lost_samples.ensures
+returns-in-13 c = tried-as (ap (λ (k : ℕ). schema k c.args.misc c.args.a) (sym c.in-13.is)) c.lost_samples.ensures
 
 pub returns-in-14 : goal.returns-in-14
-returns-in-14 c = tried-as (ap (λ (k : ℕ). schema k c.args.misc c.args.a) (sym c.in-14.keys15)) (tried-none c.requires.0)
+returns-in-14 c = tried-as (ap (λ (k : ℕ). schema k c.args.misc c.args.a) (sym c.in-14.is)) (tried-none c.requires.0)
 
 pub returns-in-15 : goal.returns-in-15
-returns-in-15 c = tried-as (ap (λ (k : ℕ). schema k c.args.misc c.args.a) (sym c.in-15.keys16)) c.itrace_start-in-15.ensures
+returns-in-15 c = tried-as (ap (λ (k : ℕ). schema k c.args.misc c.args.a) (sym c.in-15.is)) c.itrace_start-in-15.ensures
 
 pub returns-in-16 : goal.returns-in-16
-returns-in-16 c = tried-as (ap (λ (k : ℕ). schema k c.args.misc c.args.a) (sym c.in-16.keys17)) c.namespaces.ensures
+returns-in-16 c = tried-as (ap (λ (k : ℕ). schema k c.args.misc c.args.a) (sym c.in-16.is)) c.namespaces.ensures
 
 pub returns-in-17 : goal.returns-in-17
-returns-in-17 c = tried-as (ap (λ (k : ℕ). schema k c.args.misc c.args.a) (sym c.in-17.keys18)) c.ksymbol.ensures
+returns-in-17 c = tried-as (ap (λ (k : ℕ). schema k c.args.misc c.args.a) (sym c.in-17.is)) c.ksymbol.ensures
 
 pub returns-in-18 : goal.returns-in-18
-returns-in-18 c = tried-as (ap (λ (k : ℕ). schema k c.args.misc c.args.a) (sym c.in-18.keys19)) c.bpf_event.ensures
+returns-in-18 c = tried-as (ap (λ (k : ℕ). schema k c.args.misc c.args.a) (sym c.in-18.is)) c.bpf_event.ensures
 
 pub returns-in-19 : goal.returns-in-19
-returns-in-19 c = tried-as (ap (λ (k : ℕ). schema k c.args.misc c.args.a) (sym c.in-19.keys20)) c.cgroup.ensures
+returns-in-19 c = tried-as (ap (λ (k : ℕ). schema k c.args.misc c.args.a) (sym c.in-19.is)) c.cgroup.ensures
 
 pub returns-in-20 : goal.returns-in-20
-returns-in-20 c = tried-as (ap (λ (k : ℕ). schema k c.args.misc c.args.a) (sym c.in-20.keys21)) c.text_poke.ensures
+returns-in-20 c = tried-as (ap (λ (k : ℕ). schema k c.args.misc c.args.a) (sym c.in-20.is)) c.text_poke.ensures
 
 pub returns-in-21 : goal.returns-in-21
-returns-in-21 c = tried-as (ap (λ (k : ℕ). schema k c.args.misc c.args.a) (sym c.in-21.keys22)) c.lost_samples-in-21.ensures
+returns-in-21 c = tried-as (ap (λ (k : ℕ). schema k c.args.misc c.args.a) (sym c.in-21.is)) c.lost_samples-in-21.ensures
 
 pub returns-in_default : goal.returns-in_default
 returns-in_default c = tried-as (sym (no-type c.args.misc c.args.a c.args.kind c.in_default.rest)) (tried-none c.requires.0)

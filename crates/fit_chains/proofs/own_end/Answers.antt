@@ -13,91 +13,91 @@ use Rattle.fit_chains.proofs.own_end.Goals as goal
 
 pub returns-in-0 : goal.returns-in-0
 unfolding tell width flag_words named ends
-returns-in-0 c = (ap (λ (k : ℕ). body_words + body_width (schema k c.args.misc c.args.a)) (sym c.in-0.keys1), omega arith)
+returns-in-0 c = (ap (λ (k : ℕ). body_words + body_width (schema k c.args.misc c.args.a)) (sym c.in-0.is), omega arith)
 
 pub returns-in-1 : goal.returns-in-1
 unfolding tell width flag_words named ends
-returns-in-1 c = (ap (λ (k : ℕ). body_words + body_width (schema k c.args.misc c.args.a)) (sym c.in-1.keys2), omega arith)
+returns-in-1 c = (ap (λ (k : ℕ). body_words + body_width (schema k c.args.misc c.args.a)) (sym c.in-1.is), omega arith)
 
 pub returns-in-2 : goal.returns-in-2
 unfolding tell width flag_words named ends
-returns-in-2 c = (ap (λ (k : ℕ). body_words + body_width (schema k c.args.misc c.args.a)) (sym c.in-2.keys3), omega arith)
+returns-in-2 c = (ap (λ (k : ℕ). body_words + body_width (schema k c.args.misc c.args.a)) (sym c.in-2.is), omega arith)
 
 pub returns-in-3 : goal.returns-in-3
 unfolding tell width flag_words named ends
-returns-in-3 c = (ap (λ (k : ℕ). body_words + body_width (schema k c.args.misc c.args.a)) (sym c.in-3.keys4), omega arith)
+returns-in-3 c = (ap (λ (k : ℕ). body_words + body_width (schema k c.args.misc c.args.a)) (sym c.in-3.is), omega arith)
 
 pub returns-in-4 : goal.returns-in-4
 unfolding tell width flag_words named ends
-returns-in-4 c = (ap (λ (k : ℕ). body_words + body_width (schema k c.args.misc c.args.a)) (sym c.in-4.keys5), omega arith)
+returns-in-4 c = (ap (λ (k : ℕ). body_words + body_width (schema k c.args.misc c.args.a)) (sym c.in-4.is), omega arith)
 
 pub returns-in-5 : goal.returns-in-5
 unfolding tell width flag_words named ends
-returns-in-5 c = (ap (λ (k : ℕ). body_words + body_width (schema k c.args.misc c.args.a)) (sym c.in-5.keys6), omega arith)
+returns-in-5 c = (ap (λ (k : ℕ). body_words + body_width (schema k c.args.misc c.args.a)) (sym c.in-5.is), omega arith)
 
 pub returns-in-6 : goal.returns-in-6
 unfolding tell width flag_words named ends
-returns-in-6 c = (ap (λ (k : ℕ). body_words + body_width (schema k c.args.misc c.args.a)) (sym c.in-6.keys7), omega arith)
+returns-in-6 c = (ap (λ (k : ℕ). body_words + body_width (schema k c.args.misc c.args.a)) (sym c.in-6.is), omega arith)
 
 pub returns-in-7 : goal.returns-in-7
 unfolding tell width flag_words named ends
-returns-in-7 c = (ap (λ (k : ℕ). body_words + body_width (schema k c.args.misc c.args.a)) (sym c.in-7.keys8), omega arith)
+returns-in-7 c = (ap (λ (k : ℕ). body_words + body_width (schema k c.args.misc c.args.a)) (sym c.in-7.is), omega arith)
 
 pub returns-in-8 : goal.returns-in-8
 unfolding tell width flag_words named ends
-returns-in-8 c = (ap (λ (k : ℕ). body_words + body_width (schema k c.args.misc c.args.a)) (sym c.in-8.keys9), omega arith)
+returns-in-8 c = (ap (λ (k : ℕ). body_words + body_width (schema k c.args.misc c.args.a)) (sym c.in-8.is), omega arith)
 
 pub returns-in-9 : goal.returns-in-9
 unfolding tell width flag_words named ends
-returns-in-9 c = (ap (λ (k : ℕ). body_words + body_width (schema k c.args.misc c.args.a)) (sym c.in-9.keys10), omega arith)
+returns-in-9 c = (ap (λ (k : ℕ). body_words + body_width (schema k c.args.misc c.args.a)) (sym c.in-9.is), omega arith)
 
 pub returns-in-10 : goal.returns-in-10
 unfolding tell width flag_words named ends
-returns-in-10 c = (ap (λ (k : ℕ). body_words + body_width (schema k c.args.misc c.args.a)) (sym c.in-10.keys11), omega arith)
+returns-in-10 c = (ap (λ (k : ℕ). body_words + body_width (schema k c.args.misc c.args.a)) (sym c.in-10.is), omega arith)
 
 pub returns-in-11 : goal.returns-in-11
 unfolding tell width flag_words named ends
-returns-in-11 c = (ap (λ (k : ℕ). body_words + body_width (schema k c.args.misc c.args.a)) (sym c.in-11.keys12), omega arith)
+returns-in-11 c = (ap (λ (k : ℕ). body_words + body_width (schema k c.args.misc c.args.a)) (sym c.in-11.is), omega arith)
 
 pub returns-in-12 : goal.returns-in-12
 unfolding tell width flag_words named ends
-returns-in-12 c = (ap (λ (k : ℕ). body_words + body_width (schema k c.args.misc c.args.a)) (sym c.in-12.keys13), omega arith)
+returns-in-12 c = (ap (λ (k : ℕ). body_words + body_width (schema k c.args.misc c.args.a)) (sym c.in-12.is), omega arith)
 
 pub returns-in-13 : goal.returns-in-13
 unfolding tell width flag_words named ends
-returns-in-13 c = (ap (λ (k : ℕ). body_words + body_width (schema k c.args.misc c.args.a)) (sym c.in-13.keys14), omega arith)
+returns-in-13 c = (ap (λ (k : ℕ). body_words + body_width (schema k c.args.misc c.args.a)) (sym c.in-13.is), omega arith)
 
 pub returns-in-14 : goal.returns-in-14
 unfolding tell width flag_words named ends
-returns-in-14 c = (ap (λ (k : ℕ). body_words + body_width (schema k c.args.misc c.args.a)) (sym c.in-14.keys15), omega arith)
+returns-in-14 c = (ap (λ (k : ℕ). body_words + body_width (schema k c.args.misc c.args.a)) (sym c.in-14.is), omega arith)
 
 pub returns-in-15 : goal.returns-in-15
 unfolding tell width flag_words named ends
-returns-in-15 c = (ap (λ (k : ℕ). body_words + body_width (schema k c.args.misc c.args.a)) (sym c.in-15.keys16), omega arith)
+returns-in-15 c = (ap (λ (k : ℕ). body_words + body_width (schema k c.args.misc c.args.a)) (sym c.in-15.is), omega arith)
 
 pub returns-in-16 : goal.returns-in-16
 unfolding tell width flag_words named ends
-returns-in-16 c = (ap (λ (k : ℕ). body_words + body_width (schema k c.args.misc c.args.a)) (sym c.in-16.keys17), omega arith)
+returns-in-16 c = (ap (λ (k : ℕ). body_words + body_width (schema k c.args.misc c.args.a)) (sym c.in-16.is), omega arith)
 
 pub returns-in-17 : goal.returns-in-17
 unfolding tell width flag_words named ends
-returns-in-17 c = (ap (λ (k : ℕ). body_words + body_width (schema k c.args.misc c.args.a)) (sym c.in-17.keys18), omega arith)
+returns-in-17 c = (ap (λ (k : ℕ). body_words + body_width (schema k c.args.misc c.args.a)) (sym c.in-17.is), omega arith)
 
 pub returns-in-18 : goal.returns-in-18
 unfolding tell width flag_words named ends
-returns-in-18 c = (ap (λ (k : ℕ). body_words + body_width (schema k c.args.misc c.args.a)) (sym c.in-18.keys19), omega arith)
+returns-in-18 c = (ap (λ (k : ℕ). body_words + body_width (schema k c.args.misc c.args.a)) (sym c.in-18.is), omega arith)
 
 pub returns-in-19 : goal.returns-in-19
 unfolding tell width flag_words named ends
-returns-in-19 c = (ap (λ (k : ℕ). body_words + body_width (schema k c.args.misc c.args.a)) (sym c.in-19.keys20), omega arith)
+returns-in-19 c = (ap (λ (k : ℕ). body_words + body_width (schema k c.args.misc c.args.a)) (sym c.in-19.is), omega arith)
 
 pub returns-in-20 : goal.returns-in-20
 unfolding tell width flag_words named ends
-returns-in-20 c = (ap (λ (k : ℕ). body_words + body_width (schema k c.args.misc c.args.a)) (sym c.in-20.keys21), omega arith)
+returns-in-20 c = (ap (λ (k : ℕ). body_words + body_width (schema k c.args.misc c.args.a)) (sym c.in-20.is), omega arith)
 
 pub returns-in-21 : goal.returns-in-21
 unfolding tell width flag_words named ends
-returns-in-21 c = (ap (λ (k : ℕ). body_words + body_width (schema k c.args.misc c.args.a)) (sym c.in-21.keys22), omega arith)
+returns-in-21 c = (ap (λ (k : ℕ). body_words + body_width (schema k c.args.misc c.args.a)) (sym c.in-21.is), omega arith)
 
 pub returns-in_default : goal.returns-in_default
 unfolding tell width flag_words named ends

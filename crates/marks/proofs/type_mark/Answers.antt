@@ -8,10 +8,12 @@ use borrow.Author.Tests.{lt-ltb, le-ltb}
 use Rattle.marks.specs.Bases.{with_trailer, base-marked, type-refused}
 use Rattle.marks.specs.Marks.{open_mark, Marked, as-refused, unreadable-most}
 use Rattle.marks.proofs.type_mark.Tie as tie
+use Rattle.marks.proofs.type_mark.Lts as lts
+use Rattle.marks.proofs.type_mark.Reads as reads
 use Rattle.marks.proofs.type_mark.Goals as goal
 
 -- the base that was found, with the trailer's bytes where it is a size
-marked : (c : tie.After-base-of) → Marked c.args.known c.args.a c.args.kind (with_trailer c.args.trail c.base_of-base.result)
+marked : (c : lts.After-base_of tie.the-claims reads.Pre reads.Post tie.handed_clauses) → Marked c.args.known c.args.a c.args.kind (with_trailer c.args.trail c.base_of-base.result)
 marked c =
     let a = c.args in
     subst (λ (i : ℕ). Marked a.known a.a a.kind (with_trailer a.trail i)) (sym c.base_of-base.ensures)

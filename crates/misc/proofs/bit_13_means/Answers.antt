@@ -7,20 +7,22 @@ use Rattle.meaning.specs.Bytes.{bit}
 use Rattle.misc.proofs.Marks.{unset13, mapping, exec, switched, other13}
 use borrow.Author.Rules.{rules}
 use Rattle.misc.proofs.bit_13_means.Tie as tie
+use Rattle.misc.proofs.bit_13_means.Lts as lts
+use Rattle.misc.proofs.bit_13_means.Reads as reads
 use Rattle.misc.proofs.bit_13_means.Goals as goal
 
 -- past the test, the bit is set
-set : (c : tie.Else1) → bit c.args.misc 13 ≡ true
-set c = sym c.has_bit.ensures ∙ not-false _ c.if-not-has_bit.false
+set : (c : lts.Else1 tie.the-claims reads.Pre reads.Post tie.handed_clauses) → bit c.args.misc 13 ≡ true
+set c = sym c.has_bit.ensures ∙ c.if-not-has_bit.false
 
 pub returns-then-not-has_bit : goal.returns-then-not-has_bit
-returns-then-not-has_bit c = unset13 _ _ (sym c.has_bit.ensures ∙ not-true _ c.if-not-has_bit.true)
+returns-then-not-has_bit c = unset13 _ _ (sym c.has_bit.ensures ∙ c.if-not-has_bit.true)
 
 pub returns-in-1 : goal.returns-in-1
-returns-in-1 c = mapping _ _ (set c.before) c.in-1.keys1
+returns-in-1 c = mapping _ _ (set c.before) c.in-1.is
 
 pub returns-in-3 : goal.returns-in-3
-returns-in-3 c = exec _ _ (set c.before) c.in-3.keys2
+returns-in-3 c = exec _ _ (set c.before) c.in-3.is
 
 pub returns-in-14 : goal.returns-in-14
 returns-in-14 c = switched _ _ (set c.before.before.before) (omega arith) (omega arith)

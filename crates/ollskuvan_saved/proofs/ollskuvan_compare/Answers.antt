@@ -3,4 +3,4 @@ use borrow.Author.Rules.{rules}
 use Rattle.ollskuvan_saved.proofs.ollskuvan_compare.Goals as goal
 
 pub returns : goal.returns
-returns c = let old : _ × _ × _ = c.compare_rings.ensures in record { value = old.0; lscratch_after = old.1.0; rscratch_after = old.1.1; }
+returns c = let old : _ × _ × _ = (c.compare_rings.ensures.value, (c.compare_rings.ensures.lscratch_after, c.compare_rings.ensures.rscratch_after)) in record { value = old.0; lscratch_after = old.1.0; rscratch_after = old.1.1; }

@@ -7,18 +7,20 @@ use Rattle.meaning.specs.Ring.{asked_of, asking, frame, record_at, shown, one_fr
 use Rattle.laws.specs.Rings.{frame-going, shown-record}
 use Rattle.one.proofs.One.{one-going, one-going-scratch, one-stop}
 use Rattle.one.proofs.read_one.Tie as tie
+use Rattle.one.proofs.read_one.Lts as lts
+use Rattle.one.proofs.read_one.Reads as reads
 use Rattle.one.proofs.read_one.Goals as goal
 
-framed : (c : tie.After-next-frame) → c.next_frame-frame.result ≡ one_frame editions c.args.e c.args.ring.now c.args.head c.args.tail c.args.scratch.now
+framed : (c : lts.After-next_frame tie.the-claims reads.Pre reads.Post tie.handed_clauses) → c.next_frame-frame.result ≡ one_frame editions c.args.e c.args.ring.now c.args.head c.args.tail c.args.scratch.now
 framed c =
     let s = c.args in
     c.next_frame-frame.ensures ∙ ap (λ (b : Bool). frame (asking b) s.ring.now s.head s.tail 1 16 (length s.scratch.now)) c.allowed-ok.ensures
 
-go : (c : tie.Else1) → c.next_frame-frame.result.go ≡ true
-go c = not-false c.next_frame-frame.result.go c.if-not-frame.false
+go : (c : lts.Else1 tie.the-claims reads.Pre reads.Post tie.handed_clauses) → c.next_frame-frame.result.go ≡ true
+go c = c.if-not-frame.false
 
 -- what is shown is the record, whichever slice it lies in
-bytes : (c : tie.After-shown) → c.shown.result.now ≡ record_at c.args.ring.now c.next_frame-frame.result.place c.next_frame-frame.result.size
+bytes : (c : lts.After-shown tie.the-claims reads.Pre reads.Post tie.handed_clauses) → c.shown.result.now ≡ record_at c.args.ring.now c.next_frame-frame.result.place c.next_frame-frame.result.size
 bytes c =
     let s = c.args in
     let f = c.next_frame-frame.result in
@@ -30,7 +32,7 @@ bytes c =
 pub returns-then-not-frame : goal.returns-then-not-frame
 returns-then-not-frame c =
     let s = c.args in
-    let f = c.next_frame-frame.result in let old : _ × _ = one-stop editions s.e s.a s.ring.now s.head s.tail s.scratch.now f (framed c.before.before.before) (not-true f.go c.if-not-frame.true) in record { value = old.0; scratch_after = old.1; }
+    let f = c.next_frame-frame.result in let old : _ × _ = one-stop editions s.e s.a s.ring.now s.head s.tail s.scratch.now f (framed c.before.before.before) c.if-not-frame.true in record { value = old.0; scratch_after = old.1; }
 
 pub returns : goal.returns
 returns c =

@@ -6,18 +6,20 @@ use Rattle.meaning.specs.Ring.{asked_of, asking, frame, record_at, scratch_after
 use Rattle.laws.specs.Rings.{frame-going, shown-record}
 use Rattle.one.proofs.One.{one-going-scratch, one-stop, told-stop, told-taken, told-words}
 use Rattle.one.proofs.read_one_into.Tie as tie
+use Rattle.one.proofs.read_one_into.Lts as lts
+use Rattle.one.proofs.read_one_into.Reads as reads
 use Rattle.one.proofs.read_one_into.Goals as goal
 
-framed : (c : tie.After-next-frame) → c.next_frame-frame.result ≡ one_frame editions c.args.e c.args.ring.now c.args.head c.args.tail c.args.scratch.now
+framed : (c : lts.After-next_frame tie.the-claims reads.Pre reads.Post tie.handed_clauses) → c.next_frame-frame.result ≡ one_frame editions c.args.e c.args.ring.now c.args.head c.args.tail c.args.scratch.now
 framed c =
     let s = c.args in
     c.next_frame-frame.ensures ∙ ap (λ (b : Bool). frame (asking b) s.ring.now s.head s.tail 1 16 (length s.scratch.now)) c.allowed-ok.ensures
 
-go : (c : tie.Else1) → c.next_frame-frame.result.go ≡ true
-go c = not-false c.next_frame-frame.result.go c.if-not-frame.false
+go : (c : lts.Else1 tie.the-claims reads.Pre reads.Post tie.handed_clauses) → c.next_frame-frame.result.go ≡ true
+go c = c.if-not-frame.false
 
 -- what is shown of the ring and the gathered scratch is the record, whichever of them it lies in
-bytes : (c : tie.Else1) (l : List ℕ) → l ≡ scratch_after c.args.ring.now c.next_frame-frame.result.place c.next_frame-frame.result.size c.args.scratch.now
+bytes : (c : lts.Else1 tie.the-claims reads.Pre reads.Post tie.handed_clauses) (l : List ℕ) → l ≡ scratch_after c.args.ring.now c.next_frame-frame.result.place c.next_frame-frame.result.size c.args.scratch.now
     → shown c.args.ring.now l c.next_frame-frame.result ≡ record_at c.args.ring.now c.next_frame-frame.result.place c.next_frame-frame.result.size
 bytes c l gathered =
     let s = c.args in
@@ -29,7 +31,7 @@ pub returns-then-not-frame : goal.returns-then-not-frame
 returns-then-not-frame c =
     let s = c.args in
     let f = c.next_frame-frame.result in
-    let stops = not-true f.go c.if-not-frame.true in
+    let stops = c.if-not-frame.true in
     let e = framed c.before.before.before.before in
     let t = told-stop editions s.e s.a s.ring.now s.head s.tail s.scratch.now f e s.words.now stops in record { value = t.0; scratch_after = (one-stop editions s.e s.a s.ring.now s.head s.tail s.scratch.now f e stops).1; words_after = t.1; }
 

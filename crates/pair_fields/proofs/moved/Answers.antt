@@ -5,10 +5,11 @@ use mathlib.Core.Logic.{⊎_elim}
 use Prim.Native.Nat.{◌+◌}
 use borrow.Author.Rules.{rules}
 use Rattle.pair_fields.specs.Inner.{moved}
-use Rattle.pair_fields.proofs.moved.Tie as tie
+use Rattle.pair_fields.proofs.moved.Lts as lts
+use Rattle.pair_fields.proofs.moved.Reads as reads
 use Rattle.pair_fields.proofs.moved.Goals as goal
 
-k-is : (c : tie.Joined1) → c.if-b.k ≡ cond c.args.b.told (c.args.p.k + 1) c.args.p.k
+k-is : (c : lts.Joined1 reads.Pre reads.Post) → c.if-b.k ≡ cond c.args.b.told (c.args.p.k + 1) c.args.p.k
 k-is c =
     let a = c.args in
     ⊎_elim (λ w. w.2 ∙ sym (ap (λ (t : Bool). cond t (a.p.k + 1) a.p.k) w.0.taken))

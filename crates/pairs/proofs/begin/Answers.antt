@@ -18,35 +18,37 @@ use Rattle.pair_fields.specs.Fields.{settled-stands, differs-stands}
 use Rattle.laws.specs.Numbers.{kind-is, misc-is, size_is}
 use Rattle.pairs.specs.Start.{framed-long, accepted-long, accepted-there, accepted-room, start-stands}
 use Rattle.pairs.proofs.begin.Tie as tie
+use Rattle.pairs.proofs.begin.Lts as lts
+use Rattle.pairs.proofs.begin.Reads as reads
 use Rattle.pairs.proofs.begin.Goals as goal
 
 -- what is known past each test
-answers : (c : tie.Else2) → judge_events (known editions c.args.e) (events_of c.args.rows.now) c.args.x.now ≡ judge_events (known editions c.args.e) (events_of c.args.rows.now) c.args.y.now
+answers : (c : lts.Else2 tie.the-claims reads.Pre reads.Post tie.handed_clauses) → judge_events (known editions c.args.e) (events_of c.args.rows.now) c.args.x.now ≡ judge_events (known editions c.args.e) (events_of c.args.rows.now) c.args.y.now
 answers c = sym c.judge-answer.ensures ∙ c.if-answer-judge.false ∙ c.judge.ensures
 
-accepted : (c : tie.Else3) → judge_events (known editions c.args.e) (events_of c.args.rows.now) c.args.x.now ≡ 0
+accepted : (c : lts.Else3 tie.the-claims reads.Pre reads.Post tie.handed_clauses) → judge_events (known editions c.args.e) (events_of c.args.rows.now) c.args.x.now ≡ 0
 accepted c = sym c.judge-answer.ensures ∙ c.if-answer-ne0.false
 
-accepted-right : (c : tie.Else3) → judge_events (known editions c.args.e) (events_of c.args.rows.now) c.args.y.now ≡ 0
+accepted-right : (c : lts.Else3 tie.the-claims reads.Pre reads.Post tie.handed_clauses) → judge_events (known editions c.args.e) (events_of c.args.rows.now) c.args.y.now ≡ 0
 accepted-right c = sym (answers c.before.before) ∙ accepted c
 
-kinds : (c : tie.Else4) → kind_of c.args.x.now ≡ kind_of c.args.y.now
+kinds : (c : lts.Else4 tie.the-claims reads.Pre reads.Post tie.handed_clauses) → kind_of c.args.x.now ≡ kind_of c.args.y.now
 kinds c = sym (kind-is c.args.x.now) ∙ sym c.u32_at-kind.ensures.0 ∙ c.if-kind-u32_at.false ∙ c.u32_at.ensures.0 ∙ kind-is c.args.y.now
 
-miscs : (c : tie.Else5) → misc_of c.args.x.now ≡ misc_of c.args.y.now
+miscs : (c : lts.Else5 tie.the-claims reads.Pre reads.Post tie.handed_clauses) → misc_of c.args.x.now ≡ misc_of c.args.y.now
 miscs c = sym (misc-is c.args.x.now) ∙ sym c.u16_at-misc.ensures.0 ∙ c.if-misc-u16_at.false ∙ c.u16_at.ensures.0 ∙ misc-is c.args.y.now
 
-sizes : (c : tie.Else6) → size_of c.args.x.now ≡ size_of c.args.y.now
+sizes : (c : lts.Else6 tie.the-claims reads.Pre reads.Post tie.handed_clauses) → size_of c.args.x.now ≡ size_of c.args.y.now
 sizes c = sym (size_is c.args.x.now) ∙ sym c.u16_at-2.ensures.0 ∙ c.if-u16_at.false ∙ c.u16_at-3.ensures.0 ∙ size_is c.args.y.now
 
-ids : (c : tie.Else7) → identifier_of c.args.x.now ≡ identifier_of c.args.y.now
+ids : (c : lts.Else7 tie.the-claims reads.Pre reads.Post tie.handed_clauses) → identifier_of c.args.x.now ≡ identifier_of c.args.y.now
 ids c = sym c.identifier_of-id.ensures ∙ c.if-id-identifier_of.false ∙ c.identifier_of.ensures
 
 -- the row of the identifier
-found : (c : tie.After-find) → c.find.result ≡ index_of (identifier_of c.args.x.now) (identifiers (events_of c.args.rows.now))
+found : (c : lts.After-find tie.the-claims reads.Pre reads.Post tie.handed_clauses) → c.find.result ≡ index_of (identifier_of c.args.x.now) (identifiers (events_of c.args.rows.now))
 found c = c.find.ensures ∙ ap (λ (i : ℕ). index_of i (identifiers (events_of c.args.rows.now))) c.identifier_of-id.ensures
 
-attributes-are : (c : tie.After-attributes-at) → c.attributes_at.result ≡ attributes_of (event_at (events_of c.args.rows.now) (index_of (identifier_of c.args.x.now) (identifiers (events_of c.args.rows.now))))
+attributes-are : (c : lts.After-attributes_at tie.the-claims reads.Pre reads.Post tie.handed_clauses) → c.attributes_at.result ≡ attributes_of (event_at (events_of c.args.rows.now) (index_of (identifier_of c.args.x.now) (identifiers (events_of c.args.rows.now))))
 attributes-are c = c.attributes_at.ensures ∙ ap (λ (i : ℕ). attributes_of (event_at (events_of c.args.rows.now) i)) (found c.before.before)
 
 -- equal bytes

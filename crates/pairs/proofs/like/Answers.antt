@@ -14,39 +14,41 @@ use Rattle.twins.specs.Whole.{same-like}
 use Rattle.laws.specs.Numbers.{kind-is, misc-is}
 use Rattle.pairs.specs.Start.{framed-long, accepted-long, accepted-there, beside-is, like-alike}
 use Rattle.pairs.proofs.like.Tie as tie
+use Rattle.pairs.proofs.like.Lts as lts
+use Rattle.pairs.proofs.like.Reads as reads
 use Rattle.pairs.proofs.like.Goals as goal
 
-left-long : (c : tie.Start) → 8 ≤ length c.args.x.now
+left-long : (c : lts.Start tie.the-claims reads.Pre reads.Post tie.handed_clauses) → 8 ≤ length c.args.x.now
 left-long c = framed-long c.args.x.now c.requires.x_value.0
 
-right-long : (c : tie.Start) → 8 ≤ length c.args.y.now
+right-long : (c : lts.Start tie.the-claims reads.Pre reads.Post tie.handed_clauses) → 8 ≤ length c.args.y.now
 right-long c = framed-long c.args.y.now c.requires.x_value.1
 
 -- what is known past each test
-kinds : (c : tie.Else2) → kind_of c.args.x.now ≡ kind_of c.args.y.now
+kinds : (c : lts.Else2 tie.the-claims reads.Pre reads.Post tie.handed_clauses) → kind_of c.args.x.now ≡ kind_of c.args.y.now
 kinds c = sym (kind-is c.args.x.now) ∙ sym c.u32_at-kind.ensures.0 ∙ c.if-kind-u32_at.false ∙ c.u32_at.ensures.0 ∙ kind-is c.args.y.now
 
-miscs : (c : tie.Else3) → misc_of c.args.x.now ≡ misc_of c.args.y.now
+miscs : (c : lts.Else3 tie.the-claims reads.Pre reads.Post tie.handed_clauses) → misc_of c.args.x.now ≡ misc_of c.args.y.now
 miscs c = sym (misc-is c.args.x.now) ∙ sym c.u16_at-misc.ensures.0 ∙ c.if-misc-u16_at.false ∙ c.u16_at.ensures.0 ∙ misc-is c.args.y.now
 
-accepted : (c : tie.Else4) → judge_events (known editions c.args.e) (events_of c.args.rows.now) c.args.x.now ≡ 0
+accepted : (c : lts.Else4 tie.the-claims reads.Pre reads.Post tie.handed_clauses) → judge_events (known editions c.args.e) (events_of c.args.rows.now) c.args.x.now ≡ 0
 accepted c = sym c.judge.ensures ∙ c.if-judge-ne0.false
 
-ids : (c : tie.Else5) → identifier_of c.args.x.now ≡ identifier_of c.args.y.now
+ids : (c : lts.Else5 tie.the-claims reads.Pre reads.Post tie.handed_clauses) → identifier_of c.args.x.now ≡ identifier_of c.args.y.now
 ids c = sym c.identifier_of-id.ensures ∙ c.if-id-identifier_of.false ∙ c.identifier_of.ensures
 
-long : (c : tie.Else4) → 16 ≤ length c.args.x.now
+long : (c : lts.Else4 tie.the-claims reads.Pre reads.Post tie.handed_clauses) → 16 ≤ length c.args.x.now
 long c =
     accepted-long (known editions c.args.e) (events_of c.args.rows.now) c.requires.rows_value c.args.x.now (accepted c)
 
 -- the row of the identifier
-found : (c : tie.After-find) → c.find.result ≡ index_of (identifier_of c.args.x.now) (identifiers (events_of c.args.rows.now))
+found : (c : lts.After-find tie.the-claims reads.Pre reads.Post tie.handed_clauses) → c.find.result ≡ index_of (identifier_of c.args.x.now) (identifiers (events_of c.args.rows.now))
 found c = c.find.ensures ∙ ap (λ (i : ℕ). index_of i (identifiers (events_of c.args.rows.now))) c.identifier_of-id.ensures
 
-attributes-are : (c : tie.After-attributes-at) → c.attributes_at-a.result ≡ attributes_of (event_at (events_of c.args.rows.now) (index_of (identifier_of c.args.x.now) (identifiers (events_of c.args.rows.now))))
+attributes-are : (c : lts.After-attributes_at tie.the-claims reads.Pre reads.Post tie.handed_clauses) → c.attributes_at-a.result ≡ attributes_of (event_at (events_of c.args.rows.now) (index_of (identifier_of c.args.x.now) (identifiers (events_of c.args.rows.now))))
 attributes-are c = c.attributes_at-a.ensures ∙ ap (λ (i : ℕ). attributes_of (event_at (events_of c.args.rows.now) i)) (found c.before.before)
 
-beside : (c : tie.After-attributes-at) → Beside c.args.x.now c.args.y.now c.u32_at-kind.result c.u16_at-misc.result c.attributes_at-a.result
+beside : (c : lts.After-attributes_at tie.the-claims reads.Pre reads.Post tie.handed_clauses) → Beside c.args.x.now c.args.y.now c.u32_at-kind.result c.u16_at-misc.result c.attributes_at-a.result
 beside c =
     let a = c.args in
     beside-is (known editions a.e) (events_of a.rows.now) c.requires.rows_value a.x.now a.y.now c.requires.x_value.0 c.requires.x_value.1 (accepted c.before.before.before.before.before.before) (kinds c.before.before.before.before.before.before.before.before.before.before.before) (miscs c.before.before.before.before.before.before.before.before) c.if-x-y.false (ids c.before.before.before)

@@ -13,14 +13,16 @@ use Rattle.compare.specs.Fields.{first}
 use Rattle.pair_fields.specs.Inner.{begun_at}
 use Rattle.pairs.specs.Start.{first-at, first-none, first_one, rows-begun}
 use Rattle.pairs.proofs.others.Tie as tie
+use Rattle.pairs.proofs.others.Lts as lts
+use Rattle.pairs.proofs.others.Reads as reads
 use Rattle.pairs.proofs.others.Goals as goal
 
-skip_is : (c : tie.Joined1) → c.if-kind-eq9.skip ≡ first c.args.kind
+skip_is : (c : lts.Joined1 tie.the-claims reads.Pre reads.Post tie.handed_clauses) → c.if-kind-eq9.skip ≡ first c.args.kind
 skip_is c =
     let k = c.args.kind in
     ⊎_elim (λ w. w.1 ∙ first-at k w.0.taken) (λ w. w.1 ∙ first-none k w.0.left) c.if-kind-eq9.branch
 
-skip-low : (c : tie.Joined1) → c.if-kind-eq9.skip ≤ 1
+skip-low : (c : lts.Joined1 tie.the-claims reads.Pre reads.Post tie.handed_clauses) → c.if-kind-eq9.skip ≤ 1
 skip-low c = let e = skip_is c in let o = first_one c.args.kind in omega (arith, e, o)
 
 pub overflow_mul-skip : goal.overflow_mul-skip

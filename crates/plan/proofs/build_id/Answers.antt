@@ -12,13 +12,15 @@ use Rattle.meaning.specs.Records.{misc_of, fields_of}
 use Rattle.meaning.specs.Schema.{mmap2}
 use Rattle.marks.specs.Marks.{trail-eights, build-refused, build-reads, build-body, fields-short, fields-judged}
 use Rattle.plan.proofs.build_id.Tie as tie
+use Rattle.plan.proofs.build_id.Lts as lts
+use Rattle.plan.proofs.build_id.Reads as reads
 use Rattle.plan.proofs.build_id.Goals as goal
 
 -- past 23
-readable : (c : tie.Else1) → unreadable c.args.known c.args.a 10 (misc_of c.args.r.now) ≡ 0
+readable : (c : lts.Else1 tie.the-claims reads.Pre reads.Post tie.handed_clauses) → unreadable c.args.known c.args.a 10 (misc_of c.args.r.now) ≡ 0
 readable c =
     let a = c.args in
-    build-reads a.known a.a a.r.now 10 c.requires.value refl c.requires.a_value c.requires.r_value (not-false a.known.builds c.if-not-known.false)
+    build-reads a.known a.a a.r.now 10 c.requires.value refl c.requires.a_value c.requires.r_value c.if-not-known.false
 
 -- the length of the fields
 fields-long : (c : tie.After-f) → length (take (length c.before.before.before.before.before.args.r.now - c.before.before.before.before.before.args.trail) c.before.before.before.before.before.args.r.now) ≡ length c.before.before.before.before.before.args.r.now - c.before.before.before.before.before.args.trail
@@ -27,7 +29,7 @@ fields-long c = length-take-le _ _ (omega arith)
 pub returns-then-not-known : goal.returns-then-not-known
 returns-then-not-known c =
     let a = c.args in
-    build-refused a.known a.a a.r.now 10 c.requires.value refl c.requires.a_value c.requires.r_value (not-true a.known.builds c.if-not-known.true)
+    build-refused a.known a.a a.r.now 10 c.requires.value refl c.requires.a_value c.requires.r_value c.if-not-known.true
 
 pub returns-then-r-trail : goal.returns-then-r-trail
 returns-then-r-trail c =

@@ -14,22 +14,24 @@ use Rattle.meaning.specs.Records.{misc_of, fields_of}
 use Rattle.meaning.specs.Schema.{schema}
 use Rattle.marks.specs.Marks.{open_mark, stretched_mark, refused_mark, Plain, opened-reads, plain-unreadable, plain_of, plain_body, trail-eights, fields-short, fields-judged, name-judged}
 use Rattle.plan.proofs.opened.Tie as tie
+use Rattle.plan.proofs.opened.Lts as lts
+use Rattle.plan.proofs.opened.Reads as reads
 use Rattle.plan.proofs.opened.Goals as goal
 
 -- what the mark says: read by its edition but for 23, and no SAMPLE
-opens : (s : tie.Start) → (unreadable s.args.known s.args.a s.args.kind 0 ≡ 0) × (s.args.kind ≡ 9 → ⊥)
+opens : (s : lts.Start tie.the-claims reads.Pre reads.Post tie.handed_clauses) → (unreadable s.args.known s.args.a s.args.kind 0 ≡ 0) × (s.args.kind ≡ 9 → ⊥)
 opens s =
     opened-reads s.args.known s.args.a s.args.kind s.args.mark s.requires.marked s.requires.open_mark_le_mark s.requires.mark_lt_refused_mark s.requires.fact
 
-trail-words : (s : tie.Start) → s.args.trail % 8 ≡ 0
+trail-words : (s : lts.Start tie.the-claims reads.Pre reads.Post tie.handed_clauses) → s.args.trail % 8 ≡ 0
 trail-words s = ap (λ (n : ℕ). n % 8) s.requires.trail_value ∙ trail-eights s.args.known s.args.a
 
 -- no build id
-plain : (c : tie.Else1) → Plain c.args.kind (misc_of c.args.r.now)
+plain : (c : lts.Else1 tie.the-claims reads.Pre reads.Post tie.handed_clauses) → Plain c.args.kind (misc_of c.args.r.now)
 plain c = let a = c.args in plain_of a.kind (misc_of a.r.now) (sym c.has_build.ensures ∙ c.if-has_build.false)
 
 -- past 23
-readable : (c : tie.Else1) → unreadable c.args.known c.args.a c.args.kind (misc_of c.args.r.now) ≡ 0
+readable : (c : lts.Else1 tie.the-claims reads.Pre reads.Post tie.handed_clauses) → unreadable c.args.known c.args.a c.args.kind (misc_of c.args.r.now) ≡ 0
 readable c =
     plain-unreadable c.args.known c.args.a c.args.kind (misc_of c.args.r.now) (plain c) ∙ (opens c.before.before.before.before).0
 
@@ -38,7 +40,7 @@ fields-long : (c : tie.After-f) → length (take (length c.before.before.before.
 fields-long c = length-take-le _ _ (omega arith)
 
 -- a name
-name-mark : (c : tie.Else3) → (stretched_mark < c.args.mark) × (c.args.mark < refused_mark)
+name-mark : (c : lts.Else3 tie.the-claims reads.Pre reads.Post tie.handed_clauses) → (stretched_mark < c.args.mark) × (c.args.mark < refused_mark)
 name-mark c =
     let x = c.requires.open_mark_le_mark in
     let z = c.requires.fact in

@@ -11,21 +11,23 @@ use Rattle.laws.specs.Bytes.{and-true}
 use Rattle.reader.specs.Field.{is_width, field_found}
 use Rattle.reader.specs.Laws.{field-there, field-passes}
 use Rattle.reader.proofs.field_at.Tie as tie
+use Rattle.reader.proofs.field_at.Lts as lts
+use Rattle.reader.proofs.field_at.Reads as reads
 use Rattle.reader.proofs.field_at.Goals as goal
 
 -- past the test, the width is one and the bytes are there
-there : (c : tie.Else1)
+there : (c : lts.Else1 tie.the-claims reads.Pre reads.Post tie.handed_clauses)
     → (is_width c.args.k && leb (c.args.at + c.args.k) (length c.args.bytes.now)) ≡ true
-there c = sym (ap₂ ◌&&◌ c.is_width.ensures c.holds.ensures) ∙ not-false _ c.if-not-there.false
+there c = sym (ap₂ ◌&&◌ c.is_width.ensures c.holds.ensures) ∙ c.if-not-there.false
 
-inside : (c : tie.Else1) → c.args.at + c.args.k ≤ length c.args.bytes.now
+inside : (c : lts.Else1 tie.the-claims reads.Pre reads.Post tie.handed_clauses) → c.args.at + c.args.k ≤ length c.args.bytes.now
 inside c = leb-true _ _ (and-true (is_width c.args.k) _ (there c)).1
 
 pub returns-then-not-there : goal.returns-then-not-there
 returns-then-not-there c =
     let a = c.args in
     c.ends.ensures
-    ∙ sym (field-passes a.k a.bytes.now a.at (sym (ap₂ ◌&&◌ c.is_width.ensures c.holds.ensures) ∙ not-true _ c.if-not-there.true))
+    ∙ sym (field-passes a.k a.bytes.now a.at (sym (ap₂ ◌&&◌ c.is_width.ensures c.holds.ensures) ∙ c.if-not-there.true))
 
 pub number_at-requires : goal.number_at-requires
 number_at-requires c = ((and-true (is_width c.args.k) _ (there c)).0, inside c)

@@ -13,13 +13,13 @@ u64_at-requires c =
     omega (arith, e, c.requires.1)
 
 pub returns-in-1 : goal.returns-in-1
-returns-in-1 c = let a = c.args in c.u8_at.ensures.0 ∙ ap (λ (j : ℕ). number_at j a.bytes.now a.at) (sym c.in-1.keys1)
+returns-in-1 c = let a = c.args in c.u8_at.ensures.0 ∙ ap (λ (j : ℕ). number_at j a.bytes.now a.at) (sym c.in-1.is)
 
 pub returns-in-2 : goal.returns-in-2
-returns-in-2 c = let a = c.args in c.u16_at.ensures.0 ∙ ap (λ (j : ℕ). number_at j a.bytes.now a.at) (sym c.in-2.keys2)
+returns-in-2 c = let a = c.args in c.u16_at.ensures.0 ∙ ap (λ (j : ℕ). number_at j a.bytes.now a.at) (sym c.in-2.is)
 
 pub returns-in-4 : goal.returns-in-4
-returns-in-4 c = let a = c.args in c.u32_at.ensures.0 ∙ ap (λ (j : ℕ). number_at j a.bytes.now a.at) (sym c.in-4.keys3)
+returns-in-4 c = let a = c.args in c.u32_at.ensures.0 ∙ ap (λ (j : ℕ). number_at j a.bytes.now a.at) (sym c.in-4.is)
 
 pub returns-in_default : goal.returns-in_default
 returns-in_default c =

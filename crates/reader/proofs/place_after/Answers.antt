@@ -9,13 +9,15 @@ use borrow.Author.Rules.{rules}
 use borrow.Author.Tests.{leb-true, not-true, not-false}
 use Rattle.reader.specs.Laws.{forward-there, forward-passes}
 use Rattle.reader.proofs.place_after.Tie as tie
+use Rattle.reader.proofs.place_after.Lts as lts
+use Rattle.reader.proofs.place_after.Reads as reads
 use Rattle.reader.proofs.place_after.Goals as goal
 
-there : (c : tie.Else1) → leb (c.args.at + c.args.n) (length c.args.bytes.now) ≡ true
-there c = sym c.holds.ensures ∙ not-false c.holds.result c.if-not-holds.false
+there : (c : lts.Else1 tie.the-claims reads.Pre reads.Post tie.handed_clauses) → leb (c.args.at + c.args.n) (length c.args.bytes.now) ≡ true
+there c = sym c.holds.ensures ∙ c.if-not-holds.false
 
 pub returns-then-not-holds : goal.returns-then-not-holds
-returns-then-not-holds c = let h = c.holds in sym (forward-passes _ _ _ (sym h.ensures ∙ not-true h.result c.if-not-holds.true))
+returns-then-not-holds c = let h = c.holds in sym (forward-passes _ _ _ (sym h.ensures ∙ c.if-not-holds.true))
 
 pub overflow_add-result : goal.overflow_add-result
 overflow_add-result c =

@@ -14,6 +14,8 @@ use Rattle.entries.specs.Entries.{entry_at}
 use Rattle.entries.specs.Laws.{stands}
 use Rattle.replay.specs.Replay.{of_store, body_of, entry_rows, fault_at}
 use Rattle.replay_entries.proofs.fault_at.Tie as tie
+use Rattle.replay_entries.proofs.fault_at.Lts as lts
+use Rattle.replay_entries.proofs.fault_at.Reads as reads
 use Rattle.replay_entries.proofs.fault_at.Goals as goal
 
 -- by the entry that was read
@@ -29,11 +31,11 @@ body-ends xs at e q w =
     let n = ap (λ (x : Entry). x.length) (q ∙ s.told) in
     omega (arith, s.least, s.room, b, n)
 
-ends : (c : tie.Else1) → c.entry_at-e.result.body + c.entry_at-e.result.length ≤ length c.args.trace.now
-ends c = let e = c.entry_at-e in body-ends _ _ e.result e.ensures (not-false e.result.whole c.if-not-e.false)
+ends : (c : lts.Else1 tie.the-claims reads.Pre reads.Post tie.handed_clauses) → c.entry_at-e.result.body + c.entry_at-e.result.length ≤ length c.args.trace.now
+ends c = let e = c.entry_at-e in body-ends _ _ e.result e.ensures c.if-not-e.false
 
 -- the record that was looked at is the body
-body_is : (c : tie.After-one-record) → c.one_record.result ≡ framed (body_of c.args.trace.now c.entry_at-e.result)
+body_is : (c : lts.After-one_record tie.the-claims reads.Pre reads.Post tie.handed_clauses) → c.one_record.result ≡ framed (body_of c.args.trace.now c.entry_at-e.result)
 body_is c =
     let e = c.entry_at-e.result in
     let n : e.body + e.length - e.body ≡ e.length = omega arith in
@@ -43,10 +45,10 @@ pub returns-then-not-e : goal.returns-then-not-e
 unfolding first
 returns-then-not-e c =
     let e = c.entry_at-e in
-    by _ _ 51 e.result e.ensures (simp (not-true e.result.whole c.if-not-e.true))
+    by _ _ 51 e.result e.ensures (simp c.if-not-e.true)
 
 pub overflow_add-body : goal.overflow_add-body
-overflow_add-body c = record { fits = omega (arith, ends c.before.before, c.well-formed) }
+overflow_add-body c = record { fits = omega (arith, ends c.before.before, c.well_formed) }
 
 pub slice_bounds-one_record-end : goal.slice_bounds-one_record-end
 slice_bounds-one_record-end c = ends c.before.before
@@ -55,7 +57,7 @@ pub returns-then-one_record : goal.returns-then-one_record
 unfolding first
 returns-then-one_record c =
     let e = c.entry_at-e in
-    let w = not-false e.result.whole c.if-not-e.false in
+    let w = c.if-not-e.false in
     let f = sym (body_is c.before.before) ∙ c.if-one_record.true in
     by _ _ 0 e.result e.ensures (simp (w, c.if-kind-eq16.true, f))
 
@@ -63,7 +65,7 @@ pub returns-then-kind-eq16 : goal.returns-then-kind-eq16
 unfolding first
 returns-then-kind-eq16 c =
     let e = c.entry_at-e in
-    let w = not-false e.result.whole c.if-not-e.false in
+    let w = c.if-not-e.false in
     let f = sym (body_is c.before.before) ∙ c.if-one_record.false in
     by _ _ 53 e.result e.ensures (simp (w, c.if-kind-eq16.true, f))
 
@@ -71,21 +73,21 @@ pub returns-then-n-eq4 : goal.returns-then-n-eq4
 unfolding first
 returns-then-n-eq4 c =
     let e = c.entry_at-e in
-    let w = not-false e.result.whole c.if-not-e.false in
+    let w = c.if-not-e.false in
     by _ _ 0 e.result e.ensures (simp (w, c.if-kind-eq17.true, c.if-n-eq4.true))
 
 pub returns-then-kind-eq17 : goal.returns-then-kind-eq17
 unfolding first
 returns-then-kind-eq17 c =
     let e = c.entry_at-e in
-    let w = not-false e.result.whole c.if-not-e.false in
+    let w = c.if-not-e.false in
     by _ _ 51 e.result e.ensures (simp (w, c.if-kind-eq17.true, ne_eqb e.result.length 4 c.if-n-eq4.false))
 
 pub returns-then-of_store : goal.returns-then-of_store
 unfolding first
 returns-then-of_store c =
     let e = c.entry_at-e in
-    let w = not-false e.result.whole c.if-not-e.false in
+    let w = c.if-not-e.false in
     let s : of_store e.result ≡ true = sym c.of_store.ensures ∙ c.if-of_store.true in
     by _ _ 52 e.result e.ensures
     (simp (w, ne_eqb e.result.kind 16 c.if-kind-eq16.false, ne_eqb e.result.kind 17 c.if-kind-eq17.false, s))
@@ -94,7 +96,7 @@ pub returns : goal.returns
 unfolding first
 returns c =
     let e = c.entry_at-e in
-    let w = not-false e.result.whole c.if-not-e.false in
+    let w = c.if-not-e.false in
     let s : of_store e.result ≡ false = sym c.of_store.ensures ∙ c.if-of_store.false in
     by _ _ 51 e.result e.ensures
     (simp (w, ne_eqb e.result.kind 16 c.if-kind-eq16.false, ne_eqb e.result.kind 17 c.if-kind-eq17.false, s))

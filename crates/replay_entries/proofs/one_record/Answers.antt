@@ -9,10 +9,12 @@ use borrow.Author.Rules.{rules}
 use borrow.Author.Tests.{le-leb, lt-leb, eq-eqb, ne_eqb}
 use Rattle.meaning.specs.Records.{size_of}
 use Rattle.replay_entries.proofs.one_record.Tie as tie
+use Rattle.replay_entries.proofs.one_record.Lts as lts
+use Rattle.replay_entries.proofs.one_record.Reads as reads
 use Rattle.replay_entries.proofs.one_record.Goals as goal
 
 -- the size that was read is the header's
-size : (c : tie.After-u16-at) → c.u16_at-size.result ≡ size_of c.args.r.now
+size : (c : lts.After-u16_at tie.the-claims reads.Pre reads.Post tie.handed_clauses) → c.u16_at-size.result ≡ size_of c.args.r.now
 unfolding size_of
 size c = c.u16_at-size.ensures.0
 

@@ -12,10 +12,12 @@ use Rattle.meaning.specs.Events.{events_of, asked_events, judge_events}
 use Rattle.replay.specs.Replay.{Played, half, replay_told, rooms_of}
 use Rattle.replay.specs.Playing.{whole, call-refused, call_played, call_passes}
 use Rattle.replaying.proofs.replay.Tie as tie
+use Rattle.replaying.proofs.replay.Lts as lts
+use Rattle.replaying.proofs.replay.Reads as reads
 use Rattle.replaying.proofs.replay.Goals as goal
 
 -- the refusal that was asked is that of the rows
-rows_are : (c : tie.After-call-refusal)
+rows_are : (c : lts.After-call_refusal tie.the-claims reads.Pre reads.Post tie.handed_clauses)
     → c.call_refusal-refused.result
     ≡ first (call_rows (asked_events c.args.limit editions c.args.e (events_of c.args.rows.now)) (half (length c.args.rooms.now)) c.args.count c.args.count) 0
 rows_are c =

@@ -6,19 +6,19 @@ use Rattle.replay.specs.Within.{copied_on}
 use Rattle.rooms.proofs.copy_within.Goals as goal
 
 pub loop-j-init : goal.loop-j-init
-loop-j-init c = (sym (put-nil _ _ (omega (arith, c.requires))), omega arith, refl)
+loop-j-init c = (sym (put-nil _ _ (omega (arith, (c.requires.n_bound, c.requires.n_in_bounds)))), omega arith, refl)
 
 pub overflow_add-d : goal.overflow_add-d
-overflow_add-d c = omega (arith, c.requires)
+overflow_add-d c = omega (arith, (c.requires.n_bound, c.requires.n_in_bounds))
 
 pub bounds-d-from : goal.bounds-d-from
-bounds-d-from c = omega (arith, c.requires, c.loop-j.invariant.2)
+bounds-d-from c = omega (arith, (c.requires.n_bound, c.requires.n_in_bounds), c.loop-j.invariant.2)
 
 pub overflow_add-d-in-loop-j : goal.overflow_add-d-in-loop-j
-overflow_add-d-in-loop-j c = omega (arith, c.requires)
+overflow_add-d-in-loop-j c = omega (arith, (c.requires.n_bound, c.requires.n_in_bounds))
 
 pub bounds-d-to : goal.bounds-d-to
-bounds-d-to c = omega (arith, c.requires, c.loop-j.invariant.2)
+bounds-d-to c = omega (arith, (c.requires.n_bound, c.requires.n_in_bounds), c.loop-j.invariant.2)
 
 pub loop-j-preserved : goal.loop-j-preserved
 loop-j-preserved c =

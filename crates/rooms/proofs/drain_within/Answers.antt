@@ -8,13 +8,15 @@ use Rattle.meaning.specs.Events.{events_of, judge_events}
 use Rattle.laws.specs.Rings.{Going, distance-lt}
 use Rattle.replay.specs.Within.{Together, together-first, together-going, together-inside, together-end, together-again}
 use Rattle.rooms.proofs.drain_within.Tie as tie
+use Rattle.rooms.proofs.drain_within.Lts as lts
+use Rattle.rooms.proofs.drain_within.Reads as reads
 use Rattle.rooms.proofs.drain_within.Goals as goal
 
-go : (c : tie.Else1 invariant-loop decreases-loop) → c.next_frame-f.result.go ≡ true
-go c = not-false c.next_frame-f.result.go c.if-not-f.false
+go : (c : lts.Else1 tie.the-claims reads.Pre reads.Post tie.handed_clauses goal.the-invariant-loop-taken goal.the-decreases-loop-taken) → c.next_frame-f.result.go ≡ true
+go c = c.if-not-f.false
 
 -- what a frame that goes on says
-going : (c : tie.Else1 invariant-loop decreases-loop)
+going : (c : lts.Else1 tie.the-claims reads.Pre reads.Post tie.handed_clauses goal.the-invariant-loop-taken goal.the-decreases-loop-taken)
     → Going (asking true) (take c.args.h c.args.rooms.now) c.args.head c.loop-taken.t c.loop-taken.left
     (length c.loop-taken.journal - c.loop-taken.at) (length (drop c.args.h c.loop-taken.rooms)) c.next_frame-f.result
 going c =
@@ -53,7 +55,7 @@ returns-then-not-f c =
     let f = c.next_frame-f in
     let e =
     together-end (judge_events (known editions a.e) (events_of a.rows.now)) a.rooms.now a.h a.head a.tail a.budget a.journal.now
-    l.rooms l.journal l.t l.left l.bytes l.at l.invariant f.result f.ensures (not-true f.result.go c.if-not-f.true) in record { value = sym (ap told e.0); journal_after = sym (ap (λ (x : End). x.state.journal) e.0); rooms_after = e.1; }
+    l.rooms l.journal l.t l.left l.bytes l.at l.invariant f.result f.ensures c.if-not-f.true in record { value = sym (ap told e.0); journal_after = sym (ap (λ (x : End). x.state.journal) e.0); rooms_after = e.1; }
 
 pub take_within-requires : goal.take_within-requires
 take_within-requires c =

@@ -8,10 +8,12 @@ use Rattle.meaning.specs.Events.{events_of, judge_events}
 use Rattle.laws.specs.Rings.{record-length}
 use Rattle.replay.specs.Within.{shown-within}
 use Rattle.rooms.proofs.take_within.Tie as tie
+use Rattle.rooms.proofs.take_within.Lts as lts
+use Rattle.rooms.proofs.take_within.Reads as reads
 use Rattle.rooms.proofs.take_within.Goals as goal
 
 -- what is shown is the record, whichever half it lies in
-bytes : (c : tie.After-shown) → c.shown-r.result.now ≡ record_at (take c.args.h c.args.rooms.now) c.args.f.place c.args.f.size
+bytes : (c : lts.After-shown tie.the-claims reads.Pre reads.Post tie.handed_clauses) → c.shown-r.result.now ≡ record_at (take c.args.h c.args.rooms.now) c.args.f.place c.args.f.size
 bytes c =
     let s = c.before.before.before.before.before.before.before.before.before.before in
     let a = c.args in
@@ -19,7 +21,7 @@ bytes c =
     ∙ shown-within c.gather_within.new.rooms a.rooms.now a.h a.f c.requires.rooms_len c.requires.go_value c.requires.place_le_h c.requires.size_le_h c.gather_within.ensures
 
 -- it has a header
-header : (c : tie.After-shown) → 8 ≤ length c.shown-r.result.now
+header : (c : lts.After-shown tie.the-claims reads.Pre reads.Post tie.handed_clauses) → 8 ≤ length c.shown-r.result.now
 header c =
     let s = c.before.before.before.before.before.before.before.before.before.before in
     let a = c.args in

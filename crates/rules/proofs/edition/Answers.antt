@@ -9,15 +9,15 @@ use Rattle.rules.proofs.edition.Goals as goal
 
 pub returns-in-2 : goal.returns-in-2
 unfolding known
-returns-in-2 c = ap (known editions) (sym c.in-2.keys1)
+returns-in-2 c = ap (known editions) (sym c.in-2.is)
 
 pub returns-in-3 : goal.returns-in-3
 unfolding known
-returns-in-3 c = ap (known editions) (sym c.in-3.keys2)
+returns-in-3 c = ap (known editions) (sym c.in-3.is)
 
 pub returns-in-4 : goal.returns-in-4
 unfolding known
-returns-in-4 c = ap (known editions) (sym c.in-4.keys3)
+returns-in-4 c = ap (known editions) (sym c.in-4.is)
 
 pub returns-in-0 : goal.returns-in-0
 unfolding known

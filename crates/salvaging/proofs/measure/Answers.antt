@@ -13,20 +13,22 @@ use Rattle.salvage.specs.Salvage.{table_judge}
 use Rattle.salvage.specs.Walks.{SalvageStands}
 use Rattle.salvage.specs.Turns.{size_at, Sized, sized, stands-start, stands-again, stands-end, most}
 use Rattle.salvaging.proofs.measure.Tie as tie
+use Rattle.salvaging.proofs.measure.Lts as lts
+use Rattle.salvaging.proofs.measure.Reads as reads
 use Rattle.salvaging.proofs.measure.Goals as goal
 
-abbrev J : tie.Start invariant-loop decreases-loop → List ℕ → ℕ
+abbrev J : lts.Start tie.the-claims reads.Pre reads.Post tie.handed_clauses goal.the-invariant-loop-holes goal.the-decreases-loop-holes → List ℕ → ℕ
 J s = table_judge editions s.args.e (events_of s.args.rows.now)
 
 -- the part that is lent is what is left
-size_is : (c : tie.After-kept-size invariant-loop decreases-loop) → c.kept_size-size.result ≡ size_at (J c.before.before.before.before.before.before) (drop c.loop-holes.w.at c.args.xs.now)
+size_is : (c : lts.After-kept_size tie.the-claims reads.Pre reads.Post tie.handed_clauses goal.the-invariant-loop-holes goal.the-decreases-loop-holes) → c.kept_size-size.result ≡ size_at (J c.before.before.before.before.before.before) (drop c.loop-holes.w.at c.args.xs.now)
 size_is c =
     let xs : List ℕ = c.args.xs.now in
     let at : ℕ = c.loop-holes.w.at in
     c.kept_size-size.ensures ∙ ap (size_at (J c.before.before.before.before.before.before)) (take_all (length xs - at) (drop at xs) (omega (arith, length-drop at xs)))
 
 -- what a turn then has
-turned : (c : tie.After-kept-size invariant-loop decreases-loop) → Sized (J c.before.before.before.before.before.before) c.args.xs.now c.loop-holes.w c.kept_size-size.result
+turned : (c : lts.After-kept_size tie.the-claims reads.Pre reads.Post tie.handed_clauses goal.the-invariant-loop-holes goal.the-decreases-loop-holes) → Sized (J c.before.before.before.before.before.before) c.args.xs.now c.loop-holes.w c.kept_size-size.result
 turned c = sized (J c.before.before.before.before.before.before) c.args.xs.now c.loop-holes.w c.loop-holes.invariant c.if-xs-at.false c.kept_size-size.result (size_is c)
 
 pub loop-holes-init : goal.loop-holes-init

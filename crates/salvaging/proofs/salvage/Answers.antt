@@ -15,39 +15,41 @@ use Rattle.salvage.specs.Salvage.{holes, dropped, changes, tells, table_unready,
 use Rattle.salvage.specs.Promises.{changes-length, kept-and-dropped}
 use Rattle.salvage.specs.Turns.{unready-2, unready-11, unready-0, answer-before, answer-54, answer-0, refused-result, accepted-result}
 use Rattle.salvaging.proofs.salvage.Tie as tie
+use Rattle.salvaging.proofs.salvage.Lts as lts
+use Rattle.salvaging.proofs.salvage.Reads as reads
 use Rattle.salvaging.proofs.salvage.Goals as goal
 
 -- the table, what is refused before the room, and the judge
-abbrev table : tie.Start → List Event
+abbrev table : lts.Start tie.the-claims reads.Pre reads.Post tie.handed_clauses → List Event
 table s = events_of s.args.rows.now
 
-abbrev before : tie.Start → ℕ
+abbrev before : lts.Start tie.the-claims reads.Pre reads.Post tie.handed_clauses → ℕ
 before s = table_unready s.args.limit editions s.args.e (table s)
 
-abbrev J : tie.Start → List ℕ → ℕ
+abbrev J : lts.Start tie.the-claims reads.Pre reads.Post tie.handed_clauses → List ℕ → ℕ
 J s = table_judge editions s.args.e (table s)
 
-known : (c : tie.Else1) → allowed editions c.args.e ≡ true
-known c = sym c.allowed.ensures ∙ not-false _ c.if-not-allowed.false
+known : (c : lts.Else1 tie.the-claims reads.Pre reads.Post tie.handed_clauses) → allowed editions c.args.e ≡ true
+known c = sym c.allowed.ensures ∙ c.if-not-allowed.false
 
 -- past both
-ready : (c : tie.Else2) → before c.before.before.before.before.before.before.before.before ≡ 0
-ready c = unready-0 (allowed editions c.args.e) (sound c.args.limit (table c.before.before.before.before.before.before.before.before)) (known c.before.before.before) (sym c.sound.ensures ∙ not-false _ c.if-not-sound.false)
+ready : (c : lts.Else2 tie.the-claims reads.Pre reads.Post tie.handed_clauses) → before c.before.before.before.before.before.before.before.before ≡ 0
+ready c = unready-0 (allowed editions c.args.e) (sound c.args.limit (table c.before.before.before.before.before.before.before.before)) (known c.before.before.before) (sym c.sound.ensures ∙ c.if-not-sound.false)
 
 -- the list's bytes by the number of its entries
-entries : (c : tie.After-measure) → length (changes (holes (J c.before.before.before.before.before.before.before.before.before) c.args.xs.now)) ≡ 22 * c.measure-t.result.holes
+entries : (c : lts.After-measure tie.the-claims reads.Pre reads.Post tie.handed_clauses) → length (changes (holes (J c.before.before.before.before.before.before.before.before.before) c.args.xs.now)) ≡ 22 * c.measure-t.result.holes
 entries c = changes-length (holes (J c.before.before.before.before.before.before.before.before.before) c.args.xs.now) ∙ ap (λ (n : ℕ). 22 * n) (sym c.measure-t.ensures.1)
 
 pub returns-then-not-allowed : goal.returns-then-not-allowed
 returns-then-not-allowed c =
     let a = c.args in
-    let u = unready-2 (allowed editions a.e) (sound a.limit (table c.before.before.before.before.before.before.before)) (sym c.allowed.ensures ∙ not-true _ c.if-not-allowed.true) in
+    let u = unready-2 (allowed editions a.e) (sound a.limit (table c.before.before.before.before.before.before.before)) (sym c.allowed.ensures ∙ c.if-not-allowed.true) in
     let x = refused-result (before c.before.before.before.before.before.before.before) (J c.before.before.before.before.before.before.before) a.xs.now a.out.now a.list.now 2 (omega arith) (answer-before (before c.before.before.before.before.before.before.before) (J c.before.before.before.before.before.before.before) a.xs.now (length a.out.now) (length a.list.now) 2 (omega arith) u) in record { value = c.refused.ensures ∙ x.0; out_after = x.1; list_after = x.2; }
 
 pub returns-then-not-sound : goal.returns-then-not-sound
 returns-then-not-sound c =
     let a = c.args in
-    let u = unready-11 (allowed editions a.e) (sound a.limit (table c.before.before.before.before.before.before.before.before.before)) (known c.before.before.before.before) (sym c.sound.ensures ∙ not-true _ c.if-not-sound.true) in
+    let u = unready-11 (allowed editions a.e) (sound a.limit (table c.before.before.before.before.before.before.before.before.before)) (known c.before.before.before.before) (sym c.sound.ensures ∙ c.if-not-sound.true) in
     let x = refused-result (before c.before.before.before.before.before.before.before.before.before) (J c.before.before.before.before.before.before.before.before.before) a.xs.now a.out.now a.list.now 11 (omega arith) (answer-before (before c.before.before.before.before.before.before.before.before.before) (J c.before.before.before.before.before.before.before.before.before) a.xs.now (length a.out.now) (length a.list.now) 11 (omega arith) u) in record { value = c.refused-then-not-sound.ensures ∙ x.0; out_after = x.1; list_after = x.2; }
 
 pub returns-then-out-t : goal.returns-then-out-t

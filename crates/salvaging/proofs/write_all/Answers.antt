@@ -15,20 +15,22 @@ use Rattle.salvage.specs.Walks.{Wrote}
 use Rattle.salvage.specs.Promises.{changes-length}
 use Rattle.salvage.specs.Turns.{size_at, Sized, sized, wrote-start, wrote-lengths, wrote_by, write_again, write-end, stands-end, hole-room, most}
 use Rattle.salvaging.proofs.write_all.Tie as tie
+use Rattle.salvaging.proofs.write_all.Lts as lts
+use Rattle.salvaging.proofs.write_all.Reads as reads
 use Rattle.salvaging.proofs.write_all.Goals as goal
 
-abbrev J : tie.Start invariant-loop decreases-loop → List ℕ → ℕ
+abbrev J : lts.Start tie.the-claims reads.Pre reads.Post tie.handed_clauses goal.the-invariant-loop-list goal.the-decreases-loop-list → List ℕ → ℕ
 J s = table_judge editions s.args.e (events_of s.args.rows.now)
 
 -- the part that is lent is what is left
-size_is : (c : tie.After-kept-size invariant-loop decreases-loop) → c.kept_size-size.result ≡ size_at (J c.before.before.before.before.before.before.before.before) (drop c.loop-list.w.at c.args.xs.now)
+size_is : (c : lts.After-kept_size tie.the-claims reads.Pre reads.Post tie.handed_clauses goal.the-invariant-loop-list goal.the-decreases-loop-list) → c.kept_size-size.result ≡ size_at (J c.before.before.before.before.before.before.before.before) (drop c.loop-list.w.at c.args.xs.now)
 size_is c =
     let xs : List ℕ = c.args.xs.now in
     let at : ℕ = c.loop-list.w.at in
     c.kept_size-size.ensures ∙ ap (size_at (J c.before.before.before.before.before.before.before.before)) (take_all (length xs - at) (drop at xs) (omega (arith, length-drop at xs)))
 
 -- what a turn then has
-turned : (c : tie.After-kept-size invariant-loop decreases-loop) → Sized (J c.before.before.before.before.before.before.before.before) c.args.xs.now c.loop-list.w c.kept_size-size.result
+turned : (c : lts.After-kept_size tie.the-claims reads.Pre reads.Post tie.handed_clauses goal.the-invariant-loop-list goal.the-decreases-loop-list) → Sized (J c.before.before.before.before.before.before.before.before) c.args.xs.now c.loop-list.w c.kept_size-size.result
 turned c =
     sized (J c.before.before.before.before.before.before.before.before) c.args.xs.now c.loop-list.w c.loop-list.invariant.stands c.if-xs-at.false c.kept_size-size.result (size_is c)
 

@@ -13,9 +13,11 @@ use Rattle.settings.specs.Steps.{place-next, place_up}
 use Rattle.settings.specs.Puts.{rows-put, rows_none}
 use lib.Seq.{take_all}
 use Rattle.settings_put.proofs.put_rows.Tie as tie
+use Rattle.settings_put.proofs.put_rows.Lts as lts
+use Rattle.settings_put.proofs.put_rows.Reads as reads
 use Rattle.settings_put.proofs.put_rows.Goals as goal
 
-room : (c : tie.In-loop invariant-loop decreases-loop)
+room : (c : lts.In-loop tie.the-claims reads.Pre reads.Post tie.handed_clauses goal.the-invariant-loop-i goal.the-decreases-loop-i)
     → place_of c.args.v c.loop-i.i + (c.args.v.width + 54) ≤ length c.args.d.now
 room c =
     let a = c.args in
@@ -33,7 +35,7 @@ pub overflow_add-at : goal.overflow_add-at
 overflow_add-at c = omega (arith, c.requires.0.high)
 
 pub overflow_add-at-in-loop-i : goal.overflow_add-at-in-loop-i
-overflow_add-at-in-loop-i c = omega (arith, room c.before.before.before.before.before.before.before, c.loop-i.invariant.1, c.well-formed)
+overflow_add-at-in-loop-i c = omega (arith, room c.before.before.before.before.before.before.before, c.loop-i.invariant.1, c.well_formed)
 
 pub loop-i-preserved : goal.loop-i-preserved
 loop-i-preserved c =

@@ -16,20 +16,22 @@ use Rattle.settings.specs.Only.{head_passed, end-passed}
 use Rattle.settings.specs.Steps.{narrow-of, all-narrow, store-first, store-rest, rest_end, rest-table, table-11, table-40, table-0, read-refused, read-given}
 use borrow.Author.Rules.{rules}
 use Rattle.settings_read.proofs.read_store.Tie as tie
+use Rattle.settings_read.proofs.read_store.Lts as lts
+use Rattle.settings_read.proofs.read_store.Reads as reads
 use Rattle.settings_read.proofs.read_store.Goals as goal
 
-zero : (c : tie.Else1) → first (first_rows versions c.args.bytes.now) 0 ≡ 0
+zero : (c : lts.Else1 tie.the-claims reads.Pre reads.Post tie.handed_clauses) → first (first_rows versions c.args.bytes.now) 0 ≡ 0
 zero c = sym c.first_answer-a.ensures ∙ c.if-a-ne0.false
 
-ver : (c : tie.After-version-of) → c.version_of-v.result ≡ shown versions c.args.bytes.now
+ver : (c : lts.After-version_of tie.the-claims reads.Pre reads.Post tie.handed_clauses) → c.version_of-v.result ≡ shown versions c.args.bytes.now
 ver c = c.version_of-v.ensures ∙ ap (version_of versions) c.u16_at.ensures.0
 
-narrow : (c : tie.After-version-of) → Narrow c.version_of-v.result
+narrow : (c : lts.After-version_of tie.the-claims reads.Pre reads.Post tie.handed_clauses) → Narrow c.version_of-v.result
 narrow c =
     let xs = c.args.bytes.now in
     subst Narrow (sym (ver c)) (narrow-of versions (number_at 2 xs 6) all-narrow (head_passed versions xs 0 (zero c.before.before.before)).0.known)
 
-lastly : (c : tie.After-last-answer)
+lastly : (c : lts.After-last_answer tie.the-claims reads.Pre reads.Post tie.handed_clauses)
     → c.last_answer-b.result
     ≡ first (last_rows c.version_of-v.result editions c.args.bytes.now (place_of c.version_of-v.result c.count_events-w.result.count))
     (first (after_rows c.version_of-v.result c.args.bytes.now (place_of c.version_of-v.result c.count_events-w.result.count + 19)) 0)
@@ -38,7 +40,7 @@ lastly c =
     let xs = c.args.bytes.now in
     c.last_answer-b.ensures ∙ ap (λ (p : ℕ). first (last_rows v editions xs p) (first (after_rows v xs (p + 19)) 0)) c.count_events-w.ensures.1
 
-rest : (c : tie.After-last-answer)
+rest : (c : lts.After-last_answer tie.the-claims reads.Pre reads.Post tie.handed_clauses)
     → store_answer versions editions c.args.bytes.now (length c.args.rows.now)
     ≡ rest_answer c.version_of-v.result editions c.args.bytes.now c.count_events-w.result.count (length c.args.rows.now)
 rest c =
@@ -48,12 +50,12 @@ rest c =
     let k : count_of (shown versions xs) xs ≡ c.count_events-w.result.count = ap (λ (u : Version). count_of u xs) w ∙ sym c.count_events-w.ensures.0 in
     store-rest versions editions xs lent (zero c.before.before.before.before.before) ∙ (λ j. rest_answer (w j) editions xs (k j) lent)
 
-ends : (c : tie.Else2) → place_of c.version_of-v.result c.count_events-w.result.count + 19 ≡ length c.args.bytes.now
+ends : (c : lts.Else2 tie.the-claims reads.Pre reads.Post tie.handed_clauses) → place_of c.version_of-v.result c.count_events-w.result.count + 19 ≡ length c.args.bytes.now
 ends c =
     (end-passed c.version_of-v.result editions c.args.bytes.now (place_of c.version_of-v.result c.count_events-w.result.count)
     0 (sym (lastly c.before.before) ∙ c.if-b-ne0.false)).0.ends
 
-table : (c : tie.Else2)
+table : (c : lts.Else2 tie.the-claims reads.Pre reads.Post tie.handed_clauses)
     → store_answer versions editions c.args.bytes.now (length c.args.rows.now)
     ≡ first (table_rows c.version_of-v.result.limit (rows_of c.version_of-v.result c.args.bytes.now c.count_events-w.result.count)
     c.count_events-w.result.count (length c.args.rows.now)) 0
@@ -96,7 +98,7 @@ returns-then-not-rows_sound c =
     let v = c.version_of-v.result in
     let n = c.count_events-w.result.count in
     let p = read-refused versions editions xs rows 11
-    (table c.before.before.before.before ∙ table-11 v.limit (rows_of v xs n) n (length rows) (sym c.rows_sound.ensures ∙ not-true c.rows_sound.result c.if-not-rows_sound.true))
+    (table c.before.before.before.before ∙ table-11 v.limit (rows_of v xs n) n (length rows) (sym c.rows_sound.ensures ∙ c.if-not-rows_sound.true))
     (λ (e : ◌≡◌ {A = ℕ} 11 0). omega arith) in record { value = c.refuse-then-not-rows_sound.ensures ∙ p.0; rows_after = p.1; }
 
 pub returns-then-rows-n : goal.returns-then-rows-n
@@ -106,26 +108,26 @@ returns-then-rows-n c =
     let v = c.version_of-v.result in
     let n = c.count_events-w.result.count in
     let p = read-refused versions editions xs rows 40
-    (table c.before.before.before.before.before ∙ table-40 v.limit (rows_of v xs n) n (length rows) (sym c.rows_sound.ensures ∙ not-false c.rows_sound.result c.if-not-rows_sound.false) c.if-rows-n.true)
+    (table c.before.before.before.before.before ∙ table-40 v.limit (rows_of v xs n) n (length rows) (sym c.rows_sound.ensures ∙ c.if-not-rows_sound.false) c.if-rows-n.true)
     (λ (e : ◌≡◌ {A = ℕ} 40 0). omega arith) in record { value = c.refuse-then-rows-n.ensures ∙ p.0; rows_after = p.1; }
 
 pub fill_rows-requires : goal.fill_rows-requires
 fill_rows-requires c = (narrow c.before.before.before.before.before.before.before.before, omega (arith, ends c.before.before.before.before.before), c.if-rows-n.false)
 
 pub overflow_add-at : goal.overflow_add-at
-overflow_add-at c = omega (arith, ends c.before.before.before.before.before.before.before, c.count_events-w.ensures.1, c.well-formed)
+overflow_add-at c = omega (arith, ends c.before.before.before.before.before.before.before, c.count_events-w.ensures.1, c.well_formed)
 
 pub u64_at-requires : goal.u64_at-requires
 u64_at-requires c = omega (arith, ends c.before.before.before.before.before.before.before, c.count_events-w.ensures.1)
 
 pub overflow_add-at-2 : goal.overflow_add-at-2
-overflow_add-at-2 c = omega (arith, ends c.before.before.before.before.before.before.before.before, c.count_events-w.ensures.1, c.well-formed)
+overflow_add-at-2 c = omega (arith, ends c.before.before.before.before.before.before.before.before, c.count_events-w.ensures.1, c.well_formed)
 
 pub u8_at-requires : goal.u8_at-requires
 u8_at-requires c = omega (arith, ends c.before.before.before.before.before.before.before.before, c.count_events-w.ensures.1)
 
 pub overflow_add-at-3 : goal.overflow_add-at-3
-overflow_add-at-3 c = omega (arith, ends c.before.before.before.before.before.before.before.before.before, c.count_events-w.ensures.1, c.well-formed)
+overflow_add-at-3 c = omega (arith, ends c.before.before.before.before.before.before.before.before.before, c.count_events-w.ensures.1, c.well_formed)
 
 pub u32_at-requires : goal.u32_at-requires
 u32_at-requires c = omega (arith, ends c.before.before.before.before.before.before.before.before.before, c.count_events-w.ensures.1)
@@ -141,5 +143,5 @@ returns c =
     let y : c.u8_at.result ≡ number_at 1 xs (place_of v n + 14) = c.u8_at.ensures.0 ∙ ap (λ (k : ℕ). number_at 1 xs (k + 14)) p in
     let z : c.u32_at.result ≡ number_at 4 xs (place_of v n + 15) = c.u32_at.ensures.0 ∙ ap (λ (k : ℕ). number_at 4 xs (k + 15)) p in
     let s : store_answer versions editions xs (length rows) ≡ 0 =
-    table c.before.before.before.before.before.before.before.before.before.before ∙ table-0 v.limit (rows_of v xs n) n (length rows) (sym c.rows_sound.ensures ∙ not-false c.rows_sound.result c.if-not-rows_sound.false) c.if-rows-n.false in
+    table c.before.before.before.before.before.before.before.before.before.before ∙ table-0 v.limit (rows_of v xs n) n (length rows) (sym c.rows_sound.ensures ∙ c.if-not-rows_sound.false) c.if-rows-n.false in
     let g = read-given versions editions xs rows v n s (ver c.before.before.before.before.before.before.before.before.before.before.before.before.before) c.count_events-w.ensures.0 in record { value = (λ j. settings n (x j) (y j) (z j)) ∙ g.0; rows_after = c.fill_rows.ensures ∙ g.1; }

@@ -9,9 +9,11 @@ use Rattle.settings.specs.Versions.{place_of}
 use Rattle.settings.specs.Reading.{fits, row_from, rows_of}
 use Rattle.settings.specs.Steps.{place-next, place_up, rows_next}
 use Rattle.settings_rows.proofs.fill_rows.Tie as tie
+use Rattle.settings_rows.proofs.fill_rows.Lts as lts
+use Rattle.settings_rows.proofs.fill_rows.Reads as reads
 use Rattle.settings_rows.proofs.fill_rows.Goals as goal
 
-room : (c : tie.In-loop invariant-loop decreases-loop)
+room : (c : lts.In-loop tie.the-claims reads.Pre reads.Post tie.handed_clauses goal.the-invariant-loop-i goal.the-decreases-loop-i)
     → place_of c.args.v c.loop-i.i + (c.args.v.width + 54) ≤ length c.args.bytes.now
 room c =
     let a = c.args in
@@ -27,10 +29,10 @@ unfolding place_of rows_of
 loop-i-init c = (refl, refl, omega arith, refl, refl)
 
 pub overflow_add-at : goal.overflow_add-at
-overflow_add-at c = omega (arith, room c, c.loop-i.invariant.1, c.well-formed)
+overflow_add-at c = omega (arith, room c, c.loop-i.invariant.1, c.well_formed)
 
 pub overflow_add-at-in-loop-i : goal.overflow_add-at-in-loop-i
-overflow_add-at-in-loop-i c = omega (arith, room c.before.before, c.loop-i.invariant.1, c.well-formed)
+overflow_add-at-in-loop-i c = omega (arith, room c.before.before, c.loop-i.invariant.1, c.well_formed)
 
 pub row_at-requires : goal.row_at-requires
 row_at-requires c = omega (arith, room c.before.before, c.loop-i.invariant.1)
@@ -39,7 +41,7 @@ pub bounds-rows-i : goal.bounds-rows-i
 bounds-rows-i c = omega (arith, c.loop-i-test.true, c.loop-i.invariant.3, c.requires.2)
 
 pub overflow_add-at-in-loop-i-2 : goal.overflow_add-at-in-loop-i-2
-overflow_add-at-in-loop-i-2 c = omega (arith, room c.before.before.before, c.loop-i.invariant.1, c.loop-i.invariant.4, c.well-formed)
+overflow_add-at-in-loop-i-2 c = omega (arith, room c.before.before.before, c.loop-i.invariant.1, c.loop-i.invariant.4, c.well_formed)
 
 pub overflow_add-i : goal.overflow_add-i
 overflow_add-i c = omega (arith, c.loop-i-test.true, c.ranges.n.fits)

@@ -12,9 +12,11 @@ use Rattle.settings.specs.Reading.{fits, rows_of}
 use Rattle.settings.specs.Steps.{place-next, place_up, listed_next, marked_next}
 use Rattle.meaning.specs.Events.{identifiers, events_of, all_marked}
 use Rattle.settings_rows.proofs.list_events.Tie as tie
+use Rattle.settings_rows.proofs.list_events.Lts as lts
+use Rattle.settings_rows.proofs.list_events.Reads as reads
 use Rattle.settings_rows.proofs.list_events.Goals as goal
 
-room : (c : tie.In-loop invariant-loop decreases-loop)
+room : (c : lts.In-loop tie.the-claims reads.Pre reads.Post tie.handed_clauses goal.the-invariant-loop-i goal.the-decreases-loop-i)
     → place_of c.args.v c.loop-i.i + (c.args.v.width + 54) ≤ length c.args.bytes.now
 room c =
     let a = c.args in
@@ -27,10 +29,10 @@ unfolding place_of rows_of all_marked
 loop-i-init c = (refl, refl, refl, omega arith, refl)
 
 pub overflow_add-p : goal.overflow_add-p
-overflow_add-p c = omega (arith, room c, c.loop-i.invariant.2, c.well-formed)
+overflow_add-p c = omega (arith, room c, c.loop-i.invariant.2, c.well_formed)
 
 pub overflow_add-p-in-loop-i : goal.overflow_add-p-in-loop-i
-overflow_add-p-in-loop-i c = omega (arith, room c.before.before, c.loop-i.invariant.2, c.well-formed)
+overflow_add-p-in-loop-i c = omega (arith, room c.before.before, c.loop-i.invariant.2, c.well_formed)
 
 pub u64_at-requires : goal.u64_at-requires
 u64_at-requires c = omega (arith, room c.before.before, c.loop-i.invariant.2)
@@ -39,7 +41,7 @@ pub bounds-ids-i : goal.bounds-ids-i
 bounds-ids-i c = omega (arith, c.loop-i-test.true, c.loop-i.invariant.4, c.requires.2)
 
 pub overflow_add-p-in-loop-i-2 : goal.overflow_add-p-in-loop-i-2
-overflow_add-p-in-loop-i-2 c = omega (arith, room c.before.before.before, c.loop-i.invariant.2, c.well-formed)
+overflow_add-p-in-loop-i-2 c = omega (arith, room c.before.before.before, c.loop-i.invariant.2, c.well_formed)
 
 pub u64_at-requires-in-loop-i : goal.u64_at-requires-in-loop-i
 u64_at-requires-in-loop-i c = omega (arith, room c.before.before.before, c.loop-i.invariant.2)
@@ -48,7 +50,7 @@ pub overflow_add-at : goal.overflow_add-at
 overflow_add-at c = omega (arith, c.requires.0.high)
 
 pub overflow_add-at-in-loop-i : goal.overflow_add-at-in-loop-i
-overflow_add-at-in-loop-i c = omega (arith, room c.before.before.before.before.before.before, c.loop-i.invariant.2, c.well-formed)
+overflow_add-at-in-loop-i c = omega (arith, room c.before.before.before.before.before.before, c.loop-i.invariant.2, c.well_formed)
 
 pub overflow_add-i : goal.overflow_add-i
 overflow_add-i c = omega (arith, c.loop-i-test.true, c.ranges.n.fits)

@@ -40,7 +40,7 @@ returns-then-not-list_events c =
     let a = c.args in
     let xs = a.bytes.now in
     let es : List Event = events_of (rows_of a.v xs a.n) in
-    sym (sound-unmarked a.v.limit es (sym c.list_events.ensures.value ∙ not-true c.list_events.result c.if-not-list_events.true))
+    sym (sound-unmarked a.v.limit es (sym c.list_events.ensures.value ∙ c.if-not-list_events.true))
 
 pub slice_bounds-distinct-end : goal.slice_bounds-distinct-end
 slice_bounds-distinct-end c =
@@ -58,4 +58,4 @@ returns c =
     ∙ ap (λ (l : List ℕ). distinct (take a.n l)) c.list_events.ensures.ids_after
     ∙ ap distinct (take_at (identifiers es) _ a.n (listed-length a.v xs a.n))
     ∙ sym (sound-by a.v.limit es (omega (arith, c.if-n-lt1.false, listed a.v xs a.n)) (omega (arith, c.if-v-n.false, listed a.v xs a.n))
-    (sym c.list_events.ensures.value ∙ not-false c.list_events.result c.if-not-list_events.false))
+    (sym c.list_events.ensures.value ∙ c.if-not-list_events.false))

@@ -9,12 +9,14 @@ use Rattle.settings.specs.Reading.{in_turn, turns_from, count_of}
 use Rattle.settings.specs.Back.{place-most, turns-end}
 use Rattle.settings.specs.Steps.{turns_more, turn-room, place-next}
 use Rattle.settings_walk.proofs.count_events.Tie as tie
+use Rattle.settings_walk.proofs.count_events.Lts as lts
+use Rattle.settings_walk.proofs.count_events.Reads as reads
 use Rattle.settings_walk.proofs.count_events.Goals as goal
 
-turned : (c : tie.Then1 invariant-loop decreases-loop) → in_turn c.args.v c.args.bytes.now c.loop-v.n ≡ true
+turned : (c : lts.Then1 tie.the-claims reads.Pre reads.Post tie.handed_clauses goal.the-invariant-loop-v goal.the-decreases-loop-v) → in_turn c.args.v c.args.bytes.now c.loop-v.n ≡ true
 turned c = sym c.in_turn.ensures ∙ c.loop-v-test.true
 
-room : (c : tie.Then1 invariant-loop decreases-loop)
+room : (c : lts.Then1 tie.the-claims reads.Pre reads.Post tie.handed_clauses goal.the-invariant-loop-v goal.the-decreases-loop-v)
     → place_of c.args.v c.loop-v.n + (6 + row_length c.args.v) ≤ length c.args.bytes.now
 room c = turn-room c.args.v c.args.bytes.now c.loop-v.n (turned c)
 
@@ -32,10 +34,10 @@ pub in_turn-requires : goal.in_turn-requires
 in_turn-requires c = (c.requires, c.loop-v.invariant.1)
 
 pub overflow_add-n : goal.overflow_add-n
-overflow_add-n c = omega (arith, room c, place-most c.args.v c.loop-v.n, c.well-formed)
+overflow_add-n c = omega (arith, room c, place-most c.args.v c.loop-v.n, c.well_formed)
 
 pub overflow_add-at : goal.overflow_add-at
-overflow_add-at c = omega (arith, room c, c.loop-v.invariant.1, c.loop-v.invariant.2, c.well-formed)
+overflow_add-at c = omega (arith, room c, c.loop-v.invariant.1, c.loop-v.invariant.2, c.well_formed)
 
 pub loop-v-smaller : goal.loop-v-smaller
 loop-v-smaller c = omega (arith, room c, place-most c.args.v c.loop-v.n)

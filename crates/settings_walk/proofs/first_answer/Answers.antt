@@ -10,18 +10,20 @@ use Rattle.settings.specs.Only.{is-by, entry-room}
 use Rattle.settings.specs.Steps.{head-50, head-0, head-52, head-51, fits_by}
 use borrow.Author.Rules.{rules}
 use Rattle.settings_walk.proofs.first_answer.Tie as tie
+use Rattle.settings_walk.proofs.first_answer.Lts as lts
+use Rattle.settings_walk.proofs.first_answer.Reads as reads
 use Rattle.settings_walk.proofs.first_answer.Goals as goal
 
-shows : (c : tie.Then1) → shows_version (entry_at c.args.bytes.now 0) ≡ true
+shows : (c : lts.Then1 tie.the-claims reads.Pre reads.Post tie.handed_clauses) → shows_version (entry_at c.args.bytes.now 0) ≡ true
 shows c = ap shows_version (sym c.entry_at-e.ensures) ∙ sym c.shows_version.ensures ∙ c.if-shows_version.true
 
-hides : (c : tie.Else1) → shows_version (entry_at c.args.bytes.now 0) ≡ false
+hides : (c : lts.Else1 tie.the-claims reads.Pre reads.Post tie.handed_clauses) → shows_version (entry_at c.args.bytes.now 0) ≡ false
 hides c = ap shows_version (sym c.entry_at-e.ensures) ∙ sym c.shows_version.ensures ∙ c.if-shows_version.false
 
-event : (c : tie.After-is-any-event) → is_event_of versions (entry_at c.args.bytes.now 0) ≡ c.is_any_event.result
+event : (c : lts.After-is_any_event tie.the-claims reads.Pre reads.Post tie.handed_clauses) → is_event_of versions (entry_at c.args.bytes.now 0) ≡ c.is_any_event.result
 event c = ap (is_event_of versions) (sym c.entry_at-e.ensures) ∙ sym c.is_any_event.ensures
 
-last : (c : tie.After-is-last) → is_last (entry_at c.args.bytes.now 0) ≡ c.is_last.result
+last : (c : lts.After-is_last tie.the-claims reads.Pre reads.Post tie.handed_clauses) → is_last (entry_at c.args.bytes.now 0) ≡ c.is_last.result
 last c = ap is_last (sym c.entry_at-e.ensures) ∙ sym c.is_last.ensures
 
 pub u16_at-requires : goal.u16_at-requires

@@ -17,18 +17,20 @@ use Rattle.settings.specs.Writing.{stored}
 use Rattle.settings.specs.Back.{rows-limit}
 use borrow.Author.Rules.{rules}
 use Rattle.settings_write.proofs.write_in.Tie as tie
+use Rattle.settings_write.proofs.write_in.Lts as lts
+use Rattle.settings_write.proofs.write_in.Reads as reads
 use Rattle.settings_write.proofs.write_in.Goals as goal
 
-sounds : (c : tie.Else1) → sound c.args.v.limit (events_of c.args.rows.now) ≡ true
-sounds c = sym c.sound.ensures ∙ not-false c.sound.result c.if-not-sound.false
+sounds : (c : lts.Else1 tie.the-claims reads.Pre reads.Post tie.handed_clauses) → sound c.args.v.limit (events_of c.args.rows.now) ≡ true
+sounds c = sym c.sound.ensures ∙ c.if-not-sound.false
 
-ringed : (c : tie.Else2) → length_allowed c.args.ring ≡ true
-ringed c = sym c.length_allowed.ensures ∙ not-false c.length_allowed.result c.if-not-length_allowed.false
+ringed : (c : lts.Else2 tie.the-claims reads.Pre reads.Post tie.handed_clauses) → length_allowed c.args.ring ≡ true
+ringed c = sym c.length_allowed.ensures ∙ c.if-not-length_allowed.false
 
-editioned : (c : tie.Else3) → allowed editions c.args.edition ≡ true
-editioned c = sym c.allowed.ensures ∙ not-false c.allowed.result c.if-not-allowed.false
+editioned : (c : lts.Else3 tie.the-claims reads.Pre reads.Post tie.handed_clauses) → allowed editions c.args.edition ≡ true
+editioned c = sym c.allowed.ensures ∙ c.if-not-allowed.false
 
-few : (c : tie.Else3) → length c.args.rows.now ≤ 1024
+few : (c : lts.Else3 tie.the-claims reads.Pre reads.Post tie.handed_clauses) → length c.args.rows.now ≤ 1024
 few c =
     let a = c.args in
     omega (arith, rows-limit a.v.limit a.rows.now (sounds c.before.before.before.before.before), c.requires.most)
@@ -39,7 +41,7 @@ returns-then-not-sound c =
     let rows = a.rows.now in
     let d = a.buffer.now in
     let p = write-refused a.v editions rows a.ring a.edition a.budget d 11
-    (write-11 a.v editions rows a.ring a.edition a.budget (length d) (sym c.sound.ensures ∙ not-true c.sound.result c.if-not-sound.true))
+    (write-11 a.v editions rows a.ring a.edition a.budget (length d) (sym c.sound.ensures ∙ c.if-not-sound.true))
     (λ (e : ◌≡◌ {A = ℕ} 11 0). omega arith) in record { value = c.told.ensures ∙ p.0; buffer_after = p.1; }
 
 pub returns-then-not-length_allowed : goal.returns-then-not-length_allowed
@@ -49,7 +51,7 @@ returns-then-not-length_allowed c =
     let d = a.buffer.now in
     let p = write-refused a.v editions rows a.ring a.edition a.budget d 1
     (write-1 a.v editions rows a.ring a.edition a.budget (length d) (sounds c.before.before.before.before)
-    (sym c.length_allowed.ensures ∙ not-true c.length_allowed.result c.if-not-length_allowed.true))
+    (sym c.length_allowed.ensures ∙ c.if-not-length_allowed.true))
     (λ (e : ◌≡◌ {A = ℕ} 1 0). omega arith) in record { value = c.told-then-not-length_allowed.ensures ∙ p.0; buffer_after = p.1; }
 
 pub returns-then-not-allowed : goal.returns-then-not-allowed
@@ -59,7 +61,7 @@ returns-then-not-allowed c =
     let d = a.buffer.now in
     let p = write-refused a.v editions rows a.ring a.edition a.budget d 2
     (write-2 a.v editions rows a.ring a.edition a.budget (length d) (sounds c.before.before.before.before.before.before) (ringed c.before.before.before.before)
-    (sym c.allowed.ensures ∙ not-true c.allowed.result c.if-not-allowed.true))
+    (sym c.allowed.ensures ∙ c.if-not-allowed.true))
     (λ (e : ◌≡◌ {A = ℕ} 2 0). omega arith) in record { value = c.told-then-not-allowed.ensures ∙ p.0; buffer_after = p.1; }
 
 pub place_of-at-requires : goal.place_of-at-requires

@@ -7,10 +7,12 @@ use Rattle.writer.specs.Known.{passes}
 use Rattle.writer.specs.Answers.{beyond-lays, known-41, known-42, known-40, known-0}
 use borrow.Author.Rules.{rules}
 use Rattle.writer.proofs.write_known.Tie as tie
+use Rattle.writer.proofs.write_known.Lts as lts
+use Rattle.writer.proofs.write_known.Reads as reads
 use Rattle.writer.proofs.write_known.Goals as goal
 
 -- 41, of the fields of the type
-beyond-is : (c : tie.After-any-beyond)
+beyond-is : (c : lts.After-any_beyond tie.the-claims reads.Pre reads.Post tie.handed_clauses)
     → passes c.args.source.now c.args.ws.now c.args.a c.args.kind c.args.misc ≡ c.any_beyond.result
 beyond-is c =
     let a = c.args in

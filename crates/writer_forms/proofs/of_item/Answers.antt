@@ -11,10 +11,10 @@ pub returns-then-not-on : goal.returns-then-not-on
 unfolding form
 returns-then-not-on c =
     let a = c.args in
-    c.blank.ensures ∙ sym (ap (λ (b : Bool). cond b (shape_form a.i.shape a.c (slot_of a.s)) (blank_form a.c 0)) (not-true a.i.on c.if-not-on.true))
+    c.blank.ensures ∙ sym (ap (λ (b : Bool). cond b (shape_form a.i.shape a.c (slot_of a.s)) (blank_form a.c 0)) c.if-not-on.true)
 
 pub returns : goal.returns
 unfolding form
 returns c =
     let a = c.args in
-    c.of_shape.ensures ∙ sym (ap (λ (b : Bool). cond b (shape_form a.i.shape a.c (slot_of a.s)) (blank_form a.c 0)) (not-false a.i.on c.if-not-on.false))
+    c.of_shape.ensures ∙ sym (ap (λ (b : Bool). cond b (shape_form a.i.shape a.c (slot_of a.s)) (blank_form a.c 0)) c.if-not-on.false)

@@ -12,17 +12,17 @@ use Rattle.writer_items.proofs.named.Goals as goal
 pub returns-then-not-name : goal.returns-then-not-name
 returns-then-not-name c =
     let a = c.args in
-    sym (ap (λ (b : Bool). cond b (nonzero (take a.count (drop a.place a.source.now))) true) (not-true a.name c.if-not-name.true))
+    sym (ap (λ (b : Bool). cond b (nonzero (take a.count (drop a.place a.source.now))) true) c.if-not-name.true)
 
 pub overflow_add-to : goal.overflow_add-to
-overflow_add-to c = omega (arith, c.requires (not-false c.args.name c.if-not-name.false))
+overflow_add-to c = omega (arith, c.requires c.if-not-name.false)
 
 pub slice_bounds-no_zero-end : goal.slice_bounds-no_zero-end
-slice_bounds-no_zero-end c = omega (arith, c.requires (not-false c.args.name c.if-not-name.false))
+slice_bounds-no_zero-end c = omega (arith, c.requires c.if-not-name.false)
 
 pub returns : goal.returns
 returns c =
     let a = c.args in
     let n : a.place + a.count - a.place ≡ a.count = omega arith in
     c.no_zero.ensures ∙ ap (λ (k : ℕ). nonzero (take k (drop a.place a.source.now))) n
-    ∙ sym (ap (λ (b : Bool). cond b (nonzero (take a.count (drop a.place a.source.now))) true) (not-false a.name c.if-not-name.false))
+    ∙ sym (ap (λ (b : Bool). cond b (nonzero (take a.count (drop a.place a.source.now))) true) c.if-not-name.false)

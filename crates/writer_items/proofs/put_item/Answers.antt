@@ -18,7 +18,7 @@ slice_bounds-copy_at-end c =
 pub list_bytes-bytes-requires : goal.list_bytes-bytes-requires
 list_bytes-bytes-requires c =
     let a = c.args in
-    λ l. let h = inside-source a.f a.source.now (slot_of a.s) c.requires.1 l in omega (arith, h, c.well-formed)
+    λ l. let h = inside-source a.f a.source.now (slot_of a.s) c.requires.1 l in omega (arith, h, c.well_formed)
 
 pub put_list-requires : goal.put_list-requires
 put_list-requires c =

@@ -12,13 +12,13 @@ use Rattle.writer_items.proofs.put_list.Goals as goal
 pub returns-then-not-list : goal.returns-then-not-list
 returns-then-not-list c =
     let a = c.args in
-    sym (ap (λ (k : ℕ). put a.buffer.now a.at (take k (drop a.place a.source.now))) (c.requires.1 (not-true a.list c.if-not-list.true)) ∙ put-nil a.buffer.now a.at c.requires.2)
+    sym (ap (λ (k : ℕ). put a.buffer.now a.at (take k (drop a.place a.source.now))) (c.requires.1 c.if-not-list.true) ∙ put-nil a.buffer.now a.at c.requires.2)
 
 pub overflow_add-to : goal.overflow_add-to
-overflow_add-to c = omega (arith, c.requires.0 (not-false c.args.list c.if-not-list.false))
+overflow_add-to c = omega (arith, c.requires.0 c.if-not-list.false)
 
 pub slice_bounds-copy_at-end : goal.slice_bounds-copy_at-end
-slice_bounds-copy_at-end c = omega (arith, c.requires.0 (not-false c.args.list c.if-not-list.false))
+slice_bounds-copy_at-end c = omega (arith, c.requires.0 c.if-not-list.false)
 
 pub returns : goal.returns
 returns c =

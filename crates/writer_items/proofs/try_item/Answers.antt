@@ -27,21 +27,21 @@ fits-requires c =
 pub returns-then-not-fits : goal.returns-then-not-fits
 returns-then-not-fits c =
     let a = c.args in
-    c.unfit-then-not-fits.ensures ∙ try-misfit a.source.now a.i (slot_of a.s) a.c (small_of a.source.now c.type_inv.source.given) (omega (arith, c.well-formed))
+    c.unfit-then-not-fits.ensures ∙ try-misfit a.source.now a.i (slot_of a.s) a.c (small_of a.source.now c.type_inv.source.given) (omega (arith, c.well_formed))
     (beyond-by a.i a.c (slot_of a.s) a.source.now c.of_item-f.result c.of_item-f.ensures c.passes.result c.passes.ensures ∙ c.if-passes.false)
-    (ap (λ (f : Form). fits_form f a.source.now (slot_of a.s)) (sym c.of_item-f.ensures) ∙ sym c.fits2.ensures ∙ not-true c.fits2.result c.if-not-fits.true)
+    (ap (λ (f : Form). fits_form f a.source.now (slot_of a.s)) (sym c.of_item-f.ensures) ∙ sym c.fits2.ensures ∙ c.if-not-fits.true)
 
 pub advance-requires : goal.advance-requires
 advance-requires c =
     let a = c.args in
     let q = inside-by a.i a.c (slot_of a.s) a.source.now c.of_item-f.result c.of_item-f.ensures c.passes.result c.passes.ensures c.if-passes.false in
-    (c.requires, width-by a.i a.c (slot_of a.s) a.source.now c.of_item-f.result c.of_item-f.ensures, λ l. let h = q l in omega (arith, h, c.well-formed))
+    (c.requires, width-by a.i a.c (slot_of a.s) a.source.now c.of_item-f.result c.of_item-f.ensures, λ l. let h = q l in omega (arith, h, c.well_formed))
 
 pub returns : goal.returns
 returns c =
     let a = c.args in
     let e = c.of_item-f.ensures in
     c.advance.ensures ∙ ap (λ (f : Form). cond (leb (form_next f (slot_of a.s) a.c).at most_bytes) (form_next f (slot_of a.s) a.c) unfit) e
-    ∙ try-fit a.source.now a.i (slot_of a.s) a.c (small_of a.source.now c.type_inv.source.given) (omega (arith, c.well-formed))
+    ∙ try-fit a.source.now a.i (slot_of a.s) a.c (small_of a.source.now c.type_inv.source.given) (omega (arith, c.well_formed))
     (beyond-by a.i a.c (slot_of a.s) a.source.now c.of_item-f.result e c.passes.result c.passes.ensures ∙ c.if-passes.false)
-    (ap (λ (f : Form). fits_form f a.source.now (slot_of a.s)) (sym e) ∙ sym c.fits2.ensures ∙ not-false c.fits2.result c.if-not-fits.false)
+    (ap (λ (f : Form). fits_form f a.source.now (slot_of a.s)) (sym e) ∙ sym c.fits2.ensures ∙ c.if-not-fits.false)

@@ -8,10 +8,12 @@ use Rattle.writer_items.specs.Fitting.{inside-source}
 use Rattle.writer_parts.proofs.Putting.{Putting, Ready, ready, put_on, put-end}
 use borrow.Author.Rules.{rules}
 use Rattle.writer_parts.proofs.put_all.Tie as tie
+use Rattle.writer_parts.proofs.put_all.Lts as lts
+use Rattle.writer_parts.proofs.put_all.Reads as reads
 use Rattle.writer_parts.proofs.put_all.Goals as goal
 
 -- what is known of the item at hand
-ready-here : (c : tie.After-of-item invariant-loop decreases-loop)
+ready-here : (c : lts.After-of_item tie.the-claims reads.Pre reads.Post tie.handed_clauses goal.the-invariant-loop-k goal.the-decreases-loop-k)
     → Ready c.args.source.now c.args.ws.now c.args.p c.args.first c.args.start c.args.buffer.now c.loop-k.k c.loop-k.t c.loop-k.c c.loop-k.buffer c.loop-k.invariant
     c.item_here-i.result (slot_of c.given_by-s.result) c.of_item-f.result c.item_here-i.ensures c.given_by-s.ensures c.of_item-f.ensures c.loop-k-test.true c.requires.1
     (small_of c.args.source.now c.type_inv.source.given) (omega (arith, c.given_by-s.type-inv))
@@ -38,7 +40,7 @@ pub advance-c-requires : goal.advance-c-requires
 advance-c-requires c =
     let r = ready-here c.before.before.before.before.before in
     let a = c.args in
-    (c.loop-k.invariant.place, r.width, λ l. let h = inside-source c.of_item-f.result a.source.now (slot_of c.given_by-s.result) r.inside l in omega (arith, h, c.well-formed))
+    (c.loop-k.invariant.place, r.width, λ l. let h = inside-source c.of_item-f.result a.source.now (slot_of c.given_by-s.result) r.inside l in omega (arith, h, c.well_formed))
 
 pub after-t-requires : goal.after-t-requires
 after-t-requires c = omega (arith, c.loop-k.invariant.within.words, c.loop-k-test.true, c.requires.1)

@@ -15,10 +15,12 @@ use Rattle.writer_record.specs.Spare.{fields-of}
 use Rattle.writer_record.specs.Measuring.{tried-lays, tried-most, spare-lays, bad-body, bad-tail, measured-yes, measured-no}
 use borrow.Author.Rules.{rules}
 use Rattle.writer_record.proofs.measure.Tie as tie
+use Rattle.writer_record.proofs.measure.Lts as lts
+use Rattle.writer_record.proofs.measure.Reads as reads
 use Rattle.writer_record.proofs.measure.Goals as goal
 
 -- the loop over the fields, and over the trailer
-first-is : (c : tie.After-try-all)
+first-is : (c : lts.After-try_all tie.the-claims reads.Pre reads.Post tie.handed_clauses)
     → c.try_all-c.result ≡ try_items c.args.source.now (schema c.args.kind c.args.misc c.args.attributes)
     (slots_from (schema c.args.kind c.args.misc c.args.attributes) (start_at body_words) c.args.ws.now) (origin 8)
 first-is c =
@@ -26,14 +28,14 @@ first-is c =
     tried-lays a.source.now a.ws.now c.body-b.result a.attributes a.kind (schema a.kind a.misc a.attributes) c.start_at.result (start_at body_words) c.origin.result (origin 8)
     c.try_all-c.result c.body-b.ensures c.start_at.ensures c.origin.ensures c.try_all-c.ensures
 
-first-most : (c : tie.After-try-all) → c.try_all-c.result.why ≡ 0 → c.try_all-c.result.at ≤ most_bytes
+first-most : (c : lts.After-try_all tie.the-claims reads.Pre reads.Post tie.handed_clauses) → c.try_all-c.result.why ≡ 0 → c.try_all-c.result.at ≤ most_bytes
 first-most c z =
     let a = c.args in
     let is = schema a.kind a.misc a.attributes in
     subst (λ (x : Cursor). x.at ≤ most_bytes) (sym (first-is c))
     (tried-most a.source.now is (slots_from is (start_at body_words) a.ws.now) (origin 8) (omega arith) (ap (λ (x : Cursor). x.why) (sym (first-is c)) ∙ z))
 
-second_is : (c : tie.After-try-all2)
+second_is : (c : lts.After-try_all2 tie.the-claims reads.Pre reads.Post tie.handed_clauses)
     → c.try_all-d.result ≡ try_items c.args.source.now (trailer c.args.kind c.args.attributes)
     (slots_from (trailer c.args.kind c.args.attributes) (start_at trail_words) c.args.ws.now) (origin c.try_all-c.result.at)
 second_is c =

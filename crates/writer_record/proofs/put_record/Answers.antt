@@ -17,27 +17,29 @@ use Rattle.laws.specs.Every.{trailer-fixed}
 use Rattle.writer_record.specs.Records.{Sized, sized, all-put, written-lays, asks-lays}
 use borrow.Author.Rules.{rules}
 use Rattle.writer_record.proofs.put_record.Tie as tie
+use Rattle.writer_record.proofs.put_record.Lts as lts
+use Rattle.writer_record.proofs.put_record.Reads as reads
 use Rattle.writer_record.proofs.put_record.Goals as goal
 
 -- the fields and the trailer of the type that the words tell
-abbrev fields_of : tie.Start → List Item
+abbrev fields_of : lts.Start tie.the-claims reads.Pre reads.Post tie.handed_clauses → List Item
 fields_of c = schema c.args.kind c.args.misc c.args.attributes
 
-abbrev trailer_of : tie.Start → List Item
+abbrev trailer_of : lts.Start tie.the-claims reads.Pre reads.Post tie.handed_clauses → List Item
 trailer_of c = trailer c.args.kind c.args.attributes
 
-sized-here : (c : tie.Start) → Sized (fields_of c) (trailer_of c) c.args.source.now c.args.ws.now (trailer-fixed c.args.kind c.args.attributes) c.requires.3.2 c.args.end c.requires.0 c.requires.1
+sized-here : (c : lts.Start tie.the-claims reads.Pre reads.Post tie.handed_clauses) → Sized (fields_of c) (trailer_of c) c.args.source.now c.args.ws.now (trailer-fixed c.args.kind c.args.attributes) c.requires.3.2 c.args.end c.requires.0 c.requires.1
 sized-here c = sized (fields_of c) (trailer_of c) c.args.source.now c.args.ws.now (trailer-fixed c.args.kind c.args.attributes) c.requires.3.2 c.args.end c.requires.0 c.requires.1
 
 -- the buffer's length does not change
-first-long : (c : tie.After-put-header) → length c.put_header.new.buffer ≡ length c.args.buffer.now
+first-long : (c : lts.After-put_header tie.the-claims reads.Pre reads.Post tie.handed_clauses) → length c.put_header.new.buffer ≡ length c.args.buffer.now
 first-long c = ap length c.put_header.ensures ∙ simp length-put
 
-second-long : (c : tie.After-put-all) → length c.put_all.new.buffer ≡ length c.args.buffer.now
+second-long : (c : lts.After-put_all tie.the-claims reads.Pre reads.Post tie.handed_clauses) → length c.put_all.new.buffer ≡ length c.args.buffer.now
 second-long c = ap length c.put_all.ensures ∙ simp length-put (first-long c.before.before.before.before.before.before.before.before)
 
 -- the trailer's place
-origin-is : (c : tie.After-origin2) → c.origin-2.result ≡ origin (c.args.end - room (trailer_of c.before.before.before.before.before.before.before.before.before.before.before.before.before.before.before.before.before.before.before.before))
+origin-is : (c : lts.After-origin2 tie.the-claims reads.Pre reads.Post tie.handed_clauses) → c.origin-2.result ≡ origin (c.args.end - room (trailer_of c.before.before.before.before.before.before.before.before.before.before.before.before.before.before.before.before.before.before.before.before))
 origin-is c = c.origin-2.ensures ∙ ap (λ (n : ℕ). origin (c.args.end - n)) c.trailer_room.ensures.0
 
 pub put_header-requires : goal.put_header-requires

@@ -37,7 +37,7 @@ overflow_add-at c =
     let l = c.loop-k in
     let f = item_of a.a a.misc a.kind in
     let g = filling-room f a.s.now a.from a.to a.first a.out.now a.start l.out l.c l.k l.at l.invariant c.loop-k-test.true _ (c.told-t.ensures ∙ ap (λ (i : Item). told_of (tell i.shape (slot_item a.s.now i l.c))) c.item_lent-i.ensures) in
-    omega (arith, g.1, l.invariant.long, c.well-formed)
+    omega (arith, g.1, l.invariant.long, c.well_formed)
 
 pub loop-k-preserved : goal.loop-k-preserved
 loop-k-preserved c =

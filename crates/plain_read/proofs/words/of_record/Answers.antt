@@ -12,14 +12,16 @@ use Rattle.record.specs.Lent.{Header, trailer-fits}
 use Rattle.plain_read.proofs.Readers.{fields-fill, trailer-fill, words_are}
 use borrow.Author.Rules.{rules}
 use Rattle.plain_read.proofs.words.of_record.Tie as tie
+use Rattle.plain_read.proofs.words.of_record.Lts as lts
+use Rattle.plain_read.proofs.words.of_record.Reads as reads
 use Rattle.plain_read.proofs.words.of_record.Goals as goal
 
 -- an accepted record has a header
-long : (c : tie.After-shared-slice-known) → 8 ≤ length c.args.r.now
+long : (c : lts.After-shared_slice_known tie.the-claims reads.Pre reads.Post tie.handed_clauses) → 8 ≤ length c.args.r.now
 long c = let h = trailer-there c.args.a c.args.r.now _ c.requires _ refl in omega (arith, h)
 
 -- what is known once the trailer's room is
-header : (c : tie.After-trailer-room)
+header : (c : lts.After-trailer_room tie.the-claims reads.Pre reads.Post tie.handed_clauses)
     → Header c.args.a c.args.r.now
     c.read_header-h.result.kind c.read_header-h.result.misc c.trailer_room.result
 header c =
@@ -27,7 +29,7 @@ header c =
     record { kind-is = h.kind-is; misc-is = h.misc-is; room-is = c.trailer_room.ensures.0; accepted = c.requires.answer-is }
 
 -- and of the flag
-taken : (c : tie.After-trailer-room) → Accepted c.args.a c.args.r.now c.read_header-h.result.kind
+taken : (c : lts.After-trailer_room tie.the-claims reads.Pre reads.Post tie.handed_clauses) → Accepted c.args.a c.args.r.now c.read_header-h.result.kind
 taken c = record { kind-is = (header c).kind-is; eights = c.requires.eights; answer-is = c.requires.answer-is }
 
 pub overflow_sub-end : goal.overflow_sub-end

@@ -4,6 +4,8 @@ use Rattle.readers.specs.declared.Published.{Published}
 use Rattle.readers.specs.Readers.{tail_answer}
 use Rattle.readers.specs.Laws.{tail-as-call, published-first, published-second, published-tail, further-first, further-second}
 use Rattle.readers.proofs.Readers.publish.Tie as tie
+use Rattle.readers.proofs.Readers.publish.Lts as lts
+use Rattle.readers.proofs.Readers.publish.Reads as reads
 use Rattle.readers.proofs.Readers.publish.Goals as goal
 
 -- a refusal, and no tail
@@ -14,19 +16,19 @@ abbrev handed : ℕ → Published
 handed t = record { tail = t; answer = 0 }
 
 -- what the calls answered, for the one and for the other
-first-answer : (c : tie.After-call-refusal)
+first-answer : (c : lts.After-call_refusal tie.the-claims reads.Pre reads.Post tie.handed_clauses)
     → c.call_refusal-a.result ≡ tail_answer c.args.len c.args.head c.args.self.first
 first-answer c = c.call_refusal-a.ensures ∙ tail-as-call _ _ _
 
-second-answer : (c : tie.After-call-refusal2)
+second-answer : (c : lts.After-call_refusal2 tie.the-claims reads.Pre reads.Post tie.handed_clauses)
     → c.call_refusal-b.result ≡ tail_answer c.args.len c.args.head c.args.self.second
 second-answer c = c.call_refusal-b.ensures ∙ tail-as-call _ _ _
 
 -- the first reader's tail is not refused; nor is the second's
-first_fine : (c : tie.Else1) → tail_answer c.args.len c.args.head c.args.self.first ≡ 0
+first_fine : (c : lts.Else1 tie.the-claims reads.Pre reads.Post tie.handed_clauses) → tail_answer c.args.len c.args.head c.args.self.first ≡ 0
 first_fine c = sym (first-answer c.before) ∙ c.if-a-ne0.false
 
-second-fine : (c : tie.Else2) → tail_answer c.args.len c.args.head c.args.self.second ≡ 0
+second-fine : (c : lts.Else2 tie.the-claims reads.Pre reads.Post tie.handed_clauses) → tail_answer c.args.len c.args.head c.args.self.second ≡ 0
 second-fine c = sym (second-answer c.before) ∙ c.if-b-ne0.false
 
 pub returns-then-a-ne0 : goal.returns-then-a-ne0

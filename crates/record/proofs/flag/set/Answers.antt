@@ -6,10 +6,12 @@ use lib.ListN.{set}
 use Rattle.record.specs.Flag.{word_none, word-there, word_some}
 use borrow.Author.Rules.{rules}
 use Rattle.record.proofs.flag.set.Tie as tie
+use Rattle.record.proofs.flag.set.Lts as lts
+use Rattle.record.proofs.flag.set.Reads as reads
 use Rattle.record.proofs.flag.set.Goals as goal
 
 -- the word is there
-there : (c : tie.After-number) → c.flag_at-at.result < 56
+there : (c : lts.After-number tie.the-claims reads.Pre reads.Post tie.handed_clauses) → c.flag_at-at.result < 56
 there c =
     let e = c.flag_at-at.ensures in
     let h = word-there c.args.a c.args.r.now c.args.kind c.requires.0 c.args.misc (λ z. c.if-at-eq0.false (e ∙ z)) in
