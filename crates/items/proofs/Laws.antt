@@ -8,14 +8,5 @@ use lib.ListN.{length, get_or, get_or-eq_default}
 pub key : {A : Type 0} (l : List A) (d : A) {k n : ℕ} {x : A} → k ≡ n → x ≡ get_or l n d → x ≡ get_or l k d
 key l d e p = p ∙ ap (λ k. get_or l k d) (sym e)
 
--- k is none of the numbers below n, as the last arm of a `match` has it
-abbrev pub Past : ℕ → ℕ → Type 0
-Past zero k = Unit {0}
-Past (suc n) k = Past n k × (k ≡ n → ⊥)
-
-above : (n k : ℕ) → Past n k → n ≤ k
-above zero k h = omega arith
-above (suc n) k h = omega (arith, above n k h.0, h.1)
-
-pub past : {A : Type 0} (l : List A) (d : A) (k : ℕ) → Past (length l) k → d ≡ get_or l k d
-past l d k h = sym (get_or-eq_default l d (above (length l) k h))
+pub past : {A : Type 0} (l : List A) (d : A) (k : ℕ) → length l ≤ k → d ≡ get_or l k d
+past l d k h = sym (get_or-eq_default l d h)

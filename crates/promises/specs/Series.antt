@@ -18,10 +18,10 @@ use Rattle.meaning.specs.Ring.{asked_of, length_allowed, distance, record_at, st
 use Rattle.meaning.specs.Drain.{End, drain, run, entry, journal_kind}
 use Rattle.meaning.specs.Events.{asked_events, judge_events, drain_events, event_limit, sound, distinct, all_marked, identifier_of}
 use Rattle.series.specs.Series.{Step, Given, drain_at, entries_of, from, series, series_to, Steady, one_drain, Same, GoesOn}
-use Rattle.series.specs.Stops.{lasting, staying}
-use Rattle.series.specs.Anywhere.{drains-cut-anywhere, stops-alike, agrees-before, begins-alike, stays-stopped, always-enough}
-use Rattle.series.specs.Examples.{first_tail, steps, last_step, steps-steady}
-use Rattle.series.specs.Examples as examples
+use Rattle.series.proofs.Stops.{lasting, staying}
+use Rattle.series.proofs.Anywhere.{drains-cut-anywhere, stops-alike, agrees-before, begins-alike, stays-stopped, always-enough}
+use Rattle.series.proofs.Examples.{first_tail, steps, last_step, steps-steady}
+use Rattle.series.proofs.Examples as examples
 
 -- ---- the drains of 01 and of M-100, each from a tail, with what a step lends
 

@@ -1,7 +1,1 @@
 pub mod Series
-pub mod Goings
-pub mod Stops
-pub mod Chains
-pub mod Steps
-pub mod Anywhere
-pub mod Examples

@@ -93,6 +93,7 @@ fn list(many: usize, last: bool, earlier: bool) -> Telling
     }
 }
 
+#[tactic(auto, unfolding(crate::specs::Tellings::telling))]
 fn telling_of(shape: Shape) -> Telling
     ensures { result ≡ telling shape }
 {

@@ -1,19 +1,12 @@
 -- `answers::check` meets its contract: test by test, in the order of the definition. Assumes nothing.
 use mathlib.Core.Path.{sym, ◌∙◌}
-use borrow.Author.Tests.{not-true, not-false}
+use borrow.Author.Tests.{eq-eqb, ne_eqb}
 use Rattle.meaning.specs.Editions.{editions, known}
-use Rattle.reader.specs.Laws.{Headed, headed}
+use Rattle.reader.specs.Laws.{headed}
 use Rattle.answers.specs.Checks.{check-edition, check-short, check-odd, check-other, check-whole}
 use Rattle.answers.proofs.Laws.{judge-by}
 use borrow.Author.Rules.{rules}
-use Rattle.answers.proofs.check.Tie as tie
-use Rattle.answers.proofs.check.Lts as lts
-use Rattle.answers.proofs.check.Reads as reads
 use Rattle.answers.proofs.check.Goals as goal
-
--- the header of a slice that is long enough
-whole : (c : lts.After-read_header tie.the-claims reads.Pre reads.Post tie.handed_clauses) → Headed c.args.r.now c.read_header-h.result
-whole c = headed _ _ c.read_header-h.ensures c.if-r-lt8.false
 
 pub returns-then-not-allowed : goal.returns-then-not-allowed
 returns-then-not-allowed c = let a = c.args in check-edition editions a.e a.a a.r.now (sym c.allowed.ensures ∙ c.if-not-allowed.true)
@@ -22,15 +15,15 @@ pub returns-then-r-lt8 : goal.returns-then-r-lt8
 returns-then-r-lt8 c = let a = c.args in check-short editions a.e a.a a.r.now (sym c.allowed.ensures ∙ c.if-not-allowed.false) c.if-r-lt8.true
 
 pub returns-then-not-even : goal.returns-then-not-even
-returns-then-not-even c = let a = c.args in check-odd editions a.e a.a a.r.now (sym c.allowed.ensures ∙ c.if-not-allowed.false) c.if-r-lt8.false _ (whole c.before.before).size_is c.if-not-even.true
+returns-then-not-even c = let a = c.args in check-odd editions a.e a.a a.r.now (sym c.allowed.ensures ∙ c.if-not-allowed.false) c.if-r-lt8.false _ (headed a.r.now c.read_header-h.result c.read_header-h.ensures c.if-r-lt8.false).size_is c.if-not-even.true
 
 pub returns-then-not-whole : goal.returns-then-not-whole
-returns-then-not-whole c = let a = c.args in check-other editions a.e a.a a.r.now (sym c.allowed.ensures ∙ c.if-not-allowed.false) c.if-r-lt8.false _ (whole c.before.before.before).size_is c.if-not-even.false c.if-not-whole.true
+returns-then-not-whole c = let a = c.args in check-other editions a.e a.a a.r.now (sym c.allowed.ensures ∙ c.if-not-allowed.false) c.if-r-lt8.false _ (headed a.r.now c.read_header-h.result c.read_header-h.ensures c.if-r-lt8.false).size_is c.if-not-even.false (ne_eqb _ _ c.if-not-whole.true)
 
 pub returns : goal.returns
 returns c =
     let a = c.args in
-    let h = whole c.before.before.before.before in
+    let h = headed a.r.now c.read_header-h.result c.read_header-h.ensures c.if-r-lt8.false in
     c.answer.ensures ∙ judge-by (known editions a.e) a.a a.r.now _ _ h.kind-is h.misc-is
     ∙ check-whole editions a.e a.a a.r.now (sym c.allowed.ensures ∙ c.if-not-allowed.false) c.if-r-lt8.false _ h.size_is
-    c.if-not-even.false c.if-not-whole.false
+    c.if-not-even.false (eq-eqb _ _ c.if-not-whole.false)

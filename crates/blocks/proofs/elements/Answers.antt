@@ -9,13 +9,10 @@ use borrow.Author.Rules.{rules}
 use Rattle.meaning.specs.Bytes.{number_at}
 use Rattle.blocks.specs.Seen.{place}
 use Rattle.blocks.specs.Blocks.{counted-past, counted-there}
-use Rattle.blocks.proofs.elements.Tie as tie
-use Rattle.blocks.proofs.elements.Lts as lts
-use Rattle.blocks.proofs.elements.Reads as reads
 use Rattle.blocks.proofs.elements.Goals as goal
 
 -- the product, before it is made
-small : (c : lts.Else2 tie.the-claims reads.Pre reads.Post tie.handed_clauses) → c.u64_at-n.result * c.args.unit ≤ 65535 * 24
+small : (c : goal.Else-left-n) → c.u64_at-n.result * c.args.unit ≤ 65535 * 24
 small c =
     let h : c.u64_at-n.result ≤ 65535 = omega (arith, c.if-left-n.false, c.requires.s_len_bound) in
     mul-le-mul h c.requires.unit_bound

@@ -1,10 +1,12 @@
 -- `chains::fields` meets its contract: by the arms of the `match`, each the layout of its type. Assumes nothing.
 -- Written by tools/chains.py from the rows of crate table.
 use mathlib.Core.Path.{sym, ap}
-use Prim.Native.Nat.{ℕ}
-use Rattle.meaning.specs.Schema.{schema}
+use mathlib.Core.List.{[]}
+use lib.ListN.{get_or-eq_default}
+use native.Mathlib.Omega.{arith}
+use Prim.Native.Nat.{ℕ, ◌≤◌}
+use Rattle.meaning.specs.Schema.{schema, schemas}
 use Rattle.fills.specs.Chains.{ready-as, filling-as}
-use Rattle.layouts.specs.Types.{no-type}
 use Rattle.chains.proofs.Nothing.{nothing}
 use borrow.Author.Rules.{rules}
 use Rattle.chains.proofs.fields.Goals as goal
@@ -136,4 +138,4 @@ pub returns-in-21 : goal.returns-in-21
 returns-in-21 c = filling-as (ap (λ (k : ℕ). schema k c.args.misc c.args.a) (sym c.in-21.is)) c.lost_samples-in-21.ensures
 
 pub returns-in_default : goal.returns-in_default
-returns-in_default c = nothing (no-type c.args.misc c.args.a c.args.kind c.in_default.rest) c.requires
+returns-in_default c = let h : 22 ≤ c.args.kind = omega arith in nothing (get_or-eq_default (schemas c.args.misc c.args.a) [] h) c.requires

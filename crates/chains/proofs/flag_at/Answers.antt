@@ -1,9 +1,10 @@
 -- `chains::flag_at` meets its contract: by the arms of the `match`, each the row of its type. Assumes nothing.
 -- Written by tools/chains.py from the rows of crate table.
 use mathlib.Core.Path.{sym, ap}
+use Prim.Native.Nat.{◌≤◌}
 use lib.ListN.{get_or-eq_default}
 use Rattle.table.specs.Flags.{flags, flag_at}
-use Rattle.layouts.specs.Types.{above}
+use native.Mathlib.Omega.{arith}
 use Rattle.chains.proofs.flag_at.Goals as goal
 
 pub returns-in-0 : goal.returns-in-0
@@ -73,4 +74,4 @@ pub returns-in-21 : goal.returns-in-21
 returns-in-21 c = ap flag_at (sym c.in-21.is)
 
 pub returns-in_default : goal.returns-in_default
-returns-in_default c = sym (get_or-eq_default flags 0 (above 22 c.args.kind c.in_default.rest))
+returns-in_default c = let h : 22 ≤ c.args.kind = omega arith in sym (get_or-eq_default flags 0 h)

@@ -5,7 +5,7 @@ use Prim.Native.Nat.{◌%◌}
 use lib.Dec.{leb, eqb}
 use lib.ListN.{length}
 use borrow.Author.Rules.{rules}
-use borrow.Author.Tests.{not-true, not-false}
+use borrow.Author.Tests.{eq-eqb, ne_eqb}
 use Rattle.meaning.specs.Editions.{editions}
 use Rattle.meaning.specs.Records.{size_of}
 use Rattle.meaning.specs.Events.{events_of}
@@ -33,7 +33,7 @@ returns-then-not-even c =
     let a = c.args in
     let n = c.u16_at-size.result in
     asks-6 a.limit editions a.e (events_of a.rows.now) a.r.now (sym c.allowed.ensures ∙ c.if-not-allowed.false) (sym c.sound.ensures ∙ c.if-not-sound.false) c.if-r-lt8.false n c.u16_at-size.ensures.0
-    (not-true (leb 8 n && eqb (n % 8) 0) c.if-not-even.true)
+    c.if-not-even.true
 
 pub returns-then-not-whole : goal.returns-then-not-whole
 unfolding size_of
@@ -41,7 +41,7 @@ returns-then-not-whole c =
     let a = c.args in
     let n = c.u16_at-size.result in
     asks-7 a.limit editions a.e (events_of a.rows.now) a.r.now (sym c.allowed.ensures ∙ c.if-not-allowed.false) (sym c.sound.ensures ∙ c.if-not-sound.false) c.if-r-lt8.false n c.u16_at-size.ensures.0
-    (not-false (leb 8 n && eqb (n % 8) 0) c.if-not-even.false) (not-true (eqb n (length a.r.now)) c.if-not-whole.true)
+    c.if-not-even.false (ne_eqb _ _ c.if-not-whole.true)
 
 pub returns : goal.returns
 unfolding size_of
@@ -49,4 +49,4 @@ returns c =
     let a = c.args in
     let n = c.u16_at-size.result in
     asks-0 a.limit editions a.e (events_of a.rows.now) a.r.now (sym c.allowed.ensures ∙ c.if-not-allowed.false) (sym c.sound.ensures ∙ c.if-not-sound.false) c.if-r-lt8.false n c.u16_at-size.ensures.0
-    (not-false (leb 8 n && eqb (n % 8) 0) c.if-not-even.false) (not-false (eqb n (length a.r.now)) c.if-not-whole.false)
+    c.if-not-even.false (eq-eqb _ _ c.if-not-whole.false)

@@ -1,5 +1,6 @@
 -- What is left from row i on decides.
 use mathlib.Core.Path.{refl, ap, ◌∙◌}
+use mathlib.Core.Bool.{not}
 use Prim.Native.Nat.{◌-◌}
 use lib.ListN.{length}
 use borrow.Author.Rules.{rules}
@@ -14,13 +15,13 @@ pub returns-then-not-marked : goal.returns-then-not-marked
 returns-then-not-marked c =
     let rows = c.args.rows.now in
     let l = c.loop-i in
-    marked-not rows l.i _ l.invariant c.loop-i-test.true _ (c.marked.ensures ∙ ap marked c.event_of.ensures) c.if-not-marked.true
+    marked-not rows l.i _ l.invariant c.loop-i-test.true _ (c.marked.ensures ∙ ap marked c.event_of.ensures) (ap not c.if-not-marked.true)
 
 pub loop-i-preserved : goal.loop-i-preserved
 loop-i-preserved c =
     let rows = c.args.rows.now in
     let l = c.loop-i in
-    marked-on rows l.i _ l.invariant c.loop-i-test.true _ (c.marked.ensures ∙ ap marked c.event_of.ensures) c.if-not-marked.false
+    marked-on rows l.i _ l.invariant c.loop-i-test.true _ (c.marked.ensures ∙ ap marked c.event_of.ensures) (ap not c.if-not-marked.false)
 
 pub returns : goal.returns
 returns c = marked-end c.args.rows.now c.loop-i.i c.loop-i.invariant c.loop-i-test.false

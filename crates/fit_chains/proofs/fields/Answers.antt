@@ -75,4 +75,4 @@ pub returns-in-21 : goal.returns-in-21
 returns-in-21 c = tried-as (ap (λ (k : ℕ). schema k c.args.misc c.args.a) (sym c.in-21.is)) c.lost_samples-in-21.ensures
 
 pub returns-in_default : goal.returns-in_default
-returns-in_default c = tried-as (sym (no-type c.args.misc c.args.a c.args.kind c.in_default.rest)) (tried-none c.requires.0)
+returns-in_default c = tried-as (sym (no-type c.args.misc c.args.a c.args.kind (search rules))) (tried-none c.requires.0)

@@ -8,6 +8,7 @@ use Rattle.meaning.specs.declared.Item.{Item}
 use Rattle.meaning.specs.Schema.{schema}
 use Rattle.meaning.specs.Writing.{named, ends}
 use Rattle.meaning.specs.Values.{tell, width, flag_words, body_width, body_words}
+use borrow.Author.Rules.{rules}
 use Rattle.layouts.specs.Types.{no-type}
 use Rattle.fit_chains.proofs.own_end.Goals as goal
 
@@ -101,4 +102,4 @@ returns-in-21 c = (ap (λ (k : ℕ). body_words + body_width (schema k c.args.mi
 
 pub returns-in_default : goal.returns-in_default
 unfolding tell width flag_words named ends
-returns-in_default c = (ap (λ (l : List Item). body_words + body_width l) (sym (no-type c.args.misc c.args.a c.args.kind c.in_default.rest)), omega arith)
+returns-in_default c = (ap (λ (l : List Item). body_words + body_width l) (sym (no-type c.args.misc c.args.a c.args.kind (search rules))), omega arith)

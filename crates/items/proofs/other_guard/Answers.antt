@@ -3,7 +3,7 @@ use mathlib.Core.Path.{ap, ap₂}
 use mathlib.Core.Bool.{Bool, false, not, ◌&&◌, ◌||◌}
 use Rattle.table.specs.Rows.{guards}
 use Rattle.items.proofs.Laws.{key, past}
-use borrow.Author.Rules.{rules}
+use native.Mathlib.Omega.{arith}
 use Rattle.items.proofs.other_guard.Goals as goal
 
 pub returns-in-1 : goal.returns-in-1
@@ -55,4 +55,4 @@ pub returns-in-16 : goal.returns-in-16
 returns-in-16 c = let a = c.args in key (guards a.a a.misc) false c.in-16.is (ap₂ ◌&&◌ c.has_bit-reads.ensures (ap₂ (λ (g i : Bool). not g && i) c.has_bit-grouped.ensures c.has_bit-in-16.ensures))
 
 pub returns-in_default : goal.returns-in_default
-returns-in_default c = let a = c.args in past (guards a.a a.misc) false a.g c.in_default-own.rest
+returns-in_default c = past (guards c.args.a c.args.misc) false c.args.g (omega arith)

@@ -3,7 +3,7 @@ use mathlib.Core.Path.{refl}
 use Rattle.meaning.specs.declared.Shape.TheVariants.{Pad}
 use Rattle.table.specs.Rows.{shapes}
 use Rattle.items.proofs.Laws.{key, past}
-use borrow.Author.Rules.{rules}
+use native.Mathlib.Omega.{arith}
 use Rattle.items.proofs.shape_by.Goals as goal
 
 pub returns-in-0 : goal.returns-in-0
@@ -37,4 +37,4 @@ pub returns-in-16 : goal.returns-in-16
 returns-in-16 c = key (shapes c.args.a) Pad c.in-16.is refl
 
 pub returns-in_default : goal.returns-in_default
-returns-in_default c = past (shapes c.args.a) Pad c.args.k c.in_default-own.rest
+returns-in_default c = past (shapes c.args.a) Pad c.args.k (omega arith)

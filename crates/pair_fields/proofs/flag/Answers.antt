@@ -14,12 +14,12 @@ returns-then-flag_at-eq0 c =
     let z = flag-nameless a.x.now a.y.now a.p c.requires.ready c.requires.done_value.0 c.requires.done_value.1.1 c.requires.done_value.1.0 (sym c.flag_at.ensures ∙ c.if-flag_at-eq0.true) in record { fields_stand = settled-stands a.x.now a.y.now _ _ a.p.k _ c.settled.result c.settled.ensures (sym z) (λ e. absurd (apart (sym e ∙ z))); result_bound = settled-less a.x.now a.y.now a.p c.settled.result _ _ c.settled.ensures c.requires.done_value.0; }
 
 pub or_dirty-requires : goal.or_dirty-requires
-or_dirty-requires c =
+or_dirty-requires c z =
     let a = c.args in
     (pair-accepted a.x.now a.y.now a.p.kind a.p.misc a.p.a c.requires.ready.pair).0
 
 pub or_dirty-requires-2 : goal.or_dirty-requires-2
-or_dirty-requires-2 c =
+or_dirty-requires-2 c z =
     let a = c.args in
     (pair-accepted a.x.now a.y.now a.p.kind a.p.misc a.p.a c.requires.ready.pair).1
 

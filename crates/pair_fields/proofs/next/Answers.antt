@@ -11,13 +11,13 @@ pub turn-requires : goal.turn-requires
 turn-requires c = record { ready = c.requires.ready; done_value = (c.requires.done_value, c.if-p.true); }
 
 pub returns-then-p : goal.returns-then-p
-returns-then-p c = let old : _ × _ = (c.turn.ensures.fields_stand, c.turn.ensures.result_bound) in record { fields_stand = old.0; result_bound = old.1; }
+returns-then-p c = record { fields_stand = c.turn.ensures.fields_stand; result_bound = c.turn.ensures.result_bound; }
 
 pub flag-requires : goal.flag-requires
 flag-requires c = record { ready = c.requires.ready; done_value = (c.requires.done_value, (c.if-p-2.true, c.if-p.false)); }
 
 pub returns-then-p-2 : goal.returns-then-p-2
-returns-then-p-2 c = let old : _ × _ = (c.flag.ensures.fields_stand, c.flag.ensures.result_bound) in record { fields_stand = old.0; result_bound = old.1; }
+returns-then-p-2 c = record { fields_stand = c.flag.ensures.fields_stand; result_bound = c.flag.ensures.result_bound; }
 
 pub returns : goal.returns
 returns c =

@@ -17,39 +17,7 @@ use Rattle.compare.specs.Others.{same-record, other-answer, other-refused, other
 use Rattle.pair_fields.specs.Fields.{settled-stands, differs-stands}
 use Rattle.laws.specs.Numbers.{kind-is, misc-is, size_is}
 use Rattle.pairs.specs.Start.{framed-long, accepted-long, accepted-there, accepted-room, start-stands}
-use Rattle.pairs.proofs.begin.Tie as tie
-use Rattle.pairs.proofs.begin.Lts as lts
-use Rattle.pairs.proofs.begin.Reads as reads
 use Rattle.pairs.proofs.begin.Goals as goal
-
--- what is known past each test
-answers : (c : lts.Else2 tie.the-claims reads.Pre reads.Post tie.handed_clauses) → judge_events (known editions c.args.e) (events_of c.args.rows.now) c.args.x.now ≡ judge_events (known editions c.args.e) (events_of c.args.rows.now) c.args.y.now
-answers c = sym c.judge-answer.ensures ∙ c.if-answer-judge.false ∙ c.judge.ensures
-
-accepted : (c : lts.Else3 tie.the-claims reads.Pre reads.Post tie.handed_clauses) → judge_events (known editions c.args.e) (events_of c.args.rows.now) c.args.x.now ≡ 0
-accepted c = sym c.judge-answer.ensures ∙ c.if-answer-ne0.false
-
-accepted-right : (c : lts.Else3 tie.the-claims reads.Pre reads.Post tie.handed_clauses) → judge_events (known editions c.args.e) (events_of c.args.rows.now) c.args.y.now ≡ 0
-accepted-right c = sym (answers c.before.before) ∙ accepted c
-
-kinds : (c : lts.Else4 tie.the-claims reads.Pre reads.Post tie.handed_clauses) → kind_of c.args.x.now ≡ kind_of c.args.y.now
-kinds c = sym (kind-is c.args.x.now) ∙ sym c.u32_at-kind.ensures.0 ∙ c.if-kind-u32_at.false ∙ c.u32_at.ensures.0 ∙ kind-is c.args.y.now
-
-miscs : (c : lts.Else5 tie.the-claims reads.Pre reads.Post tie.handed_clauses) → misc_of c.args.x.now ≡ misc_of c.args.y.now
-miscs c = sym (misc-is c.args.x.now) ∙ sym c.u16_at-misc.ensures.0 ∙ c.if-misc-u16_at.false ∙ c.u16_at.ensures.0 ∙ misc-is c.args.y.now
-
-sizes : (c : lts.Else6 tie.the-claims reads.Pre reads.Post tie.handed_clauses) → size_of c.args.x.now ≡ size_of c.args.y.now
-sizes c = sym (size_is c.args.x.now) ∙ sym c.u16_at-2.ensures.0 ∙ c.if-u16_at.false ∙ c.u16_at-3.ensures.0 ∙ size_is c.args.y.now
-
-ids : (c : lts.Else7 tie.the-claims reads.Pre reads.Post tie.handed_clauses) → identifier_of c.args.x.now ≡ identifier_of c.args.y.now
-ids c = sym c.identifier_of-id.ensures ∙ c.if-id-identifier_of.false ∙ c.identifier_of.ensures
-
--- the row of the identifier
-found : (c : lts.After-find tie.the-claims reads.Pre reads.Post tie.handed_clauses) → c.find.result ≡ index_of (identifier_of c.args.x.now) (identifiers (events_of c.args.rows.now))
-found c = c.find.ensures ∙ ap (λ (i : ℕ). index_of i (identifiers (events_of c.args.rows.now))) c.identifier_of-id.ensures
-
-attributes-are : (c : lts.After-attributes_at tie.the-claims reads.Pre reads.Post tie.handed_clauses) → c.attributes_at.result ≡ attributes_of (event_at (events_of c.args.rows.now) (index_of (identifier_of c.args.x.now) (identifiers (events_of c.args.rows.now))))
-attributes-are c = c.attributes_at.ensures ∙ ap (λ (i : ℕ). attributes_of (event_at (events_of c.args.rows.now) i)) (found c.before.before)
 
 -- equal bytes
 pub returns-then-same_record : goal.returns-then-same_record
@@ -71,7 +39,7 @@ returns-then-answer-judge c =
 pub returns-then-answer-ne0 : goal.returns-then-answer-ne0
 returns-then-answer-ne0 c =
     differs-stands c.args.x.now c.args.y.now _ _ 1 c.settled-then-answer-ne0.result c.settled-then-answer-ne0.ensures
-    (other-refused (event_reads (known editions c.args.e) (events_of c.args.rows.now)) c.args.x.now c.args.y.now (answers c.before.before.before) (λ e. c.if-answer-ne0.true (c.judge-answer.ensures ∙ e)) (sym c.same_record.ensures ∙ c.if-same_record.false))
+    (other-refused (event_reads (known editions c.args.e) (events_of c.args.rows.now)) c.args.x.now c.args.y.now (sym c.judge-answer.ensures ∙ c.if-answer-judge.false ∙ c.judge.ensures) (λ e. c.if-answer-ne0.true (c.judge-answer.ensures ∙ e)) (sym c.same_record.ensures ∙ c.if-same_record.false))
 
 pub u32_at-kind-requires : goal.u32_at-kind-requires
 u32_at-kind-requires c = let l = framed-long c.args.x.now c.requires.x_value.0 in omega (arith, l)
@@ -82,7 +50,7 @@ u32_at-requires c = let l = framed-long c.args.y.now c.requires.x_value.1 in ome
 pub returns-then-kind-u32_at : goal.returns-then-kind-u32_at
 returns-then-kind-u32_at c =
     differs-stands c.args.x.now c.args.y.now _ _ 1 c.settled-then-kind-u32_at.result c.settled-then-kind-u32_at.ensures
-    (other-kind (event_reads (known editions c.args.e) (events_of c.args.rows.now)) c.args.x.now c.args.y.now (answers c.before.before.before.before.before.before) (accepted c.before.before.before.before.before)
+    (other-kind (event_reads (known editions c.args.e) (events_of c.args.rows.now)) c.args.x.now c.args.y.now (sym c.judge-answer.ensures ∙ c.if-answer-judge.false ∙ c.judge.ensures) (sym c.judge-answer.ensures ∙ c.if-answer-ne0.false)
     (λ e. c.if-kind-u32_at.true (c.u32_at-kind.ensures.0 ∙ kind-is c.args.x.now ∙ e ∙ sym (kind-is c.args.y.now) ∙ sym c.u32_at.ensures.0)))
 
 pub u16_at-misc-requires : goal.u16_at-misc-requires
@@ -94,7 +62,7 @@ u16_at-requires c = let l = framed-long c.args.y.now c.requires.x_value.1 in ome
 pub returns-then-misc-u16_at : goal.returns-then-misc-u16_at
 returns-then-misc-u16_at c =
     differs-stands c.args.x.now c.args.y.now _ _ 2 c.settled-then-misc-u16_at.result c.settled-then-misc-u16_at.ensures
-    (other-misc (event_reads (known editions c.args.e) (events_of c.args.rows.now)) c.args.x.now c.args.y.now (answers c.before.before.before.before.before.before.before.before.before) (accepted c.before.before.before.before.before.before.before.before) (kinds c.before.before.before.before.before)
+    (other-misc (event_reads (known editions c.args.e) (events_of c.args.rows.now)) c.args.x.now c.args.y.now (sym c.judge-answer.ensures ∙ c.if-answer-judge.false ∙ c.judge.ensures) (sym c.judge-answer.ensures ∙ c.if-answer-ne0.false) (sym (kind-is c.args.x.now) ∙ sym c.u32_at-kind.ensures.0 ∙ c.if-kind-u32_at.false ∙ c.u32_at.ensures.0 ∙ kind-is c.args.y.now)
     (λ e. c.if-misc-u16_at.true (c.u16_at-misc.ensures.0 ∙ misc-is c.args.x.now ∙ e ∙ sym (misc-is c.args.y.now) ∙ sym c.u16_at.ensures.0)))
 
 pub u16_at-requires-2 : goal.u16_at-requires-2
@@ -106,38 +74,38 @@ u16_at-requires-3 c = let l = framed-long c.args.y.now c.requires.x_value.1 in o
 pub returns-then-u16_at : goal.returns-then-u16_at
 returns-then-u16_at c =
     differs-stands c.args.x.now c.args.y.now _ _ 3 c.settled-then-u16_at.result c.settled-then-u16_at.ensures
-    (other-size (event_reads (known editions c.args.e) (events_of c.args.rows.now)) c.args.x.now c.args.y.now (answers c.before.before.before.before.before.before.before.before.before.before.before.before) (accepted c.before.before.before.before.before.before.before.before.before.before.before) (kinds c.before.before.before.before.before.before.before.before) (miscs c.before.before.before.before.before)
+    (other-size (event_reads (known editions c.args.e) (events_of c.args.rows.now)) c.args.x.now c.args.y.now (sym c.judge-answer.ensures ∙ c.if-answer-judge.false ∙ c.judge.ensures) (sym c.judge-answer.ensures ∙ c.if-answer-ne0.false) (sym (kind-is c.args.x.now) ∙ sym c.u32_at-kind.ensures.0 ∙ c.if-kind-u32_at.false ∙ c.u32_at.ensures.0 ∙ kind-is c.args.y.now) (sym (misc-is c.args.x.now) ∙ sym c.u16_at-misc.ensures.0 ∙ c.if-misc-u16_at.false ∙ c.u16_at.ensures.0 ∙ misc-is c.args.y.now)
     (λ e. c.if-u16_at.true (c.u16_at-2.ensures.0 ∙ size_is c.args.x.now ∙ e ∙ sym (size_is c.args.y.now) ∙ sym c.u16_at-3.ensures.0)))
 
 pub identifier_of-id-requires : goal.identifier_of-id-requires
 identifier_of-id-requires c =
-    (accepted-long (known editions c.args.e) (events_of c.args.rows.now) c.requires.rows_value c.args.x.now (accepted c.before.before.before.before.before.before.before.before.before.before), c.u32_at-kind.ensures.0 ∙ kind-is c.args.x.now)
+    (accepted-long (known editions c.args.e) (events_of c.args.rows.now) c.requires.rows_value c.args.x.now (sym c.judge-answer.ensures ∙ c.if-answer-ne0.false), c.u32_at-kind.ensures.0 ∙ kind-is c.args.x.now)
 
 pub identifier_of-requires : goal.identifier_of-requires
 identifier_of-requires c =
-    (accepted-long (known editions c.args.e) (events_of c.args.rows.now) c.requires.rows_value c.args.y.now (accepted-right c.before.before.before.before.before.before.before.before.before.before.before), c.u32_at-kind.ensures.0 ∙ kind-is c.args.x.now ∙ kinds c.before.before.before.before.before.before.before.before)
+    (accepted-long (known editions c.args.e) (events_of c.args.rows.now) c.requires.rows_value c.args.y.now (sym (sym c.judge-answer.ensures ∙ c.if-answer-judge.false ∙ c.judge.ensures) ∙ (sym c.judge-answer.ensures ∙ c.if-answer-ne0.false)), c.u32_at-kind.ensures.0 ∙ kind-is c.args.x.now ∙ (sym (kind-is c.args.x.now) ∙ sym c.u32_at-kind.ensures.0 ∙ c.if-kind-u32_at.false ∙ c.u32_at.ensures.0 ∙ kind-is c.args.y.now))
 
 pub returns-then-id-identifier_of : goal.returns-then-id-identifier_of
 returns-then-id-identifier_of c =
     differs-stands c.args.x.now c.args.y.now _ _ 4 c.settled-then-id-identifier_of.result c.settled-then-id-identifier_of.ensures
-    (other-identifier (event_reads (known editions c.args.e) (events_of c.args.rows.now)) c.args.x.now c.args.y.now (answers c.before.before.before.before.before.before.before.before.before.before.before.before.before.before.before) (accepted c.before.before.before.before.before.before.before.before.before.before.before.before.before.before) (kinds c.before.before.before.before.before.before.before.before.before.before.before) (miscs c.before.before.before.before.before.before.before.before) (sizes c.before.before.before.before.before)
+    (other-identifier (event_reads (known editions c.args.e) (events_of c.args.rows.now)) c.args.x.now c.args.y.now (sym c.judge-answer.ensures ∙ c.if-answer-judge.false ∙ c.judge.ensures) (sym c.judge-answer.ensures ∙ c.if-answer-ne0.false) (sym (kind-is c.args.x.now) ∙ sym c.u32_at-kind.ensures.0 ∙ c.if-kind-u32_at.false ∙ c.u32_at.ensures.0 ∙ kind-is c.args.y.now) (sym (misc-is c.args.x.now) ∙ sym c.u16_at-misc.ensures.0 ∙ c.if-misc-u16_at.false ∙ c.u16_at.ensures.0 ∙ misc-is c.args.y.now) (sym (size_is c.args.x.now) ∙ sym c.u16_at-2.ensures.0 ∙ c.if-u16_at.false ∙ c.u16_at-3.ensures.0 ∙ size_is c.args.y.now)
     (λ e. c.if-id-identifier_of.true (c.identifier_of-id.ensures ∙ e ∙ sym c.identifier_of.ensures)))
 
 pub attributes_at-requires : goal.attributes_at-requires
 attributes_at-requires c =
-    let t = accepted-there (known editions c.args.e) (events_of c.args.rows.now) c.requires.rows_value c.args.x.now (accepted c.before.before.before.before.before.before.before.before.before.before.before.before.before.before) in
-    let e = found c in
+    let t = accepted-there (known editions c.args.e) (events_of c.args.rows.now) c.requires.rows_value c.args.x.now (sym c.judge-answer.ensures ∙ c.if-answer-ne0.false) in
+    let e = (c.find.ensures ∙ ap (λ (i : ℕ). index_of i (identifiers (events_of c.args.rows.now))) c.identifier_of-id.ensures) in
     let l = rows-length c.args.rows.now in
     omega (arith, t, e, l)
 
 pub others-requires : goal.others-requires
 others-requires c =
-    let r = accepted-room (known editions c.args.e) (events_of c.args.rows.now) c.requires.rows_value c.args.x.now (accepted c.before.before.before.before.before.before.before.before.before.before.before.before.before.before.before) c.attributes_at.result (attributes-are c) in
+    let r = accepted-room (known editions c.args.e) (events_of c.args.rows.now) c.requires.rows_value c.args.x.now (sym c.judge-answer.ensures ∙ c.if-answer-ne0.false) c.attributes_at.result (c.attributes_at.ensures ∙ ap (λ (i : ℕ). attributes_of (event_at (events_of c.args.rows.now) i)) (c.find.ensures ∙ ap (λ (i : ℕ). index_of i (identifiers (events_of c.args.rows.now))) c.identifier_of-id.ensures)) in
     subst (λ (t : ℕ). room (trailer t c.attributes_at.result) ≤ length c.args.x.now) (sym (c.u32_at-kind.ensures.0 ∙ kind-is c.args.x.now)) r
 
 pub returns : goal.returns
 returns c =
     start-stands (known editions c.args.e) (events_of c.args.rows.now) c.requires.rows_value c.args.x.now c.args.y.now c.requires.x_value.0 c.requires.x_value.1
-    (accepted c.before.before.before.before.before.before.before.before.before.before.before.before.before.before.before.before) (accepted-right c.before.before.before.before.before.before.before.before.before.before.before.before.before.before.before.before) (kinds c.before.before.before.before.before.before.before.before.before.before.before.before.before) (miscs c.before.before.before.before.before.before.before.before.before.before) (sizes c.before.before.before.before.before.before.before) (ids c.before.before.before.before)
-    c.attributes_at.result (attributes-are c.before.before) _ _ c.others.result
+    (sym c.judge-answer.ensures ∙ c.if-answer-ne0.false) (sym (sym c.judge-answer.ensures ∙ c.if-answer-judge.false ∙ c.judge.ensures) ∙ (sym c.judge-answer.ensures ∙ c.if-answer-ne0.false)) (sym (kind-is c.args.x.now) ∙ sym c.u32_at-kind.ensures.0 ∙ c.if-kind-u32_at.false ∙ c.u32_at.ensures.0 ∙ kind-is c.args.y.now) (sym (misc-is c.args.x.now) ∙ sym c.u16_at-misc.ensures.0 ∙ c.if-misc-u16_at.false ∙ c.u16_at.ensures.0 ∙ misc-is c.args.y.now) (sym (size_is c.args.x.now) ∙ sym c.u16_at-2.ensures.0 ∙ c.if-u16_at.false ∙ c.u16_at-3.ensures.0 ∙ size_is c.args.y.now) (sym c.identifier_of-id.ensures ∙ c.if-id-identifier_of.false ∙ c.identifier_of.ensures)
+    c.attributes_at.result (c.attributes_at.ensures ∙ ap (λ (i : ℕ). attributes_of (event_at (events_of c.args.rows.now) i)) (c.find.ensures ∙ ap (λ (i : ℕ). index_of i (identifiers (events_of c.args.rows.now))) c.identifier_of-id.ensures)) _ _ c.others.result
     (c.u32_at-kind.ensures.0 ∙ kind-is c.args.x.now) (c.u16_at-misc.ensures.0 ∙ misc-is c.args.x.now) c.others.ensures

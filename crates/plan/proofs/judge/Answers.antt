@@ -6,12 +6,9 @@ use borrow.Author.Rules.{rules}
 use Rattle.meaning.specs.Editions.{unreadable}
 use Rattle.marks.specs.Marks.{sample-judged, one-weight}
 use Rattle.sums.specs.Sums.{trail-small, sums-given}
-use Rattle.plan.proofs.judge.Tie as tie
-use Rattle.plan.proofs.judge.Lts as lts
-use Rattle.plan.proofs.judge.Reads as reads
 use Rattle.plan.proofs.judge.Goals as goal
 
-weighs : (c : lts.Then1 tie.the-claims reads.Pre reads.Post tie.handed_clauses) → Rattle.exact.specs.Stretches.weights c.args.a ≡ false
+weighs : (c : goal.Then-mark-eq-STRETCHED) → Rattle.exact.specs.Stretches.weights c.args.a ≡ false
 weighs c =
     let m = c.requires.marked.stretched c.if-mark-eq-STRETCHED.true in
     one-weight c.args.known c.args.a (ap (λ (t : ℕ). unreadable c.args.known c.args.a t 0) (sym m.0) ∙ m.1)

@@ -135,4 +135,4 @@ pub returns-in-21 : goal.returns-in-21
 returns-in-21 c = placed-as (ap (λ (k : ℕ). schema k c.args.misc c.args.a) (sym c.in-21.is)) c.lost_samples-in-21.ensures
 
 pub returns-in_default : goal.returns-in_default
-returns-in_default c = placed-as (sym (no-type c.args.misc c.args.a c.args.kind c.in_default.rest)) placed-none
+returns-in_default c = placed-as (sym (no-type c.args.misc c.args.a c.args.kind (search rules))) placed-none

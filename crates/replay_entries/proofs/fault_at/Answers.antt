@@ -1,7 +1,7 @@
 -- Each answer is the first row that holds, of the entry that stands there.
 use mathlib.Core.Path.{◌≡◌, sym, ap, ◌∙◌}
 use mathlib.Core.List.{List}
-use mathlib.Core.Bool.{true, false}
+use mathlib.Core.Bool.{Bool, true, false}
 use Prim.Native.Nat.{ℕ, ◌+◌, ◌-◌, ◌≤◌}
 use native.Mathlib.Omega.{arith}
 use lib.ListN.{length, take, drop}
@@ -13,9 +13,6 @@ use Rattle.entries.specs.declared.Entry.{Entry}
 use Rattle.entries.specs.Entries.{entry_at}
 use Rattle.entries.specs.Laws.{stands}
 use Rattle.replay.specs.Replay.{of_store, body_of, entry_rows, fault_at}
-use Rattle.replay_entries.proofs.fault_at.Tie as tie
-use Rattle.replay_entries.proofs.fault_at.Lts as lts
-use Rattle.replay_entries.proofs.fault_at.Reads as reads
 use Rattle.replay_entries.proofs.fault_at.Goals as goal
 
 -- by the entry that was read
@@ -31,15 +28,11 @@ body-ends xs at e q w =
     let n = ap (λ (x : Entry). x.length) (q ∙ s.told) in
     omega (arith, s.least, s.room, b, n)
 
-ends : (c : lts.Else1 tie.the-claims reads.Pre reads.Post tie.handed_clauses) → c.entry_at-e.result.body + c.entry_at-e.result.length ≤ length c.args.trace.now
-ends c = let e = c.entry_at-e in body-ends _ _ e.result e.ensures c.if-not-e.false
-
 -- the record that was looked at is the body
-body_is : (c : lts.After-one_record tie.the-claims reads.Pre reads.Post tie.handed_clauses) → c.one_record.result ≡ framed (body_of c.args.trace.now c.entry_at-e.result)
-body_is c =
-    let e = c.entry_at-e.result in
+body_is : (xs : List ℕ) (e : Entry) (r : Bool) → r ≡ framed (take (e.body + e.length - e.body) (drop e.body xs)) → r ≡ framed (body_of xs e)
+body_is xs e r h =
     let n : e.body + e.length - e.body ≡ e.length = omega arith in
-    c.one_record.ensures ∙ ap (λ (k : ℕ). framed (take k (drop e.body c.args.trace.now))) n
+    h ∙ ap (λ (k : ℕ). framed (take k (drop e.body xs))) n
 
 pub returns-then-not-e : goal.returns-then-not-e
 unfolding first
@@ -48,17 +41,17 @@ returns-then-not-e c =
     by _ _ 51 e.result e.ensures (simp c.if-not-e.true)
 
 pub overflow_add-body : goal.overflow_add-body
-overflow_add-body c = record { fits = omega (arith, ends c.before.before, c.well_formed) }
+overflow_add-body c = record { fits = omega (arith, body-ends _ _ _ c.entry_at-e.ensures (not-false _ c.if-not-e.false), c.well_formed) }
 
 pub slice_bounds-one_record-end : goal.slice_bounds-one_record-end
-slice_bounds-one_record-end c = ends c.before.before
+slice_bounds-one_record-end c = body-ends _ _ _ c.entry_at-e.ensures (not-false _ c.if-not-e.false)
 
 pub returns-then-one_record : goal.returns-then-one_record
 unfolding first
 returns-then-one_record c =
     let e = c.entry_at-e in
     let w = c.if-not-e.false in
-    let f = sym (body_is c.before.before) ∙ c.if-one_record.true in
+    let f = sym (body_is _ e.result _ c.one_record.ensures) ∙ c.if-one_record.true in
     by _ _ 0 e.result e.ensures (simp (w, c.if-kind-eq16.true, f))
 
 pub returns-then-kind-eq16 : goal.returns-then-kind-eq16
@@ -66,7 +59,7 @@ unfolding first
 returns-then-kind-eq16 c =
     let e = c.entry_at-e in
     let w = c.if-not-e.false in
-    let f = sym (body_is c.before.before) ∙ c.if-one_record.false in
+    let f = sym (body_is _ e.result _ c.one_record.ensures) ∙ c.if-one_record.false in
     by _ _ 53 e.result e.ensures (simp (w, c.if-kind-eq16.true, f))
 
 pub returns-then-n-eq4 : goal.returns-then-n-eq4

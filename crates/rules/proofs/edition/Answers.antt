@@ -21,7 +21,7 @@ returns-in-4 c = ap (known editions) (sym c.in-4.is)
 
 pub returns-in-0 : goal.returns-in-0
 unfolding known
-returns-in-0 c = let z : 0 ≡ c.args.e - 1 = omega (arith, c.if-e-lt2.true) in ap (λ (i : ℕ). get_or editions i nothing_known) z
+returns-in-0 c = let z : 0 ≡ c.args.e - 1 = omega arith in ap (λ (i : ℕ). get_or editions i nothing_known) z
 
 pub returns-in_default : goal.returns-in_default
-returns-in_default c = known_past editions c.args.e (omega (arith, c.if-e-lt2.false, c.in_default-1.rest.0.0.1, c.in_default-1.rest.0.1, c.in_default-1.rest.1))
+returns-in_default c = known_past editions c.args.e (omega arith)

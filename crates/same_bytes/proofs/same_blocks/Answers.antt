@@ -29,8 +29,8 @@ loop-k-preserved c =
     let a = c.args in
     let l = c.loop-k in
     rest-four a.s.now a.t.now a.i a.j a.n l.k c.loop-k-test.true c.requires.n_in_bounds c.requires.n_in_bounds_2
-    (small_of a.s.now c.type_inv.s.given)
-    (small_of a.t.now c.type_inv.t.given)
+    (small_of a.s.now c.type_inv.s)
+    (small_of a.t.now c.type_inv.t)
     (sym c.same_four.ensures ∙ c.if-not-same_four.false) l.invariant
 
 pub returns : goal.returns

@@ -31,8 +31,8 @@ loop-k-preserved c =
     let a = c.args in
     let l = c.loop-k in
     rest-words a.s.now a.t.now a.i a.j a.n l.k c.loop-k-test.true c.requires.n_in_bounds c.requires.n_in_bounds_2
-    (small_of a.s.now c.type_inv.s.given)
-    (small_of a.t.now c.type_inv.t.given)
+    (small_of a.s.now c.type_inv.s)
+    (small_of a.t.now c.type_inv.t)
     (sym c.u64_at.ensures ∙ c.if-u64_at.false ∙ c.u64_at-in-loop-k.ensures) l.invariant
 
 pub returns : goal.returns

@@ -14,11 +14,11 @@ use Rattle.write_fits.proofs.abi.Goals as goal
 
 pub returns-then-not-on : goal.returns-then-not-on
 unfolding slot_told
-returns-then-not-on c = off-number (small_of _ c.type_inv.source.given) (λ k. (c.shared_slice_known-1.given k).fits) c.requires.0 c.if-not-on.true (ap (λ (v : ℕ). slot v 0 0) (word_at c.args.ws.now c.args.w)) c.none.ensures
+returns-then-not-on c = off-number (small_of _ c.type_inv.source) (λ k. (c.type_inv.ws k).fits) c.requires.0 c.if-not-on.true (ap (λ (v : ℕ). slot v 0 0) (word_at c.args.ws.now c.args.w)) c.none.ensures
 
 pub returns : goal.returns
 unfolding shape_form slot_told last_told before_told
 returns c =
     let a = c.args in
-    by-plain (small_of _ c.type_inv.source.given) (λ k. (c.shared_slice_known-1.given k).fits) c.requires.0 c.if-not-on.false
+    by-plain (small_of _ c.type_inv.source) (λ k. (c.type_inv.ws k).fits) c.requires.0 c.if-not-on.false
     (ap (λ (n : ℕ). number_form 8 (top 8) false n a.c.old) (ap (λ (v : ℕ). cond (eqb v 0) 0 (ones 64 a.mask)) (word_at c.args.ws.now c.args.w) ∙ sym c.registers_by.ensures)) (ap (λ (v : ℕ). slot v 0 0) (word_at c.args.ws.now c.args.w)) refl refl c.largest.ensures refl c.past.ensures

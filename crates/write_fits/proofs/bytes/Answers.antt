@@ -11,8 +11,8 @@ use Rattle.write_fits.proofs.bytes.Goals as goal
 
 pub returns-then-not-on : goal.returns-then-not-on
 unfolding slot_told
-returns-then-not-on c = off-counted (small_of _ c.type_inv.source.given) (λ k. (c.shared_slice_known-1.given k).fits) c.requires.0 c.if-not-on.true (ap₂ (λ (v k : ℕ). slot 0 v k) (word_at c.args.ws.now c.args.w) (word_after c.args.ws.now c.args.w)) c.none.ensures
+returns-then-not-on c = off-counted (small_of _ c.type_inv.source) (λ k. (c.type_inv.ws k).fits) c.requires.0 c.if-not-on.true (ap₂ (λ (v k : ℕ). slot 0 v k) (word_at c.args.ws.now c.args.w) (word_after c.args.ws.now c.args.w)) c.none.ensures
 
 pub returns : goal.returns
 unfolding shape_form slot_told last_told before_told
-returns c = by-list (small_of _ c.type_inv.source.given) (λ k. (c.shared_slice_known-1.given k).fits) c.requires.0 c.if-not-on.false refl (ap₂ (λ (v k : ℕ). slot 0 v k) (word_at c.args.ws.now c.args.w) (word_after c.args.ws.now c.args.w)) refl refl c.list.ensures
+returns c = by-list (small_of _ c.type_inv.source) (λ k. (c.type_inv.ws k).fits) c.requires.0 c.if-not-on.false refl (ap₂ (λ (v k : ℕ). slot 0 v k) (word_at c.args.ws.now c.args.w) (word_after c.args.ws.now c.args.w)) refl refl c.list.ensures

@@ -16,13 +16,13 @@ use Rattle.write_fits.proofs.name.Goals as goal
 
 pub returns-then-not-on : goal.returns-then-not-on
 unfolding slot_told
-returns-then-not-on c = off-counted (small_of _ c.type_inv.source.given) (λ k. (c.shared_slice_known-1.given k).fits) c.requires.0 c.if-not-on.true (ap₂ (λ (v k : ℕ). slot 0 v k) (word_at c.args.ws.now c.args.w) (word_after c.args.ws.now c.args.w)) c.none.ensures
+returns-then-not-on c = off-counted (small_of _ c.type_inv.source) (λ k. (c.type_inv.ws k).fits) c.requires.0 c.if-not-on.true (ap₂ (λ (v k : ℕ). slot 0 v k) (word_at c.args.ws.now c.args.w) (word_after c.args.ws.now c.args.w)) c.none.ensures
 
 pub returns-then-count-room : goal.returns-then-count-room
 unfolding shape_form slot_told last_told before_told
 returns-then-count-room c =
     let a = c.args in
-    by_name (small_of _ c.type_inv.source.given) (λ k. (c.shared_slice_known-1.given k).fits) c.requires.0 c.if-not-on.false (ap (λ (k : ℕ). name_form (state_of a.c) k (8 - (a.c.at + k) % 8)) (word_after a.ws.now a.w)) (ap₂ (λ (v k : ℕ). slot 0 v k) (word_at c.args.ws.now c.args.w) (word_after c.args.ws.now c.args.w)) refl refl
+    by_name (small_of _ c.type_inv.source) (λ k. (c.type_inv.ws k).fits) c.requires.0 c.if-not-on.false (ap (λ (k : ℕ). name_form (state_of a.c) k (8 - (a.c.at + k) % 8)) (word_after a.ws.now a.w)) (ap₂ (λ (v k : ℕ). slot 0 v k) (word_at c.args.ws.now c.args.w) (word_after c.args.ws.now c.args.w)) refl refl
     (c.refuse.ensures ∙ ap (λ (t : Bool). cond t (stay ((get_or a.ws.now (a.w + 1) 0) * 1 + (8 - (a.c.at + (get_or a.ws.now (a.w + 1) 0)) % 8)) a.c) (refused a.c)) (name-none c.args.source.now (get_or c.args.ws.now c.args.w 0) (get_or c.args.ws.now (c.args.w + 1) 0) (8 - (a.c.at + (get_or a.ws.now (a.w + 1) 0)) % 8) a.c c.if-count-room.true))
 
 pub overflow_sub-room : goal.overflow_sub-room
@@ -32,7 +32,7 @@ pub returns-then-room-from : goal.returns-then-room-from
 unfolding shape_form slot_told last_told before_told
 returns-then-room-from c =
     let a = c.args in
-    by_name (small_of _ c.type_inv.source.given) (λ k. (c.shared_slice_known-1.given k).fits) c.requires.0 c.if-not-on.false (ap (λ (k : ℕ). name_form (state_of a.c) k (8 - (a.c.at + k) % 8)) (word_after a.ws.now a.w)) (ap₂ (λ (v k : ℕ). slot 0 v k) (word_at c.args.ws.now c.args.w) (word_after c.args.ws.now c.args.w)) refl refl
+    by_name (small_of _ c.type_inv.source) (λ k. (c.type_inv.ws k).fits) c.requires.0 c.if-not-on.false (ap (λ (k : ℕ). name_form (state_of a.c) k (8 - (a.c.at + k) % 8)) (word_after a.ws.now a.w)) (ap₂ (λ (v k : ℕ). slot 0 v k) (word_at c.args.ws.now c.args.w) (word_after c.args.ws.now c.args.w)) refl refl
     (c.refuse-then-room-from.ensures ∙ ap (λ (t : Bool). cond t (stay ((get_or a.ws.now (a.w + 1) 0) * 1 + (8 - (a.c.at + (get_or a.ws.now (a.w + 1) 0)) % 8)) a.c) (refused a.c)) (name-far c.args.source.now (get_or c.args.ws.now c.args.w 0) (get_or c.args.ws.now (c.args.w + 1) 0) (8 - (a.c.at + (get_or a.ws.now (a.w + 1) 0)) % 8) a.c (let p = list-within (length c.args.source.now) (get_or c.args.ws.now c.args.w 0) (get_or c.args.ws.now (c.args.w + 1) 0) c.if-count-room.false in let q = c.if-room-from.true in omega (arith, p.0, p.1, q))))
 
 pub overflow_add-from : goal.overflow_add-from
@@ -48,7 +48,7 @@ pub returns : goal.returns
 unfolding shape_form slot_told last_told before_told
 returns c =
     let a = c.args in
-    by_name (small_of _ c.type_inv.source.given) (λ k. (c.shared_slice_known-1.given k).fits) c.requires.0 c.if-not-on.false (ap (λ (k : ℕ). name_form (state_of a.c) k (8 - (a.c.at + k) % 8)) (word_after a.ws.now a.w)) (ap₂ (λ (v k : ℕ). slot 0 v k) (word_at c.args.ws.now c.args.w) (word_after c.args.ws.now c.args.w)) refl refl
+    by_name (small_of _ c.type_inv.source) (λ k. (c.type_inv.ws k).fits) c.requires.0 c.if-not-on.false (ap (λ (k : ℕ). name_form (state_of a.c) k (8 - (a.c.at + k) % 8)) (word_after a.ws.now a.w)) (ap₂ (λ (v k : ℕ). slot 0 v k) (word_at c.args.ws.now c.args.w) (word_after c.args.ws.now c.args.w)) refl refl
     (
     let v = get_or a.ws.now a.w 0 in
     let k = (get_or a.ws.now (a.w + 1) 0) in

@@ -13,10 +13,10 @@ use Rattle.write_fits.proofs.size.Goals as goal
 
 pub returns-then-not-on : goal.returns-then-not-on
 unfolding slot_told
-returns-then-not-on c = off-number (small_of _ c.type_inv.source.given) (λ k. (c.shared_slice_known-1.given k).fits) c.requires.0 c.if-not-on.true (ap (λ (v : ℕ). slot v 0 0) (word_at c.args.ws.now c.args.w)) c.none.ensures
+returns-then-not-on c = off-number (small_of _ c.type_inv.source) (λ k. (c.type_inv.ws k).fits) c.requires.0 c.if-not-on.true (ap (λ (v : ℕ). slot v 0 0) (word_at c.args.ws.now c.args.w)) c.none.ensures
 
 pub returns : goal.returns
 unfolding shape_form slot_told last_told before_told
 returns c =
     let a = c.args in
-    by-eights (small_of _ c.type_inv.source.given) (λ k. (c.shared_slice_known-1.given k).fits) c.requires.0 c.if-not-on.false (ap (λ (v : ℕ). number_form (bytes a.width) (top (bytes a.width)) true v a.c.old) (word_at c.args.ws.now c.args.w)) (ap (λ (v : ℕ). slot v 0 0) (word_at c.args.ws.now c.args.w)) (word_at c.args.ws.now c.args.w) refl c.largest.ensures c.width_of-k.ensures.0 c.past.ensures
+    by-eights (small_of _ c.type_inv.source) (λ k. (c.type_inv.ws k).fits) c.requires.0 c.if-not-on.false (ap (λ (v : ℕ). number_form (bytes a.width) (top (bytes a.width)) true v a.c.old) (word_at c.args.ws.now c.args.w)) (ap (λ (v : ℕ). slot v 0 0) (word_at c.args.ws.now c.args.w)) (word_at c.args.ws.now c.args.w) refl c.largest.ensures c.width_of-k.ensures.0 c.past.ensures

@@ -9,12 +9,12 @@ use borrow.Author.Rules.{rules}
 use Rattle.write_puts.proofs.ignored.Goals as goal
 
 pub returns-then-not-on : goal.returns-then-not-on
-returns-then-not-on c = off (small_of _ c.type_inv.source.given) (λ k. (c.type_inv.ws.given k).fits) c.requires.0 c.if-not-on.true
+returns-then-not-on c = off (small_of _ c.type_inv.source) (λ k. (c.type_inv.ws k).fits) c.requires.0 c.if-not-on.true
 
 pub past-requires : goal.past-requires
 unfolding shape_form slot_told last_told before_told
-past-requires c = blank-most (small_of _ c.type_inv.source.given) (λ k. (c.type_inv.ws.given k).fits) c.requires.0 c.if-not-on.false refl refl
+past-requires c = blank-most (small_of _ c.type_inv.source) (λ k. (c.type_inv.ws k).fits) c.requires.0 c.if-not-on.false refl refl
 
 pub returns : goal.returns
 unfolding shape_form slot_told last_told before_told
-returns c = blank-put (small_of _ c.type_inv.source.given) (λ k. (c.type_inv.ws.given k).fits) c.requires.0 c.if-not-on.false refl refl refl refl c.zero_at.ensures c.past.ensures
+returns c = blank-put (small_of _ c.type_inv.source) (λ k. (c.type_inv.ws k).fits) c.requires.0 c.if-not-on.false refl refl refl refl c.zero_at.ensures c.past.ensures

@@ -15,16 +15,16 @@ use borrow.Author.Rules.{rules}
 use Rattle.write_puts.proofs.limit.Goals as goal
 
 pub returns-then-not-on : goal.returns-then-not-on
-returns-then-not-on c = off (small_of _ c.type_inv.source.given) (λ k. (c.type_inv.ws.given k).fits) c.requires.0 c.if-not-on.true
+returns-then-not-on c = off (small_of _ c.type_inv.source) (λ k. (c.type_inv.ws k).fits) c.requires.0 c.if-not-on.true
 
 pub store-requires : goal.store-requires
 unfolding shape_form slot_told last_told before_told
-store-requires c = number-room (small_of _ c.type_inv.source.given) (λ k. (c.shared_slice_known-1.given k).fits) c.requires.0 c.if-not-on.false (ap (λ (v : ℕ). number_form 1 20 false v c.args.c.old) (word_at c.args.ws.now c.args.w)) (ap (λ (v : ℕ). slot v 0 0) (word_at c.args.ws.now c.args.w))
+store-requires c = number-room (small_of _ c.type_inv.source) (λ k. (c.type_inv.ws k).fits) c.requires.0 c.if-not-on.false (ap (λ (v : ℕ). number_form 1 20 false v c.args.c.old) (word_at c.args.ws.now c.args.w)) (ap (λ (v : ℕ). slot v 0 0) (word_at c.args.ws.now c.args.w))
 
 pub past-d-requires : goal.past-d-requires
 unfolding shape_form slot_told last_told before_told
-past-d-requires c = number-most (small_of _ c.type_inv.source.given) (λ k. (c.shared_slice_known-1.given k).fits) c.requires.0 c.if-not-on.false (ap (λ (v : ℕ). number_form 1 20 false v c.args.c.old) (word_at c.args.ws.now c.args.w)) (ap (λ (v : ℕ). slot v 0 0) (word_at c.args.ws.now c.args.w))
+past-d-requires c = number-most (small_of _ c.type_inv.source) (λ k. (c.type_inv.ws k).fits) c.requires.0 c.if-not-on.false (ap (λ (v : ℕ). number_form 1 20 false v c.args.c.old) (word_at c.args.ws.now c.args.w)) (ap (λ (v : ℕ). slot v 0 0) (word_at c.args.ws.now c.args.w))
 
 pub returns : goal.returns
 unfolding shape_form slot_told last_told before_told
-returns c = number_put (small_of _ c.type_inv.source.given) (λ k. (c.shared_slice_known-1.given k).fits) c.requires.0 c.if-not-on.false (ap (λ (v : ℕ). number_form 1 20 false v c.args.c.old) (word_at c.args.ws.now c.args.w)) (ap (λ (v : ℕ). slot v 0 0) (word_at c.args.ws.now c.args.w)) (word_at c.args.ws.now c.args.w) refl c.store.ensures (ap (λ (d : Walked). walked d.at (get_or c.args.ws.now c.args.w 0) c.args.c.old (get_or c.args.ws.now c.args.w 0) c.args.c.before c.args.c.bad) c.past-d.ensures)
+returns c = number_put (small_of _ c.type_inv.source) (λ k. (c.type_inv.ws k).fits) c.requires.0 c.if-not-on.false (ap (λ (v : ℕ). number_form 1 20 false v c.args.c.old) (word_at c.args.ws.now c.args.w)) (ap (λ (v : ℕ). slot v 0 0) (word_at c.args.ws.now c.args.w)) (word_at c.args.ws.now c.args.w) refl c.store.ensures (ap (λ (d : Walked). walked d.at (get_or c.args.ws.now c.args.w 0) c.args.c.old (get_or c.args.ws.now c.args.w 0) c.args.c.before c.args.c.bad) c.past-d.ensures)

@@ -12,16 +12,16 @@ use borrow.Author.Rules.{rules}
 use Rattle.write_puts.proofs.number.Goals as goal
 
 pub returns-then-not-on : goal.returns-then-not-on
-returns-then-not-on c = off (small_of _ c.type_inv.source.given) (λ k. (c.type_inv.ws.given k).fits) c.requires.0 c.if-not-on.true
+returns-then-not-on c = off (small_of _ c.type_inv.source) (λ k. (c.type_inv.ws k).fits) c.requires.0 c.if-not-on.true
 
 pub store-requires : goal.store-requires
 unfolding shape_form slot_told last_told before_told
-store-requires c = number-room (small_of _ c.type_inv.source.given) (λ k. (c.shared_slice_known-1.given k).fits) c.requires.0 c.if-not-on.false refl (ap (λ (v : ℕ). slot v 0 0) (word_at c.args.ws.now c.args.w))
+store-requires c = number-room (small_of _ c.type_inv.source) (λ k. (c.type_inv.ws k).fits) c.requires.0 c.if-not-on.false refl (ap (λ (v : ℕ). slot v 0 0) (word_at c.args.ws.now c.args.w))
 
 pub past-requires : goal.past-requires
 unfolding shape_form slot_told last_told before_told
-past-requires c = let h = number-most (small_of _ c.type_inv.source.given) (λ k. (c.shared_slice_known-1.given k).fits) c.requires.0 c.if-not-on.false refl (ap (λ (v : ℕ). slot v 0 0) (word_at c.args.ws.now c.args.w)) in let k = c.width_of.ensures.0 in omega (arith, h, k)
+past-requires c = let h = number-most (small_of _ c.type_inv.source) (λ k. (c.type_inv.ws k).fits) c.requires.0 c.if-not-on.false refl (ap (λ (v : ℕ). slot v 0 0) (word_at c.args.ws.now c.args.w)) in let k = c.width_of.ensures.0 in omega (arith, h, k)
 
 pub returns : goal.returns
 unfolding shape_form slot_told last_told before_told
-returns c = number_put (small_of _ c.type_inv.source.given) (λ k. (c.shared_slice_known-1.given k).fits) c.requires.0 c.if-not-on.false refl (ap (λ (v : ℕ). slot v 0 0) (word_at c.args.ws.now c.args.w)) refl refl c.store.ensures (c.past.ensures ∙ ap (λ (k : ℕ). stay k c.args.c) c.width_of.ensures.0)
+returns c = number_put (small_of _ c.type_inv.source) (λ k. (c.type_inv.ws k).fits) c.requires.0 c.if-not-on.false refl (ap (λ (v : ℕ). slot v 0 0) (word_at c.args.ws.now c.args.w)) refl refl c.store.ensures (c.past.ensures ∙ ap (λ (k : ℕ). stay k c.args.c) c.width_of.ensures.0)

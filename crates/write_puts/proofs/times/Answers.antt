@@ -12,20 +12,20 @@ use borrow.Author.Rules.{rules}
 use Rattle.write_puts.proofs.times.Goals as goal
 
 pub returns-then-not-on : goal.returns-then-not-on
-returns-then-not-on c = off (small_of _ c.type_inv.source.given) (λ k. (c.type_inv.ws.given k).fits) c.requires.0 c.if-not-on.true
+returns-then-not-on c = off (small_of _ c.type_inv.source) (λ k. (c.type_inv.ws k).fits) c.requires.0 c.if-not-on.true
 
 pub overflow_mul-many : goal.overflow_mul-many
 unfolding shape_form slot_told last_told before_told
-overflow_mul-many c = let h = bare-most (small_of _ c.type_inv.source.given) (λ k. (c.type_inv.ws.given k).fits) c.requires.0 c.if-not-on.false refl (ap (λ (v : ℕ). slot 0 v c.args.c.told) (word_at c.args.ws.now c.args.w)) in omega (arith, h)
+overflow_mul-many c = let h = bare-most (small_of _ c.type_inv.source) (λ k. (c.type_inv.ws k).fits) c.requires.0 c.if-not-on.false refl (ap (λ (v : ℕ). slot 0 v c.args.c.told) (word_at c.args.ws.now c.args.w)) in omega (arith, h)
 
 pub copy-requires : goal.copy-requires
 unfolding shape_form slot_told last_told before_told
-copy-requires c = list_inside (small_of _ c.type_inv.source.given) (λ k. (c.shared_slice_known-1.given k).fits) c.requires.0 c.if-not-on.false refl (ap (λ (v : ℕ). slot 0 v c.args.c.told) (word_at c.args.ws.now c.args.w))
+copy-requires c = list_inside (small_of _ c.type_inv.source) (λ k. (c.type_inv.ws k).fits) c.requires.0 c.if-not-on.false refl (ap (λ (v : ℕ). slot 0 v c.args.c.told) (word_at c.args.ws.now c.args.w))
 
 pub past-requires : goal.past-requires
 unfolding shape_form slot_told last_told before_told
-past-requires c = bare-most (small_of _ c.type_inv.source.given) (λ k. (c.shared_slice_known-1.given k).fits) c.requires.0 c.if-not-on.false refl (ap (λ (v : ℕ). slot 0 v c.args.c.told) (word_at c.args.ws.now c.args.w))
+past-requires c = bare-most (small_of _ c.type_inv.source) (λ k. (c.type_inv.ws k).fits) c.requires.0 c.if-not-on.false refl (ap (λ (v : ℕ). slot 0 v c.args.c.told) (word_at c.args.ws.now c.args.w))
 
 pub returns : goal.returns
 unfolding shape_form slot_told last_told before_told
-returns c = bare-put (small_of _ c.type_inv.source.given) (λ k. (c.shared_slice_known-1.given k).fits) c.requires.0 c.if-not-on.false refl (ap (λ (v : ℕ). slot 0 v c.args.c.told) (word_at c.args.ws.now c.args.w)) refl refl c.copy.ensures c.past.ensures
+returns c = bare-put (small_of _ c.type_inv.source) (λ k. (c.type_inv.ws k).fits) c.requires.0 c.if-not-on.false refl (ap (λ (v : ℕ). slot 0 v c.args.c.told) (word_at c.args.ws.now c.args.w)) refl refl c.copy.ensures c.past.ensures

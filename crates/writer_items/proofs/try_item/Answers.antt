@@ -27,9 +27,9 @@ fits-requires c =
 pub returns-then-not-fits : goal.returns-then-not-fits
 returns-then-not-fits c =
     let a = c.args in
-    c.unfit-then-not-fits.ensures ∙ try-misfit a.source.now a.i (slot_of a.s) a.c (small_of a.source.now c.type_inv.source.given) (omega (arith, c.well_formed))
+    c.unfit-then-not-fits.ensures ∙ try-misfit a.source.now a.i (slot_of a.s) a.c (small_of a.source.now c.type_inv.source) (omega (arith, c.well_formed))
     (beyond-by a.i a.c (slot_of a.s) a.source.now c.of_item-f.result c.of_item-f.ensures c.passes.result c.passes.ensures ∙ c.if-passes.false)
-    (ap (λ (f : Form). fits_form f a.source.now (slot_of a.s)) (sym c.of_item-f.ensures) ∙ sym c.fits2.ensures ∙ c.if-not-fits.true)
+    (ap (λ (f : Form). fits_form f a.source.now (slot_of a.s)) (sym c.of_item-f.ensures) ∙ sym c.fits.ensures ∙ c.if-not-fits.true)
 
 pub advance-requires : goal.advance-requires
 advance-requires c =
@@ -42,6 +42,6 @@ returns c =
     let a = c.args in
     let e = c.of_item-f.ensures in
     c.advance.ensures ∙ ap (λ (f : Form). cond (leb (form_next f (slot_of a.s) a.c).at most_bytes) (form_next f (slot_of a.s) a.c) unfit) e
-    ∙ try-fit a.source.now a.i (slot_of a.s) a.c (small_of a.source.now c.type_inv.source.given) (omega (arith, c.well_formed))
+    ∙ try-fit a.source.now a.i (slot_of a.s) a.c (small_of a.source.now c.type_inv.source) (omega (arith, c.well_formed))
     (beyond-by a.i a.c (slot_of a.s) a.source.now c.of_item-f.result e c.passes.result c.passes.ensures ∙ c.if-passes.false)
-    (ap (λ (f : Form). fits_form f a.source.now (slot_of a.s)) (sym e) ∙ sym c.fits2.ensures ∙ c.if-not-fits.false)
+    (ap (λ (f : Form). fits_form f a.source.now (slot_of a.s)) (sym e) ∙ sym c.fits.ensures ∙ c.if-not-fits.false)

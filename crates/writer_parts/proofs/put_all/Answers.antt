@@ -7,20 +7,7 @@ use Rattle.laws.specs.Numbers.{small_of}
 use Rattle.writer_items.specs.Fitting.{inside-source}
 use Rattle.writer_parts.proofs.Putting.{Putting, Ready, ready, put_on, put-end}
 use borrow.Author.Rules.{rules}
-use Rattle.writer_parts.proofs.put_all.Tie as tie
-use Rattle.writer_parts.proofs.put_all.Lts as lts
-use Rattle.writer_parts.proofs.put_all.Reads as reads
 use Rattle.writer_parts.proofs.put_all.Goals as goal
-
--- what is known of the item at hand
-ready-here : (c : lts.After-of_item tie.the-claims reads.Pre reads.Post tie.handed_clauses goal.the-invariant-loop-k goal.the-decreases-loop-k)
-    → Ready c.args.source.now c.args.ws.now c.args.p c.args.first c.args.start c.args.buffer.now c.loop-k.k c.loop-k.t c.loop-k.c c.loop-k.buffer c.loop-k.invariant
-    c.item_here-i.result (slot_of c.given_by-s.result) c.of_item-f.result c.item_here-i.ensures c.given_by-s.ensures c.of_item-f.ensures c.loop-k-test.true c.requires.1
-    (small_of c.args.source.now c.type_inv.source.given) (omega (arith, c.given_by-s.type-inv))
-ready-here c = let a = c.args in let l = c.loop-k in
-    ready a.source.now a.ws.now a.p a.first a.start a.buffer.now l.k l.t l.c l.buffer l.invariant
-    c.item_here-i.result (slot_of c.given_by-s.result) c.of_item-f.result c.item_here-i.ensures c.given_by-s.ensures c.of_item-f.ensures c.loop-k-test.true c.requires.1
-    (small_of a.source.now c.type_inv.source.given) (omega (arith, c.given_by-s.type-inv))
 
 pub loop-k-init : goal.loop-k-init
 loop-k-init c =
@@ -34,12 +21,23 @@ pub given_by-s-requires : goal.given_by-s-requires
 given_by-s-requires c = omega (arith, c.loop-k.invariant.within.words, c.loop-k-test.true, c.requires.1)
 
 pub put_item-requires : goal.put_item-requires
-put_item-requires c = let r = ready-here c.before.before in (r.width, r.inside, r.room)
+put_item-requires c =
+    let a = c.args in
+    let l = c.loop-k in
+    let r =
+    ready a.source.now a.ws.now a.p a.first a.start a.buffer.now l.k l.t l.c l.buffer l.invariant
+    c.item_here-i.result (slot_of c.given_by-s.result) c.of_item-f.result c.item_here-i.ensures c.given_by-s.ensures c.of_item-f.ensures c.loop-k-test.true c.requires.1
+    (small_of a.source.now c.type_inv.source) (omega (arith, c.given_by-s.type_inv)) in
+    (r.width, r.inside, r.room)
 
 pub advance-c-requires : goal.advance-c-requires
 advance-c-requires c =
-    let r = ready-here c.before.before.before.before.before in
     let a = c.args in
+    let l = c.loop-k in
+    let r =
+    ready a.source.now a.ws.now a.p a.first a.start a.buffer.now l.k l.t l.c l.buffer l.invariant
+    c.item_here-i.result (slot_of c.given_by-s.result) c.of_item-f.result c.item_here-i.ensures c.given_by-s.ensures c.of_item-f.ensures c.loop-k-test.true c.requires.1
+    (small_of a.source.now c.type_inv.source) (omega (arith, c.given_by-s.type_inv)) in
     (c.loop-k.invariant.place, r.width, λ l. let h = inside-source c.of_item-f.result a.source.now (slot_of c.given_by-s.result) r.inside l in omega (arith, h, c.well_formed))
 
 pub after-t-requires : goal.after-t-requires
@@ -57,7 +55,7 @@ loop-k-preserved c =
     let l = c.loop-k in
     put_on a.source.now a.ws.now a.p a.first a.start a.buffer.now l.k l.t l.c l.buffer l.invariant
     c.item_here-i.result (slot_of c.given_by-s.result) c.of_item-f.result c.item_here-i.ensures c.given_by-s.ensures c.of_item-f.ensures c.loop-k-test.true c.requires.1
-    (small_of a.source.now c.type_inv.source.given) (omega (arith, c.given_by-s.type-inv)) _ c.advance-c.result c.after-t.result
+    (small_of a.source.now c.type_inv.source) (omega (arith, c.given_by-s.type_inv)) _ c.advance-c.result c.after-t.result
     c.put_item.ensures c.advance-c.ensures c.after-t.ensures
 
 pub shape_of-buffer : goal.shape_of-buffer

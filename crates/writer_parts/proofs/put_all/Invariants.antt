@@ -6,7 +6,6 @@ use Rattle.laws.specs.Numbers.{small_of}
 use Rattle.writer_items.specs.Fitting.{inside-source}
 use Rattle.writer_parts.proofs.Putting.{Putting, Ready, ready, put_on, put-end}
 use borrow.Author.Rules.{rules}
-use Rattle.writer_parts.proofs.put_all.Tie as tie
 use Rattle.writer_parts.proofs.put_all.Given as goal
 
 abbrev pub invariant-loop-k : goal.invariant-loop-k

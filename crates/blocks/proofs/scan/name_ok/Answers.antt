@@ -7,6 +7,7 @@ use lib.ListN.{length}
 use Rattle.blocks.specs.ScanLaws.{Scanned, scan-on, scan-hit, scan-last, scan-short}
 use mathlib.Core.Logic.{⊎_elim}
 use Rattle.blocks.proofs.scan.name_ok.Goals as goal
+use Rattle.blocks.proofs.scan.name_ok.Goals.{then-i-last+else-zero8, else-i-last}
 
 pub returns-then-s-at-lt8 : goal.returns-then-s-at-lt8
 returns-then-s-at-lt8 c = let a = c.args in scan-short a.s.now a.at (omega arith) (omega arith) c.requires.at_value
@@ -29,12 +30,12 @@ returns c =
     let l = c.loop-i in
     let xs = a.s.now in
     let last : ℕ = length xs - 8 in
-    ⊎_elim
-    (λ w.
-    let e : l.i + 8 ≡ last = omega (arith, w.0.taken, c.loop-i-test.false, l.invariant.2) in
-    scan-last xs a.at last _ c.zero8-2.ensures (omega arith)
-    (subst (Scanned xs a.at) e (scan-on xs a.at 8 l.i _ w.1.ensures w.2.left (omega arith) l.invariant.3)))
-    (λ w.
-    let e : l.i ≡ last = omega (arith, w.left) in
-    scan-last xs a.at last _ c.zero8-2.ensures (omega arith) (subst (Scanned xs a.at) e l.invariant.3))
-    c.if-i-last.branch
+    elim c.if-i-last.branch [
+      then-i-last+else-zero8 w ↦
+        let e : l.i + 8 ≡ last = omega (arith, w.if-i-last.true, c.loop-i-test.false, l.invariant.2) in
+        scan-last xs a.at last _ c.zero8-2.ensures (omega arith)
+        (subst (Scanned xs a.at) e (scan-on xs a.at 8 l.i _ w.zero8.ensures w.if-zero8.false (omega arith) l.invariant.3))
+    | else-i-last w ↦
+        let e : l.i ≡ last = omega (arith, w.if-i-last.false) in
+        scan-last xs a.at last _ c.zero8-2.ensures (omega arith) (subst (Scanned xs a.at) e l.invariant.3)
+    ]

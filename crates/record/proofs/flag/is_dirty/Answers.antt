@@ -22,13 +22,11 @@ slice_bounds-stale_from-end c = sym (length-take-le _ _ (omega arith))
 
 pub overflow_sub-end-2 : goal.overflow_sub-end-2
 overflow_sub-end-2 c =
-    let s = c.before.before.before.before.before in
     let h = trailer-there c.args.a c.args.r.now c.args.kind c.requires _ c.trailer_room.ensures.0 in
     omega (arith, h)
 
 pub stale_from-requires : goal.stale_from-requires
 stale_from-requires c =
-    let s = c.before.before.before.before.before in
     let h = trailer-there c.args.a c.args.r.now c.args.kind c.requires _ c.trailer_room.ensures.0 in
     let n : ℕ = length c.args.r.now - c.trailer_room.result in
     let l = length-take-le n c.args.r.now (omega arith) in
@@ -36,5 +34,4 @@ stale_from-requires c =
 
 pub returns : goal.returns
 returns c =
-    let s = c.before.before.before.before.before.before in
     dirty-some c.args.a c.args.r.now c.args.kind c.requires (λ z. c.if-flag_at-eq0.false (c.flag_at.ensures ∙ z)) _ c.trailer_room.ensures.0 _ c.stale_from.ensures

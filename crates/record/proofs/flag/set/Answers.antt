@@ -5,17 +5,7 @@ use Prim.Native.Nat.{ℕ, ◌<◌}
 use lib.ListN.{set}
 use Rattle.record.specs.Flag.{word_none, word-there, word_some}
 use borrow.Author.Rules.{rules}
-use Rattle.record.proofs.flag.set.Tie as tie
-use Rattle.record.proofs.flag.set.Lts as lts
-use Rattle.record.proofs.flag.set.Reads as reads
 use Rattle.record.proofs.flag.set.Goals as goal
-
--- the word is there
-there : (c : lts.After-number tie.the-claims reads.Pre reads.Post tie.handed_clauses) → c.flag_at-at.result < 56
-there c =
-    let e = c.flag_at-at.ensures in
-    let h = word-there c.args.a c.args.r.now c.args.kind c.requires.0 c.args.misc (λ z. c.if-at-eq0.false (e ∙ z)) in
-    omega (arith, h, e)
 
 pub returns-then-at-eq0 : goal.returns-then-at-eq0
 returns-then-at-eq0 c =
@@ -23,15 +13,17 @@ returns-then-at-eq0 c =
 
 pub offset_bounds-out-at : goal.offset_bounds-out-at
 offset_bounds-out-at c =
-    let h = there c in
+    let e = c.flag_at-at.ensures in
+    let h = word-there c.args.a c.args.r.now c.args.kind c.requires.0 c.args.misc (λ z. c.if-at-eq0.false (e ∙ z)) in
     let l = c.requires.1 in
-    omega (arith, h, l)
+    omega (arith, e, h, l)
 
 pub bounds-out-at : goal.bounds-out-at
 bounds-out-at c =
     let l = c.requires.1 in
-    let h = there c in
-    omega (arith, h, l)
+    let e = c.flag_at-at.ensures in
+    let h = word-there c.args.a c.args.r.now c.args.kind c.requires.0 c.args.misc (λ z. c.if-at-eq0.false (e ∙ z)) in
+    omega (arith, e, h, l)
 
 pub returns : goal.returns
 returns c =

@@ -1,9 +1,0 @@
--- `reader::earlier` meets its contract: by the first refusal. Assumes nothing.
-use borrow.Author.Tests.{eq-eqb, ne_eqb}
-use Rattle.reader.proofs.earlier.Goals as goal
-
-pub returns-then-a-eq0 : goal.returns-then-a-eq0
-returns-then-a-eq0 c = simp (eq-eqb _ _ c.if-a-eq0.true)
-
-pub returns-else-a-eq0 : goal.returns-else-a-eq0
-returns-else-a-eq0 c = simp (ne_eqb _ _ c.if-a-eq0.false)

@@ -1,7 +1,0 @@
--- The count wraps as the definition's does; the other reader's is handed on.
-use Rattle.std.proofs.Common.{ℕ, ap, rules}
-use Rattle.readers.specs.declared.Readers.{Readers}
-use Rattle.readers.proofs.Readers.advance_second.Goals as goal
-
-pub returns : goal.returns
-returns c = ap {B = Readers} (λ (x : ℕ). record { second = x; first = c.args.self.first }) c.wrapping_add_u64.ensures

@@ -1,0 +1,6 @@
+pub mod Goings
+pub mod Stops
+pub mod Chains
+pub mod Steps
+pub mod Anywhere
+pub mod Examples
