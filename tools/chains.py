@@ -29,7 +29,7 @@ for line in body.splitlines():
     if m:
         names[int(m.group(1))] = m.group(2)
 part = src[src.index('pub const STARTS'):]
-starts = [int(x) for x in re.findall(r'^\s+(\d+),$', part[:part.index('];')], re.M)]
+starts = [int(x) for x in re.findall(r'\d+', part[part.index('= ['):part.index('];')])]
 names.setdefault(14, 'SWITCH')  # the one type without a field
 TYPES, FIELD_ROWS = consts['TYPES'], consts['FIELD_ROWS']
 assert len(rows) == consts['ALL_ROWS'] and len(starts) == TYPES + 1 and starts[-1] == FIELD_ROWS
@@ -97,29 +97,18 @@ class Row:
         self.params = [p for p in PARAMS if p in used]
 
 
-def back(n):
-    return 'c' + ' .before' * n
-
-
 class Events:
-    """what the proof knows at a place: one entry for each thing that happened, in the tie's names"""
+    """what the proof knows at a place: one entry for each call before it, by its step's name"""
     def __init__(self):
-        self.all, self.seen, self.needs = [], {}, {}
+        self.all, self.seen = [], {}
 
     def add(self, name):
         self.seen[name] = self.seen.get(name, 0) + 1
-        self.all.append(name + (str(self.seen[name]) if self.seen[name] > 1 else ''))
+        self.all.append(name + (f'-{self.seen[name]}' if self.seen[name] > 1 else ''))
         return len(self.all) - 1
 
-    def need(self, name):
-        self.needs[name] = self.needs.get(name, 0) + 1
-        return name + (f'-{self.needs[name]}' if self.needs[name] > 1 else '')
-
     def at(self, i):
-        return f'{back(len(self.all) - 1 - i)} .{self.all[i]}'
-
-    def start(self):
-        return back(len(self.all))
+        return f'c.{self.all[i]}'
 
 
 def proof_of(g, places, ev):
@@ -127,11 +116,11 @@ def proof_of(g, places, ev):
     if g == 'true':
         return 'refl'
     if g[0] == 'bit':
-        return f'({ev.at(places.pop(0))} .ensures)'
+        return f'{ev.at(places.pop(0))}.ensures'
     if g[0] == 'not':
         return f'(ap not {proof_of(g[1], places, ev)})'
     p = proof_of(g[1], places, ev)
-    return f'(ap₂ {"_&&_" if g[0] == "and" else "_||_"} {p} {proof_of(g[2], places, ev)})'
+    return f'(ap₂ {"◌&&◌" if g[0] == "and" else "◌||◌"} {p} {proof_of(g[2], places, ev)})'
 
 
 MADE = '-- Written by tools/chains.py from the rows of crate table'
@@ -150,7 +139,7 @@ def crate_of(fn):
 
 def word(at):
     """the number of a word as a contract spells it"""
-    return {BODY: 'bodyWords', TRAIL: 'trailWords'}.get(at, str(at))
+    return {BODY: 'body_words', TRAIL: 'trail_words'}.get(at, str(at))
 
 
 def kind(t):
@@ -163,7 +152,7 @@ def uses(imports, text):
     words = set(re.split(r'[\s(){},]+', text))
 
     def has(name):
-        return name in words or name.strip('_') in words
+        return name in words or name.strip('◌') in words
     out = []
     for line in imports:
         m = re.match(r'((?:ghost )?use \S+)\.\{(.*)\}(;?)$', line)
@@ -179,26 +168,25 @@ def args(ps):
     return ''.join(f', {p}' for p in ps)
 
 
-IMPORTS = ['use mathlib.Core.Path.{refl, ap, ap₂}', 'use mathlib.Core.Bool.{not, _&&_, _||_}', 'use mathlib.Core.List.{_++_}',
-           'use Rattle·meaning.specs.Values.{tell, width}', 'use Rattle·layouts.specs.Lists as lists',
-           'use Rattle·fills.specs.Chains.{start, done, last, long, head, next, head₁, next₁}', 'use borrow.Author.Needs.{needs}']
+IMPORTS = ['use mathlib.Core.Path.{refl, ap, ap₂}', 'use mathlib.Core.Bool.{not, ◌&&◌, ◌||◌}', 'use mathlib.Core.List.{◌++◌}',
+           'use Rattle.meaning.specs.Values.{tell, width}', 'use Rattle.layouts.specs.Lists as lists',
+           'use Rattle.fills.specs.Chains.{start, done, last, long, head, next, head₁, next₁}']
 
 
 def guarded(rs):
     return ', its guard found bit by bit,' if any(bits(r.on) for r in rs) else ''
 
 
-def proof_file(fn, why, text, spec_args):
-    name, crate = fn.replace('_', '-'), crate_of(fn)
-    text += f'''
-pub {name}-spec : {{M : Type 1}} → statement M
-{name}-spec = tie.close (tie.spec {" ".join(spec_args)})
-'''
-    files[f'{crate}/proofs/{fn}/Proof.antt'] = f'''-- `{crate}::{fn}` meets its contract: {why}. Assumes nothing.
+def proof_file(fn, why, text):
+    crate = crate_of(fn)
+    files[f'{crate}/proofs/{fn}/Answers.antt'] = f'''-- `{crate}::{fn}` meets its contract: {why}. Assumes nothing.
 {MADE}.
-{uses(IMPORTS, text)}use Rattle·{crate}·proofs.proofs.{fn}.Statement.{{statement}}
-use Rattle·{crate}·proofs.proofs.{fn}.Tie as tie
+{uses(IMPORTS, text)}use Rattle.{crate}.proofs.{fn}.Goals as goal
 {text}'''
+
+
+def answer(goal, unfolded, term):
+    return f'\npub {goal} : goal.{goal}\n{unfolded}{goal} c = {term}\n'
 
 
 def listed(name, ps):
@@ -212,18 +200,18 @@ def signature(fn, title, ps, at, list_text):
     if len(head) > 100:  # as `rt fmt` breaks it
         head = f'{public}fn {fn}(\n    s: &[u8],\n' + ''.join(f'    {p}: u64,\n' for p in ps) + '    c: Cursor,\n    out: &mut [u64],\n) -> Cursor'
     return [f'// {title}', head,
-            f'    requires {{ ⌜ Ready {list_text} (now s) c (now out) {word(at)} ⌝ }}',
-            f'    ensures {{ λ r. ⌜ Filling {list_text} (now (s .entry)) c (now (out .entry)) {word(at)} (now (out .exit)) r ⌝ }}', '{']
+            f'    requires {{ Ready {list_text} s.now c out.old {word(at)} }}',
+            f'    ensures {{ Filling {list_text} s.now c out.old {word(at)} out.new result }}', '{']
 
 
 def ended(unfolded, term):
-    return f'\nsame-length : tie.Need-same-length\n{unfolded}\nsame-length c = long ({term})\n\nreturns : tie.Need-returns\n{unfolded}\nreturns c = {term}\n'
+    return answer('shape_of-out', unfolded, f'long ({term})') + answer('returns', unfolded, term)
 
 
-def going(steps, ev, pre):
-    t = f'(start ({pre} .pre))'
+def going(steps, ev):
+    t = '(start c.requires)'
     for law, eq, where in steps:
-        t = f'({" ".join([law] + [w for w in (eq(ev),) if w])} {t} ({ev.at(where)} .ensures))'
+        t = f'({" ".join([law] + [w for w in (eq(ev),) if w])} {t} {ev.at(where)}.ensures)'
     return t
 
 
@@ -236,14 +224,11 @@ def chain(fn, title, rs):
     at = rs[0].word
     out = signature(fn, title, ps, at, listed(lname, ps))
     ev = Events()
-    ev.add('shared-slice-known'), ev.add('slice-known')
-    text, spec_args, steps, last = '', [], [], 'c'
+    text, steps, last = '', [], 'c'
     for n, r in enumerate(rs):
         places, on = [], code(r.on)
         for b in bits(r.on):
-            ev.need('has-bit-requires')
-            spec_args.append('(λ c κs. search needs)')
-            places.append(ev.add('has-bit'))
+            places.append(ev.add('has_bit'))
         if len(bits(r.on)) > 1:
             out.append(f'    let on{n} = {on};')
             on = f'on{n}'
@@ -251,17 +236,13 @@ def chain(fn, title, rs):
         call = f'fills::{r.fn}(s, {last}, {on}, out, {r.word}{", " + r.more if r.more else ""})'
         out.append(f'    {call} // {r.comment}' if tail else f'    let c{n} = {call}; // {r.comment}')
         last = f'c{n}'
-        ev.add(f'{r.fn}-arg')
-        need = ev.need(f'{r.fn}-requires')
+        step = r.fn if tail else f'{r.fn}-c{n}'
         equation = (lambda r, places: lambda e: proof_of(r.on, list(places), e))(r, places)
-        text += f'\n{need} : tie.Need-{need}\nunfolding tell\n{need} c κs = head₁ {equation(ev)} {going(steps, ev, ev.start())}\n'
-        spec_args.append(need)
-        where = ev.add(r.fn)
-        steps.append(('next₁', equation, where))
-        ev.add('out'), ev.add('slice-known')
-    text += ended('unfolding tell', f'done {going(steps, ev, ev.start())}')
+        text += answer(f'{step}-requires', 'unfolding tell\n', f'head₁ {equation(ev)} {going(steps, ev)}')
+        steps.append(('next₁', equation, ev.add(step)))
+    text += ended('unfolding tell\n', f'done {going(steps, ev)}')
     why = f'each call fills the words of the next item of the list{guarded(rs)} and leaves what the item after it asks'
-    proof_file(fn, why, text, spec_args + ['same-length', 'returns'])
+    proof_file(fn, why, text)
     code_out[crate_of(fn)] += out + ['}', '']
     return ps
 
@@ -275,33 +256,25 @@ def joined(fn, title, pieces):
                      + ' ++ ('.join(texts) + ')' * (len(texts) - 1) + '\n')
     out = signature(fn, title, params, pieces[0][2], listed(lname, params))
     ev = Events()
-    ev.add('shared-slice-known'), ev.add('slice-known')
-    text, spec_args, steps, last = '', [], [], 'c'
+    text, steps, last = '', [], 'c'
     for n, (piece, ps, at) in enumerate(pieces):
-        call = f'{piece}(s{args(ps)}, {last}, out)'
-        out.append(f'    {call}' if n == len(pieces) - 1 else f'    let c{n} = {call};')
-        last = f'c{n}'
-        dashed = piece.replace('_', '-')
-        ev.add(f'{dashed}-arg')
-        need = ev.need(f'{dashed}-requires')
         rest = pieces[n + 1:]
+        call = f'{piece}(s{args(ps)}, {last}, out)'
+        out.append(f'    let c{n} = {call};' if rest else f'    {call}')
+        last = f'c{n}'
+        step = f'{piece}-c{n}' if rest else piece
 
-        def lists(e, dashed=dashed, ps=ps, rest=rest):
+        def lists(e, piece=piece, ps=ps, rest=rest):
             def one(d, qs):
-                return listed('lists.' + d.replace('_', '-'), [f'({e.start()} .args .{q})' for q in qs])
+                return listed('lists.' + d.replace('_', '-'), [f'c.args.{q}' for q in qs])
             after = ' ++ ('.join(one(d, qs) for d, qs, _ in rest) + ')' * (len(rest) - 1)
-            return f'{one(dashed, ps)} ' + (f'({after})' if len(rest) > 1 else after)
-        if rest:
-            text += f'\n{need} : tie.Need-{need}\nunfolding tell width\n{need} c κs = head {lists(ev)} {going(steps, ev, ev.start())}\n'
-        else:
-            text += f'\n{need} : tie.Need-{need}\nunfolding tell width\n{need} c κs = {going(steps, ev, ev.start())} .ready\n'
-        spec_args.append(need)
-        where = ev.add(dashed)
-        steps.append(('next' if rest else 'last', lists if rest else (lambda e: ''), where))
-        ev.add('out'), ev.add('slice-known')
-    text += ended('unfolding tell width', going(steps, ev, ev.start()))
+            return f'{one(piece, ps)} ' + (f'({after})' if len(rest) > 1 else after)
+        term = f'head {lists(ev)} {going(steps, ev)}' if rest else f'{going(steps, ev)}.ready'
+        text += answer(f'{step}-requires', 'unfolding tell width\n', term)
+        steps.append(('next' if rest else 'last', lists if rest else (lambda e: ''), ev.add(step)))
+    text += ended('unfolding tell width\n', going(steps, ev)[1:-1])
     why = 'the list is its parts one after the other, and each call fills the words of the next part and leaves what the part after it asks'
-    proof_file(fn, why, text, spec_args + ['same-length', 'returns'])
+    proof_file(fn, why, text)
     code_out[crate_of(fn)] += out + ['}', '']
     return params
 
@@ -354,84 +327,64 @@ def flag_word(t):
 used = [p for p in PARAMS if p in FIELD and any(p in ps for _, ps in kinds.values())]
 code_out['chains'] += ['// The fields of a type; a type that has none, or that the table does not have, changes nothing.',
              'pub fn fields(s: &[u8], kind: u64, misc: u64, a: Attributes, c: Cursor, out: &mut [u64]) -> Cursor',
-             f'    requires {{ ⌜ Ready (schema kind misc a) (now s) c (now out) {word(BODY)} ⌝ }}',
-             f'    ensures {{ λ r. ⌜ Filling (schema kind misc a) (now (s .entry)) c (now (out .entry)) {word(BODY)} (now (out .exit)) r ⌝ }}', '{']
+             f'    requires {{ Ready (schema kind misc a) s.now c out.old {word(BODY)} }}',
+             f'    ensures {{ Filling (schema kind misc a) s.now c out.old {word(BODY)} out.new result }}', '{']
 code_out['chains'] += [f'    let {p} = a.{FIELD[p]};' for p in used] + ['    match kind {'] + [f'        {kind(t)} => {arm(t)},' for t in range(TYPES)] + ['        _ => c,', '    }', '}', '']
-calls, needs, returns, text = {}, [], [], ''
-for t in range(TYPES + 1):
-    n = f'-{t + 1}' if t else ''
-    keys = f".match .keys{t + 1}"
-    if t in kinds:
-        fn = kinds[t][0].replace('_', '-')
-        calls[fn] = calls.get(fn, 0) + 1
-        k = calls[fn]
-        need = f'{fn}-requires' + (f'-{k}' if k > 1 else '')
-        by = f'(ap (λ (k : ℕ). schema k ({back(4)} .args .misc) ({back(4)} .args .a)) ({back(1)} {keys}))'
-        text += f'\n{need} : tie.Need-{need}\n{need} c κs = ready-as {by} ({back(4)} .pre)\n'
-        by = f'(ap (λ (k : ℕ). schema k ({back(7)} .args .misc) ({back(7)} .args .a)) (sym ({back(4)} {keys})))'
-        text += f'\nreturns{n} : tie.Need-returns{n}\nreturns{n} c = filling-as {by} ({back(2)} .{fn}{k if k > 1 else ""} .ensures)\n'
-        needs.append(need)
-        returns += ['(λ c. search needs)', f'returns{n}']
-    elif t < TYPES:
-        by = f'(ap (λ (k : ℕ). schema k ({back(3)} .args .misc) ({back(3)} .args .a)) (c {keys}))'
-        text += f'\nreturns{n} : tie.Need-returns{n}\nreturns{n} c = nothing {by} ({back(3)} .pre)\n'
-        returns.append(f'returns{n}')
-    else:
-        text += f'\nreturns{n} : tie.Need-returns{n}\nreturns{n} c = nothing (no-type ({back(3)} .args .misc) ({back(3)} .args .a) ({back(3)} .args .kind) (c .match .rest)) ({back(3)} .pre)\n'
-        returns.append(f'returns{n}')
-files['chains/proofs/fields/Proof.antt'] = f'''-- `chains::fields` meets its contract: by the arms of the `match`, each the layout of its type. Assumes nothing.
-{MADE}.
-use mathlib.Core.Path.{{sym, ap}}
-use Prim.Native.Nat.{{ℕ}}
-use Rattle·meaning.specs.Schema.{{schema}}
-use Rattle·fills.specs.Chains.{{ready-as, filling-as}}
-use Rattle·layouts.specs.Types.{{no-type}}
-use Rattle·chains·proofs.proofs.Nothing.{{nothing}}
-use borrow.Author.Needs.{{needs}}
-use Rattle·chains·proofs.proofs.fields.Statement.{{statement}}
-use Rattle·chains·proofs.proofs.fields.Tie as tie
-{text}
-pub fields-spec : {{M : Type 1}} → statement M
-fields-spec = tie.close (tie.spec {" ".join(needs + returns)})
-'''
-code_out['chains'] += ["// The word of the flag, of a type that has a name: the next after the words of its fields (M-107). 0 of the other types.",
-             'pub fn flag_at(kind: u64) -> usize', '    ensures { λ r. ⌜ r ≡ flag_at kind ⌝ }', '{', '    match kind {']
-code_out['chains'] += [f'        {kind(t)} => {flag_word(t)},' for t in range(TYPES)] + ['        _ => 0,', '    }', '}', '']
-text = ''
+SAME = '(λ (k : ℕ). schema k c.args.misc c.args.a)'
+seen, asked, left = set(), '', ''
 for t in range(TYPES):
-    n = f'-{t + 1}' if t else ''
-    text += f'\nreturns{n} : tie.Need-returns{n}\nreturns{n} c = ap flag_at (sym (c .match .keys{t + 1}))\n'
-text += f'\nreturns-{TYPES + 1} : tie.Need-returns-{TYPES + 1}\nreturns-{TYPES + 1} c = sym (List·get_or-eq-default flags 0 (above {TYPES} ({back(1)} .args .kind) (c .match .rest)))\n'
-files['chains/proofs/flag_at/Proof.antt'] = f'''-- `chains::flag_at` meets its contract: by the arms of the `match`, each the row of its type. Assumes nothing.
+    if t in kinds:
+        fn = kinds[t][0]
+        arm_of = f'-in-{t}' if fn in seen else ''
+        seen.add(fn)
+        asked += answer(f'{fn}-requires{arm_of}', '', f'ready-as (ap {SAME} c.in-{t}.is) c.requires')
+        left += answer(f'returns-in-{t}', '', f'filling-as (ap {SAME} (sym c.in-{t}.is)) c.{fn}{arm_of}.ensures')
+    else:
+        left += answer(f'returns-in-{t}', '', f'nothing (ap {SAME} c.in-{t}.is) c.requires')
+PAST = f'let h : {TYPES} ≤ c.args.kind = omega arith in '  # in the last arm: every type has an arm before it
+left += answer('returns-in_default', '', f'{PAST}nothing (get_or-eq_default (schemas c.args.misc c.args.a) [] h) c.requires')
+files['chains/proofs/fields/Answers.antt'] = f'''-- `chains::fields` meets its contract: by the arms of the `match`, each the layout of its type. Assumes nothing.
 {MADE}.
 use mathlib.Core.Path.{{sym, ap}}
-use lib.ListN.{{List·get_or-eq-default}}
-use Rattle·table.specs.Flags.{{flags, flag_at}}
-use Rattle·layouts.specs.Types.{{above}}
-use Rattle·chains·proofs.proofs.flag_at.Statement.{{statement}}
-use Rattle·chains·proofs.proofs.flag_at.Tie as tie
-{text}
-pub flag-at-spec : {{M : Type 1}} → statement M
-flag-at-spec = tie.close (tie.spec {" ".join("returns" + (f"-{t + 1}" if t else "") for t in range(TYPES + 1))})
-'''
+use mathlib.Core.List.{{[]}}
+use lib.ListN.{{get_or-eq_default}}
+use native.Mathlib.Omega.{{arith}}
+use Prim.Native.Nat.{{ℕ, ◌≤◌}}
+use Rattle.meaning.specs.Schema.{{schema, schemas}}
+use Rattle.fills.specs.Chains.{{ready-as, filling-as}}
+use Rattle.chains.proofs.Nothing.{{nothing}}
+use Rattle.chains.proofs.fields.Goals as goal
+{asked}{left}'''
+code_out['chains'] += ["// The word of the flag, of a type that has a name: the next after the words of its fields (M-107). 0 of the other types.",
+             'pub fn flag_at(kind: u64) -> usize', '    ensures { result ≡ flag_at kind }', '{', '    match kind {']
+code_out['chains'] += [f'        {kind(t)} => {flag_word(t)},' for t in range(TYPES)] + ['        _ => 0,', '    }', '}', '']
+text = ''.join(answer(f'returns-in-{t}', '', f'ap flag_at (sym c.in-{t}.is)') for t in range(TYPES))
+text += answer('returns-in_default', '', f'{PAST}sym (get_or-eq_default flags 0 h)')
+files['chains/proofs/flag_at/Answers.antt'] = f'''-- `chains::flag_at` meets its contract: by the arms of the `match`, each the row of its type. Assumes nothing.
+{MADE}.
+use mathlib.Core.Path.{{sym, ap}}
+use Prim.Native.Nat.{{◌≤◌}}
+use lib.ListN.{{get_or-eq_default}}
+use Rattle.table.specs.Flags.{{flags, flag_at}}
+use native.Mathlib.Omega.{{arith}}
+use Rattle.chains.proofs.flag_at.Goals as goal
+{text}'''
 code_out['chains'] += ['// The trailer of a record of this type, the cursor at its start.',
                        'pub fn trail(s: &[u8], kind: u64, a: Attributes, c: Cursor, out: &mut [u64]) -> Cursor',
-                       f'    requires {{ ⌜ Ready (trailer_of kind a) (now s) c (now out) {word(TRAIL)} ⌝ }}',
-                       f'    ensures {{ λ r. ⌜ Filling (trailer_of kind a) (now (s .entry)) c (now (out .entry)) {word(TRAIL)} (now (out .exit)) r ⌝ }}', '{',
+                       f'    requires {{ Ready (trailer_of kind a) s.now c out.old {word(TRAIL)} }}',
+                       f'    ensures {{ Filling (trailer_of kind a) s.now c out.old {word(TRAIL)} out.new result }}', '{',
                        '    trailer(s, layouts::trailer_bits(kind, a), c, out)', '}']
 
 shapes = ['Number', 'Ignored', 'Count', 'Size', 'Times', 'Earlier', 'Registers', 'Filled', 'Abi', 'Limit', 'Listed', 'Bytes', 'Pad', 'Name']
 lists_text = "\n".join(lists_out)
 files['layouts/specs/Lists.antt'] = f'''-- The items of each type's fields, and of the trailer, in pieces of a few; what is equal for two types stands once. Assumes nothing: these are definitions.
 {MADE}; that they are the layouts is found by computation where they are used.
-use mathlib.Core.Bool.{{true, not, _&&_, _||_}}
-use mathlib.Core.List.{{List, [], _∷_, _++_}}
-use Prim.Native.Nat.{{ℕ}}
-use Rattle·meaning.specs.declared.Item.{{Item}}
-use Rattle·meaning.specs.declared.Shape.the-variants.{{{", ".join(shapes)}}}
-use Rattle·meaning.specs.declared.Width.the-variants.{{W2, W4, W8}}
-use Rattle·meaning.specs.Bytes.{{bit}}
-use Rattle·meaning.specs.Schema.{{item, group_bytes}}
+use Rattle.std.specs.Prelude.{{true, not, ◌&&◌, ◌||◌, List, [], ◌∷◌, ◌++◌, ℕ}}
+use Rattle.meaning.specs.declared.Item.{{Item}}
+use Rattle.meaning.specs.declared.Shape.TheVariants.{{{", ".join(shapes)}}}
+use Rattle.meaning.specs.declared.Width.TheVariants.{{W2, W4, W8}}
+use Rattle.meaning.specs.Bytes.{{bit}}
+use Rattle.meaning.specs.Schema.{{item, group_bytes}}
 
 {lists_text}'''
 all_lists = re.findall(r'abbrev pub (\S+) :', lists_text)
@@ -447,23 +400,28 @@ files['layouts/src/types.rt'] = '''// The types of records by name, for the arms
 ''' + '\n'.join(f'pub const {names[t]}: u64 = {t};\n' for t in range(1, TYPES))
 files['sample_fills/src/lib.rt'] = f'''// The words of SAMPLE's fields: a call for each item, in the order of the schema.
 // Written by tools/chains.py from the rows of crate table.
-ghost use Rattle·meaning.specs.Values.{{body_words}};
-ghost use Rattle·layouts.specs.Lists.{{{lists_of("sample_fills")}}};
-ghost use Rattle·fills.specs.Chains.{{Ready, Filling}};
+#![tactic(auto)]
+
+ghost use Rattle.meaning.specs.Values.{{body_words}};
+ghost use Rattle.layouts.specs.Lists.{{{lists_of("sample_fills")}}};
+ghost use Rattle.fills.specs.Chains.{{Ready, Filling}};
+
 use meaning::Cursor;
 
 ''' + '\n'.join(code_out['sample_fills'])
 files['chains/src/lib.rt'] = f'''// The words of each type's fields and of the trailer: a call for each item, in the order of the schema.
 // Written by tools/chains.py from the rows of crate table.
-ghost use mathlib.Core.Path.{{_≡_}};
-ghost use Rattle·meaning.specs.Schema.{{schema, trailer as trailer_of}};
-ghost use Rattle·meaning.specs.Values.{{body_words, trail_words}};
-ghost use Rattle·layouts.specs.Lists.{{{lists_of("chains")}}};
-ghost use Rattle·table.specs.Flags.{{flag_at}};
-ghost use Rattle·fills.specs.Chains.{{Ready, Filling}};
+#![tactic(auto)]
+
+ghost use Rattle.std.specs.Prelude.{{◌≡◌}};
+ghost use Rattle.meaning.specs.Schema.{{schema, trailer as trailer_of}};
+ghost use Rattle.meaning.specs.Values.{{body_words, trail_words}};
+ghost use Rattle.layouts.specs.Lists.{{{lists_of("chains")}}};
+ghost use Rattle.table.specs.Flags.{{flag_at}};
+ghost use Rattle.fills.specs.Chains.{{Ready, Filling}};
+
 use layouts::types;
-use meaning::Attributes;
-use meaning::Cursor;
+use meaning::{{Attributes, Cursor}};
 
 ''' + '\n'.join(code_out['chains']) + '\n'
 

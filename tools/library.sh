@@ -5,28 +5,33 @@
 #   tools/library.sh                  proves the crates that have exports and puts all of them in one archive for x86-64,
 #                                     target/staticlib/libollskuvan.a; keeps their modules in target/modules. On another machine than x86-64 its
 #                                     own library is made too, as with its TARGET
+#   tools/library.sh ringdump         proves the program ringdump: target/bin/ringdump, and its object and module beside the library's
 #   tools/library.sh TARGET..         target/boards/TARGET: libollskuvan.a, libollskuvan_words.a, the programs ollskuvan and ringdump; nothing is
 #                                     proved where the modules are there. `all` stands for every target
 #   tools/library.sh targets          prints the targets, a line each
 #   tools/library.sh packages TARGET..  prints what Debian's apt-get has to install for them
 #   tools/library.sh fresh            status 0: the modules are those of the sources as they are
 #
-# `rt staticlib` takes the exports of the named crate alone and compiles them as a whole: ollskuvan_find_event stands in event_list, where its
-# proof by hand is, the loops with one attribute set in ollskuvan_loop and those with a table of events in ollskuvan_table, where the exact judge
-# has one caller and is compiled into the loop; the others by topic in ollskuvan_events, ollskuvan_store, ollskuvan_saved and ollskuvan.
+# What C calls is a static library, which no other crate can stand on: for each library that has such functions there is a crate with `_c` at its end,
+# whose exports call them. Each is compiled as a whole: ollskuvan_find_event stands in event_list, the loops with one attribute set in ollskuvan_loop
+# and those with a table of events in ollskuvan_table, where the exact judge has one caller and is compiled into the loop; the others by topic in
+# ollskuvan_events, ollskuvan_store, ollskuvan_saved and ollskuvan.
+#
+# The crates below are proved first, unless all of them stand as `rt` or, in a fresh tree, `rt ci` left them (tools/compile.py). What is compiled here
+# runs on every x86-64, where `rt lib` and `rt run` take a later one.
 #
 # MODULES names another folder of modules. UNALIGNED=1 for riscv64: loads of several bytes at any address, which the plain processor does not promise (docs/BOARDS.md).
 set -eu
 cd "$(dirname "$0")/.."
-exports='event_list ollskuvan_loop ollskuvan_table ollskuvan_events ollskuvan_store ollskuvan_saved ollskuvan'
+exports='event_list_c ollskuvan_loop_c ollskuvan_table_c ollskuvan_events_c ollskuvan_store_c ollskuvan_saved_c ollskuvan_c'
 targets=tools/boards/targets.txt
 modules=${MODULES:-target/modules}
 archives=target/staticlib
 
 die() { echo "library: $*" >&2; exit 1; }
 work=
-# a folder to work in; rt runs a proved program as nobody, who must reach the toolchain that is made there
-begin() { work=$(mktemp -d) && mkdir "$work/modules" "$work/objects" "$work/made" && chmod 755 "$work"; }
+# a folder to work in
+begin() { work=$(mktemp -d) && mkdir "$work/modules" "$work/objects" "$work/made"; }
 clean() { [ -z "$work" ] || rm -rf "$work"; work=; }
 trap clean EXIT
 
@@ -54,92 +59,100 @@ needed_tools() { # TARGET: those that are missing, with the line that installs t
 
 command -v rt >/dev/null || die "rt is missing: put the Rattle toolchain's rt on the PATH"
 kit=$(dirname "$(dirname "$(readlink -f "$(command -v rt)")")")
-own=$kit/on/$(uname -m)
-clang=$own/toolchain/bin/clang
+clang=$kit/toolchain/bin/clang
 
 # The toolchain with a compiler in between that keeps the module which it is given.
-keeping_kit() {
-  local keeping=$work/kit there=$work/kit/on/$(uname -m) part
-  mkdir -p "$there/toolchain/bin"
-  for part in "$kit"/*; do [ "$part" = "$kit/on" ] || ln -s "$part" "$keeping/"; done
-  for part in "$own"/*; do [ "$part" = "$own/toolchain" ] || ln -s "$part" "$there/"; done
-  for part in "$own/toolchain"/*; do [ "$part" = "$own/toolchain/bin" ] || ln -s "$(readlink -f "$part")" "$there/toolchain/"; done
-  for part in "$own/toolchain/bin"/*; do [ "$part" = "$clang" ] || ln -s "$part" "$there/toolchain/bin/"; done
-  cat >"$there/toolchain/bin/clang" <<KEEPS
+keeping_toolchain() {
+  local part
+  mkdir -p "$work/toolchain/bin"
+  for part in "$kit/toolchain"/*; do [ "$part" = "$kit/toolchain/bin" ] || ln -s "$part" "$work/toolchain/"; done
+  for part in "$kit/toolchain/bin"/*; do [ "$part" = "$clang" ] || ln -s "$part" "$work/toolchain/bin/"; done
+  cat >"$work/toolchain/bin/clang" <<KEEPS
 #!/bin/sh
 for word in "\$@"; do case "\$word" in *.bc) cp "\$word" "$work/module.bc" ;; esac; done
 exec "$clang" "\$@"
 KEEPS
-  chmod +x "$there/toolchain/bin/clang"
+  chmod +x "$work/toolchain/bin/clang"
 }
 
 # ---- the proved archive, and the modules
 
-# What the modules are made of: the toolchain, and every file of the crates that they reach.
-sources_sum() {
+# What the modules of some crates are made of: the toolchain, and every file of the crates that they reach.
+sources_sum() { # CRATE..
   local reached
-  reached=$(awk -v wanted="$exports ringdump" '{ sub(/#.*/, "") } /:/ { i = index($0, ":"); on[substr($0, 1, i - 1)] = substr($0, i + 1) }
+  reached=$(awk -v wanted="$*" '{ sub(/#.*/, "") } /:/ { i = index($0, ":"); split($0, name, /[ :]/); on[name[1]] = substr($0, i + 1) }
     function visit(crate,    a, n, k) { if (crate in seen || !(crate in on)) return; seen[crate]; print crate; n = split(on[crate], a, " "); for (k = 1; k <= n; k++) visit(a[k]) }
     END { n = split(wanted, a, " "); for (k = 1; k <= n; k++) visit(a[k]) }' crates.txt | sort)
   {
     cat "$kit/KIT-ID" crates.txt
-    for crate in $reached; do find "crates/$crate" -name must-fail -prune -o -type f -print; done | LC_ALL=C sort | xargs sha256sum
+    for crate in $reached; do find "crates/$crate" \( -name must-fail -o -name out \) -prune -o -type f -print; done | LC_ALL=C sort | xargs sha256sum
   } | sha256sum | cut -d' ' -f1
 }
-is_fresh() { [ -f "$modules/sum" ] && [ "$(cat "$modules/sum")" = "$(sources_sum)" ]; }
+# shellcheck disable=SC2086
+exports_sum() { sources_sum $exports; }
+is_fresh() { [ -f "$modules/sum" ] && [ "$(cat "$modules/sum")" = "$(exports_sum)" ]; }
+is_fresh_ringdump() { [ -f "$modules/ringdump.bc" ] && [ -f "$modules/ringdump-sum" ] && [ "$(cat "$modules/ringdump-sum")" = "$(sources_sum ringdump)" ]; }
 
-keep() { # CRATE COMMAND..: runs it by the toolchain that keeps the module
-  local crate=$1
-  shift
+keep() { # CRATE INTO: proves it, compiles it into INTO by the toolchain that keeps the module
   rm -f "$work/module.bc"
-  RATTLE_HOME=$work/kit sh tools/prove.sh "$@" || exit 1
-  [ -f "$work/module.bc" ] || die "$crate was proved, and no module was compiled"
-  mv "$work/module.bc" "$work/modules/$crate.bc"
+  python3 tools/compile.py stands "$1" >"$work/said" 2>&1 || sh tools/prove.sh "$1" || exit 1
+  python3 tools/compile.py "$1" "$work/toolchain" "$2" >"$work/said" 2>&1 || { tail -n 20 "$work/said" >&2; exit 1; }
+  [ -f "$work/module.bc" ] || die "$1 was proved, and no module was compiled"
+  mv "$work/module.bc" "$work/modules/$1.bc"
 }
 
 prove() {
   local crate sum
   begin
-  sum=$(sources_sum)
-  keeping_kit
-  for crate in $exports; do keep "$crate" staticlib "$crate"; done
+  sum=$(exports_sum)
+  keeping_toolchain
+  mkdir "$work/archives"
+  for crate in $exports; do keep "$crate" "$work/archives/lib$crate.a"; done
   join_archives
   echo "$sum" >"$work/modules/sum"
-  rm -rf "$modules"
-  mv "$work/modules" "$modules"
+  mkdir -p "$modules"
+  mv "$work/modules"/* "$modules/"
   clean
 }
 
-# The program's module: of a proof that is made again, as rt compiles a program with its proof.
+# The program, its object and its module.
 prove_ringdump() {
+  local sum
   begin
-  keeping_kit
-  rm -f target/stamp/ringdump
-  keep ringdump check ringdump
+  sum=$(sources_sum ringdump)
+  keeping_toolchain
+  keep ringdump "$work/ringdump.o"
+  "$kit/bin/rattle-link" --target x86_64-unknown-linux-gnu --toolchain "$kit/toolchain" -o "$work/ringdump" "$work/ringdump.o" \
+    "$kit/c/libos_c.a" "$kit/c/liblibc_c.a" >"$work/said" 2>&1 || { cat "$work/said" >&2; exit 1; }
+  mkdir -p "$modules" target/bin target/obj
+  mv "$work/ringdump.o" target/obj/ringdump.o
+  mv "$work/ringdump" target/bin/ringdump
   mv "$work/modules/ringdump.bc" "$modules/ringdump.bc"
+  echo "$sum" >"$modules/ringdump-sum"
   clean
 }
 
 # nothing in one archive may have the name of something in another: it would take its place
 join_archives() {
   local crate twice
-  twice=$(for crate in $exports; do ar t "$archives/lib$crate.a"; done | sort | uniq -d)
+  twice=$(for crate in $exports; do ar t "$work/archives/lib$crate.a"; done | sort | uniq -d)
   [ -z "$twice" ] || die "two archives have" $twice
-  for crate in $exports; do
-    [ "$crate" = ollskuvan ] && continue
-    (mkdir "$work/$crate" && cd "$work/$crate" && ar x "$OLDPWD/$archives/lib$crate.a" && ar r "$OLDPWD/$archives/libollskuvan.a" ./*.o) 2>"$work/said" ||
-      { cat "$work/said" >&2; exit 1; }
-  done
+  (mkdir "$work/joined" && cd "$work/joined" && for crate in $exports; do ar x "../archives/lib$crate.a"; done &&
+    ar rcD ../libollskuvan.a $(for crate in ollskuvan_c $exports; do ar t "../archives/lib$crate.a"; done | awk '!seen[$0]++')) >"$work/said" 2>&1 ||
+    { cat "$work/said" >&2; exit 1; }
+  mkdir -p $archives
+  mv "$work/libollskuvan.a" $archives/libollskuvan.a
 }
 
 # ---- a target
 
-# The words that `rt staticlib` gives the compiler for x86-64; the target's are added.
+# The words that the toolchain gives its compiler for x86-64; the target's are added.
 compile() { # TARGET MODULE OBJECT
   local words
   mapfile -t words < <(words_for "$1")
   case $1 in riscv64*) [ -z "${UNALIGNED:-}" ] || words+=(-mno-strict-align) ;; esac
-  "$clang" "${words[@]}" -ffunction-sections -fdata-sections -mllvm -trap-unreachable -mllvm -no-trap-after-noreturn --no-default-config \
+  "$clang" "${words[@]}" -mllvm -no-trap-after-noreturn -ffunction-sections -fdata-sections -mllvm -trap-unreachable -mllvm -no-x86-call-frame-opt \
+    -mllvm -disable-machine-licm -mllvm -disable-postra-machine-licm -mllvm -sink-common-insts=false --no-default-config \
     -no-canonical-prefixes -fintegrated-cc1 -fno-crash-diagnostics -Werror -Wno-override-module -c -x ir "$2" -o "$3" -fPIC -O3
 }
 
@@ -164,7 +177,7 @@ objects() { # TARGET
   "$gcc" -std=c99 -pedantic -Wall -Wextra -Werror -O2 -fPIC -ffunction-sections -fdata-sections -Iinclude -c -o "$work/objects/narrow.o" narrow/narrow.c
   "$ld" -r -o "$work/one.o" "$work/objects"/*.o
   rm "$work/objects"/*.o
-  "$objcopy" -w --localize-symbol='ollskuvan_wide_*' "$work/one.o" "$work/objects/ollskuvan.o"
+  "$objcopy" -w --localize-symbol='ollskuvan_wide_*' "$work/one.o" "$work/objects/ollskuvan_c.o"
 }
 
 # Global are the exports of the header alone. Nothing is needed but what every C compiler brings: for 32-bit ARM its division of 64 bits too.
@@ -181,7 +194,7 @@ check_names() { # TARGET ARCHIVE
 library_for() { # TARGET INTO
   objects "$1"
   # in the order of the crates, as the archive for x86-64 has them
-  (cd "$work/objects" && "$ar" rcD "$2/libollskuvan.a" $(for crate in ollskuvan $exports; do [ ! -f "$crate.o" ] || echo "$crate.o"; done | awk '!seen[$0]++'))
+  (cd "$work/objects" && "$ar" rcD "$2/libollskuvan.a" $(for crate in ollskuvan_c $exports; do [ ! -f "$crate.o" ] || echo "$crate.o"; done | awk '!seen[$0]++'))
   check_names "$1" "$2/libollskuvan.a"
   "$gcc" -std=c99 -pedantic -Wall -Wextra -Werror -O2 -g -Iinclude -fPIC -c -o "$work/ollskuvan_words.o" words/ollskuvan_words.c
   "$ar" rcD "$2/libollskuvan_words.a" "$work/ollskuvan_words.o"
@@ -227,7 +240,7 @@ boards() { # TARGET..
   [ $bad -eq 0 ] || exit 1
   [ -d "$modules" ] || prove
   is_fresh || die "the modules are not those of the sources as they are: 'make lib' proves them anew"
-  [ -f "$modules/ringdump.bc" ] || prove_ringdump
+  is_fresh_ringdump || prove_ringdump
   for target in "$@"; do board "$target"; done
 }
 
@@ -238,6 +251,7 @@ case ${1:-} in
       needed_tools "$(own_target)" && boards "$(own_target)" || echo "library: this machine's own library is not made" >&2
     fi
     ;;
+  ringdump) is_fresh_ringdump && [ -x target/bin/ringdump ] && [ -f target/obj/ringdump.o ] || prove_ringdump ;;
   targets) all_targets ;;
   packages) shift; for target in "$@"; do is_target "$target" || die "no such target: $target"; packages_for "$target"; done | xargs ;;
   fresh) is_fresh ;;

@@ -1,12 +1,14 @@
 #!/bin/sh
-# Runs rt and says little: a line for each crate that is proved now, and at a failure the last lines of all it wrote.
-#   tools/prove.sh check ringdump
-#   tools/prove.sh staticlib ollskuvan
+# Proves a crate and all that it stands on, and says little: a line for each crate that is proved now, and at a failure the last lines of all that rt wrote.
+#   tools/prove.sh ringdump
 set -u
 cd "$(dirname "$0")/.." || exit 2
+[ $# -eq 1 ] && [ -d "crates/$1/src" ] || { echo "use: tools/prove.sh CRATE" >&2; exit 2; }
 mkdir -p target
-log=target/prove.log
-{ rt "$@" 2>&1; echo $? >target/prove.status; } | tee "$log" | grep --line-buffered -E '^rt: [a-z0-9_]+ proved \([0-9]+ s\)' >&2
-status=$(cat target/prove.status)
+log=$PWD/target/prove.log
+status=$PWD/target/prove.status
+{ (cd "crates/$1" && rt check) 2>&1; echo $? >"$status"; } | tee "$log" |
+  awk '/^rt: chose --jobs [0-9]+ for / { crate = $NF } /^logic=proved / && crate != "" { print "proved: " crate; crate = ""; fflush() }' >&2
+status=$(cat "$status")
 [ "$status" -eq 0 ] || tail -n 20 "$log" >&2
 exit "$status"

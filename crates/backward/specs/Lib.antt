@@ -1,7 +1,3 @@
 pub mod Promise
 pub mod Frames
-pub mod Walks
-pub mod Reasons
-pub mod Enough
-pub mod Demand3
 pub mod Twin

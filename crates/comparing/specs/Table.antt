@@ -11,16 +11,17 @@ use Rattle.meaning.specs.Events.{all_marked, sound, asked_events, judge_events}
 use Rattle.laws.specs.Bytes.{apart}
 use Rattle.laws.specs.Rows.{before, passed-by}
 use Rattle.laws.specs.Rings.{stop_rows, frame-stop, frame-reason}
-use Rattle.laws.specs.Matched.{carried, sound-marked, frame_refused}
+use Rattle.laws.specs.Matched.{carried, sound-marked}
+use Rattle.laws.proofs.Refused.{frame_refused}
 use Rattle.runs.specs.Cutting.{Cut, Cuts, halt, begin, All}
-use Rattle.runs.specs.Runs.{cut-stop}
+use Rattle.runs.proofs.Runs.{cut-stop}
 use Rattle.event_laws.specs.Match.{matched-has}
 use Rattle.compare.specs.declared.Compared.{Compared}
 use Rattle.compare.specs.Fields.{Reads}
 use Rattle.compare.specs.Compared.{Side, event_reads, side_of, stops, cutting_all, compared, meet}
 use Rattle.compare.specs.Promise.{SoundReads, TrueReport}
-use Rattle.compare.specs.Sides.{framed-side, compared-told, compared-only}
-use Rattle.compare.specs.Facts.{meet-editions}
+use Rattle.compare.proofs.Sides.{framed-side, compared-told, compared-only}
+use Rattle.compare.proofs.Facts.{meet-editions}
 use Rattle.pairs.specs.Start.{accepted-event}
 
 pub event-sound : (k : Known) (es : List Event) → all_marked es ≡ true → SoundReads (event_reads k es)

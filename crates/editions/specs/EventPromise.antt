@@ -7,7 +7,7 @@ use Rattle.meaning.specs.Editions.{known, outside}
 use Rattle.meaning.specs.Ring.{Asked, asking_with, record_at}
 use Rattle.meaning.specs.Events.{attributes_of, event_at, sound, judge_events, event_depends, drain_events, one_events_frame, read_one_events, one_events_scratch}
 use Rattle.runs.specs.Cutting.{Cut, Cuts, cutting_by, All}
-use Rattle.runs.specs.Runs.{Beside}
+use Rattle.runs.proofs.Runs.{Beside}
 use Rattle.editions.specs.Fairness.{Words, Fair}
 
 -- "any attributes": the words of every event are words of 64 bits, as they are in the code

@@ -2,14 +2,4 @@ pub mod Fairness
 pub mod Promise
 pub mod Numbers
 pub mod Examples
-pub mod Outside
-pub mod InTable
-pub mod OneRecord
-pub mod Drains
-pub mod Stops
-pub mod Demand3
-pub mod Readers
 pub mod EventPromise
-pub mod EventRecord
-pub mod EventDrains
-pub mod EventReaders

@@ -10,7 +10,7 @@ use Rattle.meaning.specs.Items.{Con, con, shape_step, step, content}
 use Rattle.laws.specs.Again.{stepped}
 use Rattle.compare.specs.Fields.{field}
 use Rattle.compare.specs.Compared.{alike}
-use Rattle.compare.specs.Inner.{fields_at}
+use Rattle.compare.proofs.Inner.{fields_at}
 use Rattle.extents.specs.declared.Extent.{Extent}
 use Rattle.item_pairs.specs.declared.Both.{Both}
 use Rattle.extents.specs.Extent.{field_in, content_at, Lies}

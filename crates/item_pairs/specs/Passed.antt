@@ -5,7 +5,7 @@ use Rattle.meaning.specs.declared.Cursor.{Cursor}
 use Rattle.meaning.specs.declared.Item.{Item}
 use Rattle.meaning.specs.Items.{step, content}
 use Rattle.compare.specs.Compared.{alike}
-use Rattle.compare.specs.Inner.{fields_at}
+use Rattle.compare.proofs.Inner.{fields_at}
 use Rattle.item_pairs.specs.declared.Both.{Both}
 
 -- one item of two records: the next states, the items' numbers, whether it has a field, whether the fields are the same

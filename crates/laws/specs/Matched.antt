@@ -12,7 +12,6 @@ use Rattle.meaning.specs.Records.{layout, kind_of, misc_of, judge}
 use Rattle.meaning.specs.Ring.{Asked, asking_with, asked_of, frame}
 use Rattle.meaning.specs.Events.{attributes_of, identifiers, distinct, all_marked, sound, asked_events, identifier_of, index_for, event_for, has_event, gate, eventless, layout_for, unmatched, judge_events}
 use Rattle.laws.specs.Bytes.{apart, and-true}
-use Rattle.laws.specs.Rings.{frame-going}
 use Rattle.laws.specs.Lookup.{identifiers-length, marked-at, index_in}
 
 -- a number with bit 16 reaches every power of two up to 2 ^ 16
@@ -98,15 +97,3 @@ sound-marked limit es h =
 -- a sound table: the rows are those without a table
 pub asked-sound : (limit : ℕ) (rows : List Known) (e : ℕ) (es : List Event) → sound limit es ≡ true → asked_events limit rows e es ≡ asked_of rows e
 asked-sound limit rows e es h = ap (asking_with (allowed rows e)) h
-
--- a frame that goes on has a table that is sound
-pub going-sound : (asked : Asked) (ring : List ℕ) (head tail left journal scratch : ℕ) → (frame asked ring head tail left journal scratch).go ≡ true → asked.table ≡ true
-going-sound asked ring head tail left journal scratch g = not-false asked.table (frame-going asked ring head tail left journal scratch _ refl g).beside.1.0
-
--- "before anything is taken"
-pub frame_refused : (asked : Asked) → asked.table ≡ false → (ring : List ℕ) (head tail left journal scratch : ℕ) → (frame asked ring head tail left journal scratch).go ≡ false
-frame_refused asked h ring head tail left journal scratch = by (frame asked ring head tail left journal scratch).go refl
-  where
-    by : (b : Bool) → (frame asked ring head tail left journal scratch).go ≡ b → b ≡ false
-    by true g = absurd (apart (sym h ∙ going-sound asked ring head tail left journal scratch g))
-    by false g = refl

@@ -25,8 +25,8 @@ use Rattle.table.specs.Flags.{flag_at, flag-none, flag-some}
 use Rattle.record.specs.Into.{Accepted, record_flag, or_dirty}
 use Rattle.compare.specs.Fields.{first, one, other_fields}
 use Rattle.compare.specs.Compared.{same, same_bytes, alike, agree}
-use Rattle.compare.specs.Inner.{met, fields_at, Steady, step-fine, turn-other, turn-same, turn_on}
-use Rattle.compare.specs.Others.{others-met, body-steady, tail-steady}
+use Rattle.compare.proofs.Inner.{met, fields_at, Steady, step-fine, turn-other, turn-same, turn_on}
+use Rattle.compare.proofs.Others.{others-met, body-steady, tail-steady}
 use Rattle.item_pairs.specs.declared.Both.{Both}
 use Rattle.item_pairs.specs.Passed.{Passed}
 use Rattle.pair_fields.specs.declared.Pos.{Pos}

@@ -11,7 +11,7 @@ use Rattle.meaning.specs.Records.{room, kind_of, misc_of, origin, fields_answer,
 use Rattle.table.specs.Rows.{rows, field_rows, all_rows, item_of}
 use Rattle.compare.specs.Fields.{first, one}
 use Rattle.compare.specs.Compared.{alike, agree}
-use Rattle.compare.specs.Inner.{met, Steady}
+use Rattle.compare.proofs.Inner.{met, Steady}
 use Rattle.item_pairs.specs.declared.Both.{Both}
 use Rattle.pair_fields.specs.declared.Pos.{Pos}
 

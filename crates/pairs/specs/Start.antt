@@ -26,8 +26,8 @@ use Rattle.table.specs.Turns.{rows_next, rows-over}
 use Rattle.event_laws.specs.Match.{matched-has}
 use Rattle.compare.specs.Fields.{first, other_fields, Reads, fields}
 use Rattle.compare.specs.Compared.{same_bytes, alike, agree, event_reads}
-use Rattle.compare.specs.Pairs.{same_bytes_lem, same_alike}
-use Rattle.compare.specs.Others.{five}
+use Rattle.compare.proofs.Pairs.{same_bytes_lem, same_alike}
+use Rattle.compare.proofs.Others.{five}
 use Rattle.twins.specs.Twins.{Beside, Like}
 use Rattle.pair_fields.specs.declared.Pos.{Pos}
 use Rattle.pair_fields.specs.Inner.{Begun, Pair, FieldsStand}

@@ -13,7 +13,7 @@ use Rattle.meaning.specs.Records.{kind_of, misc_of, size_of, origin}
 use Rattle.meaning.specs.Values.{width, flag_words, body_words, trail_words, value_words, words, words_by}
 use Rattle.laws.specs.Told.{fields-few, trailer-few}
 use Rattle.table.specs.Rows.{field_rows, all_rows}
-use Rattle.table.specs.Same.{trailer-rows}
+use Rattle.table.proofs.Same.{trailer-rows}
 use Rattle.record.specs.Into.{items_of, Fills, record_flag}
 use Rattle.record.specs.Lent as lent
 use Rattle.record.specs.Lent.{Header, walked, trailer-runs}

@@ -28,21 +28,21 @@ use Rattle.writer.specs.Writer.{write_words_answer}
 use Rattle.laws.specs.Rows.{gives, before as before-row, Passed, in-more, in-cond, first-in}
 use Rattle.laws.specs.Rings.{stop_rows, frame-reason}
 use Rattle.runs.specs.Cutting.{Cut, Cuts, Spot, begin, spot_frame, spot_after, cut_at, add, halt, cut_by, cutting_by, nothing_cut}
-use Rattle.runs.specs.Entries.{journal-entry}
+use Rattle.runs.proofs.Entries.{journal-entry}
 use Rattle.editions.specs.Numbers.{event_numbers, write_numbers}
-use Rattle.editions.specs.InTable.{not_in}
-use Rattle.editions.specs.Demand3.{answer-in}
-use Rattle.editions.specs.EventRecord.{event-in, event-small}
+use Rattle.editions.proofs.InTable.{not_in}
+use Rattle.editions.proofs.Demand3.{answer-in}
+use Rattle.editions.proofs.EventRecord.{event-in, event-small}
 use Rattle.entries.specs.Entries.{entry_at}
 use Rattle.compare.specs.declared.Compared.{Compared}
 use Rattle.compare.specs.Fields.{Reads, fields}
 use Rattle.compare.specs.Compared.{alike, agree, differs, stops, ends_first, all_alike, meet, Side, cutting_all, compared, event_reads}
 use Rattle.comparing.specs.Table.{left_side, right_side}
 use Rattle.replay.specs.declared.Replayed.{Replayed}
-use Rattle.replay.specs.Promises.{read-to-end}
+use Rattle.replay.proofs.Promises.{read-to-end}
 use Rattle.replay.specs.Replay.{Bench, bench, Played, played, records_out, entry_rows, fault_at, effect, play, before_rows, before, replay, half, of_store, replay_told, replay_events}
 use Rattle.salvage.specs.Salvage.{output, holes, changes, salvage_answer, table_unready, table_judge, salvage_told}
-use Rattle.salvage.specs.Promises.{told-answer}
+use Rattle.salvage.proofs.Promises.{told-answer}
 use Rattle.promises.specs.Checked.{foremost, first-exactly}
 use Rattle.promises.specs.Demand1.{write-numbers}
 use Rattle.promises.specs.Events.{drain-events-entry}

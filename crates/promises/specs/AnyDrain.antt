@@ -8,7 +8,7 @@ use Rattle.meaning.specs.Drain.{End, start, ended, frame_at, run}
 use Rattle.laws.specs.Rows.{gives}
 use Rattle.laws.specs.Rings.{stop_rows, frame-reason, run-stop}
 use Rattle.runs.specs.Cutting.{Cuts}
-use Rattle.runs.specs.Forward.{Counted}
+use Rattle.runs.proofs.Forward.{Counted}
 
 -- a drain that ended where it began: nothing taken, tail, journal and scratch as they stood
 pub ended-leaves : (tail : ℕ) (journal scratch : List ℕ) (f : Frame) (d : End) → d ≡ ended (start tail journal scratch) f

@@ -18,23 +18,23 @@ use Rattle.meaning.specs.Backward.{back_frame, walk_by, walk_back, walk_events}
 use Rattle.laws.specs.Bytes.{apart}
 use Rattle.laws.specs.Rows.{gives}
 use Rattle.runs.specs.Cutting.{Cut, All, nothing_cut, record_of}
-use Rattle.runs.specs.Entries.{all-at}
-use Rattle.runs.specs.Crossing.{lies_whole, OneCrosses}
+use Rattle.runs.proofs.Entries.{all-at}
+use Rattle.runs.proofs.Crossing.{lies_whole, OneCrosses}
 use Rattle.editions.specs.Fairness.{rising, Words, depends_of}
 use Rattle.editions.specs.Numbers.{record_numbers, event_numbers, walk_numbers, table_walk_numbers}
-use Rattle.editions.specs.InTable.{judge-in, judge-small, not_in}
-use Rattle.editions.specs.OneRecord.{editions-rise, check-framed}
+use Rattle.editions.proofs.InTable.{judge-in, judge-small, not_in}
+use Rattle.editions.proofs.OneRecord.{editions-rise, check-framed}
 use Rattle.editions.specs.Promise.{EntryFair}
-use Rattle.editions.specs.Demand3.{answer-in}
+use Rattle.editions.proofs.Demand3.{answer-in}
 use Rattle.editions.specs.EventPromise.{EventWords, asks_table}
-use Rattle.editions.specs.EventRecord.{event-in, event-small}
+use Rattle.editions.proofs.EventRecord.{event-in, event-small}
 use Rattle.backward.specs.Promise.{walk_cuts, Walks, Ended, FairWalks}
 use Rattle.backward.specs.Frames.{back_rows, back-goes}
-use Rattle.backward.specs.Walks.{walk-walks, walk-entry, walk-stop, table-walk-in, walk-in, walk-crosses-once, walk-scratch-kept, walk-scratch-copied}
-use Rattle.backward.specs.Reasons.{walk-reason, walk-ended}
-use Rattle.backward.specs.Enough.{walk-eights, enough-budget, enough-journal, enough-scratch}
-use Rattle.backward.specs.Twin.{round_from, walk-as-drain}
-use Rattle.backward.specs.Demand3.{demand3-back, demand3-back-entry, demand3-walk-events, demand3-walk-events-entry}
+use Rattle.backward.proofs.Walks.{walk-walks, walk-entry, walk-stop, table-walk-in, walk-in, walk-crosses-once, walk-scratch-kept, walk-scratch-copied}
+use Rattle.backward.proofs.Reasons.{walk-reason, walk-ended}
+use Rattle.backward.proofs.Enough.{walk-eights, enough-budget, enough-journal, enough-scratch}
+use Rattle.backward.proofs.Twin.{round_from, walk-as-drain}
+use Rattle.backward.proofs.Demand3.{demand3-back, demand3-back-entry, demand3-walk-events, demand3-walk-events-entry}
 
 -- ---- what is promised of a walk, under any judge and whatever the rows ask beside the ring
 module _ (asked : Asked) (judge : List ℕ → ℕ) (ring : List ℕ) (head budget : ℕ) (journal scratch : List ℕ) where

@@ -27,16 +27,16 @@ use Rattle.event_laws.specs.Told.{read_event_answer, read_event_words}
 use Rattle.event_one.specs.Told.{with_inspected, one_events_told, one_events_words}
 use Rattle.laws.specs.Rows.{in-more, in-cond, others, passed, stopped-in}
 use Rattle.laws.specs.Rings.{stop_rows, frame-rows, frame-stop, record-whole, scratch-length, Going}
-use Rattle.laws.specs.Matched.{going-sound}
+use Rattle.laws.proofs.Refused.{going-sound}
 use Rattle.laws.specs.Inspected.{asked-own}
 use Rattle.runs.specs.Cutting.{framed}
-use Rattle.runs.specs.Forward.{frame-going, going-framed}
+use Rattle.runs.proofs.Forward.{frame-going, going-framed}
 use Rattle.runs.specs.Scratches.{scratch-whole, scratch-crosses, put_holds}
 use Rattle.editions.specs.Numbers.{record_numbers, event_numbers}
-use Rattle.editions.specs.InTable.{judge-in}
-use Rattle.editions.specs.OneRecord.{check-framed}
-use Rattle.editions.specs.Stops.{one-frame}
-use Rattle.editions.specs.EventRecord.{event-in}
+use Rattle.editions.proofs.InTable.{judge-in}
+use Rattle.editions.proofs.OneRecord.{check-framed}
+use Rattle.editions.proofs.Stops.{one-frame}
+use Rattle.editions.proofs.EventRecord.{event-in}
 use Rattle.promises.specs.Lent.{lent-refused, lent-accepted}
 use Rattle.promises.specs.Exported.{read-accepted, read-accepts, read-means, writes_again}
 use Rattle.promises.specs.Inspected.{told-found, same_number, told-most, read-26, words-unchanged}

@@ -20,12 +20,12 @@ use Rattle.one.specs.declared.OneTold.{OneTold}
 use Rattle.one.specs.Told.{told_stop, told_taken, one_told, one_words}
 use Rattle.event_laws.specs.Told.{read_event_answer, read_event_words}
 use Rattle.event_one.specs.Told.{with_inspected, one_events_told, one_events_words}
-use Rattle.laws.specs.Matched.{going-sound}
+use Rattle.laws.proofs.Refused.{going-sound}
 use Rattle.runs.specs.Cutting.{framed}
-use Rattle.runs.specs.Forward.{frame-going, going-framed}
+use Rattle.runs.proofs.Forward.{frame-going, going-framed}
 use Rattle.editions.specs.Fairness.{rising, Words, depends_of, Fair}
 use Rattle.editions.specs.Promise.{one_outside}
-use Rattle.editions.specs.OneRecord.{fair-free, editions-rise}
+use Rattle.editions.proofs.OneRecord.{fair-free, editions-rise}
 use Rattle.editions.specs.EventPromise.{EventWords, one_events_outside}
 use Rattle.promises.specs.Inspected.{inspected-alike}
 use Rattle.promises.specs.EventReads.{framed-asked, read_alike}

@@ -22,8 +22,8 @@ use Rattle.laws.specs.Again.{stuck, stepped}
 use Rattle.laws.specs.Rows.{in-more, in-cond}
 use Rattle.runs.specs.Cutting.{framed}
 use Rattle.editions.specs.Numbers.{field_numbers}
-use Rattle.editions.specs.OneRecord.{check-framed}
-use Rattle.editions.specs.InTable.{fields_in}
+use Rattle.editions.proofs.OneRecord.{check-framed}
+use Rattle.editions.proofs.InTable.{fields_in}
 
 -- ---- the rows
 

@@ -14,8 +14,8 @@ use Rattle.meaning.specs.Editions.{editions, known}
 use Rattle.meaning.specs.Ring.{Asked, distance, frame}
 use Rattle.meaning.specs.Events.{asked_events}
 use Rattle.runs.specs.Cutting.{Cut, Spot, Cuts, begin, add, cut_at, spot_after, halt, cut_by, All, nothing_cut}
-use Rattle.runs.specs.Crossing.{OneCrosses, one-crosses}
-use Rattle.runs.specs.Forward.{Kept, Shaped, frame-steps, frame-lies}
+use Rattle.runs.proofs.Crossing.{OneCrosses, one-crosses}
+use Rattle.runs.proofs.Forward.{Kept, Shaped, frame-steps, frame-lies}
 use Rattle.compare.specs.declared.Compared.{Compared}
 use Rattle.compare.specs.Compared.{compared, pairs, scratch_then, event_reads, Side, side_of, side_cuts}
 use Rattle.comparing.specs.Table.{left_side, right_side}

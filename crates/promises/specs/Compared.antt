@@ -14,19 +14,19 @@ use Rattle.meaning.specs.Events.{sound, asked_events, judge_events, event_depend
 use Rattle.laws.specs.Bytes.{apart}
 use Rattle.laws.specs.Rings.{frame-stop, frame-reason}
 use Rattle.runs.specs.Cutting.{Cut, All}
-use Rattle.runs.specs.Forward.{frame-going}
-use Rattle.runs.specs.Entries.{all_map}
+use Rattle.runs.proofs.Forward.{frame-going}
+use Rattle.runs.proofs.Entries.{all_map}
 use Rattle.editions.specs.Fairness.{rising}
 use Rattle.editions.specs.EventPromise.{EventWords}
-use Rattle.editions.specs.EventRecord.{event-fair}
+use Rattle.editions.proofs.EventRecord.{event-fair}
 use Rattle.compare.specs.declared.Compared.{Compared}
 use Rattle.compare.specs.Fields.{Reads, fields}
 use Rattle.compare.specs.Compared.{alike, agree, all_alike, stops, cutting_all, compared, scratch_then, event_reads, Side, side_cuts}
 use Rattle.compare.specs.Promise.{SoundReads, Whole, Same, First, TrueReport}
-use Rattle.compare.specs.Pairs.{alike-exactly, named-differs}
-use Rattle.compare.specs.Sides.{framed-side, side-ends, scratch-long, side-first}
-use Rattle.compare.specs.Facts.{AllEqual, equal-told, told-equal, places-alike, ignored-alike, turned, meet-turned}
-use Rattle.compare.specs.Examples as examples
+use Rattle.compare.proofs.Pairs.{alike-exactly, named-differs}
+use Rattle.compare.proofs.Sides.{framed-side, side-ends, scratch-long, side-first}
+use Rattle.compare.proofs.Facts.{AllEqual, equal-told, told-equal, places-alike, ignored-alike, turned, meet-turned}
+use Rattle.compare.proofs.Examples as examples
 use Rattle.comparing.specs.Table.{left_side, right_side, left_at_once, table-told, table-only, table-refused, editions-alike}
 
 -- ---- two records, under a table whose events select the identifier

@@ -18,16 +18,16 @@ use Rattle.laws.specs.Whole.{Decodes, record-again, record-there, flag-unwritten
 use Rattle.laws.specs.Every.{sound as layout-sound}
 use Rattle.laws.specs.Matched.{sound-marked}
 use Rattle.runs.specs.Cutting.{Cut, framed, record_of}
-use Rattle.runs.specs.Entries.{all-at}
-use Rattle.editions.specs.OneRecord.{check-framed}
+use Rattle.runs.proofs.Entries.{all-at}
+use Rattle.editions.proofs.OneRecord.{check-framed}
 use Rattle.compare.specs.declared.Compared.{Compared}
 use Rattle.compare.specs.Fields.{Reads, layout_of, value_of}
 use Rattle.compare.specs.Compared.{Side, all_alike, cutting_all, compared, event_reads}
 use Rattle.compare.specs.Promise.{SoundReads, Whole, Same, decoded, refused}
-use Rattle.compare.specs.Identifier.{body-first, tail-last}
-use Rattle.compare.specs.Pairs.{same_id}
-use Rattle.compare.specs.Sides.{framed-side, side-whole}
-use Rattle.compare.specs.Facts.{flag-of, ignored-alike}
+use Rattle.compare.proofs.Identifier.{body-first, tail-last}
+use Rattle.compare.proofs.Pairs.{same_id}
+use Rattle.compare.proofs.Sides.{framed-side, side-whole}
+use Rattle.compare.proofs.Facts.{flag-of, ignored-alike}
 use Rattle.comparing.specs.Table.{left_side, right_side, event-sound}
 use Rattle.promises.specs.Compared.{alike-all-equal}
 

@@ -17,16 +17,16 @@ use Rattle.meaning.specs.Ring.{asked_of, distance, stop_at, frame, record_at, wh
 use Rattle.meaning.specs.Drain.{End, entry_for, start, frame_at, after, run, drain}
 use Rattle.laws.specs.Answer42.{bytes_of, buffer-holds, buffer-kept}
 use Rattle.runs.specs.Cutting.{Cut, begin, cutting_by, entries, total, Chained, All, nothing_cut, framed}
-use Rattle.runs.specs.Entries.{all-at}
-use Rattle.runs.specs.Forward.{Counted, frame-going, going-framed}
+use Rattle.runs.proofs.Entries.{all-at}
+use Rattle.runs.proofs.Forward.{Counted, frame-going, going-framed}
 use Rattle.runs.specs.Scratches.{scratch-whole, scratch-crosses, put_holds, shown-record}
 use Rattle.editions.specs.Numbers.{record_numbers, check_numbers, record_check_numbers, stop_numbers, write_numbers}
-use Rattle.editions.specs.InTable.{judge-in, judge-small, check-in, record-check-in, write-in}
+use Rattle.editions.proofs.InTable.{judge-in, judge-small, check-in, record-check-in, write-in}
 use Rattle.laws.specs.Rows.{gives}
 use Rattle.laws.specs.Rings.{stop_rows, frame-stop, frame-reason}
-use Rattle.editions.specs.Drains.{drain-counted, drain-cutting, drain-entry, drain_rest, drain-checked}
-use Rattle.editions.specs.Demand3.{answer-in}
-use Rattle.editions.specs.Stops.{drain-stop, drain-go, drain-in, one-stop, one-stop-tail, one-taken, one-taken-tail, one-stop-in, one_in, one-refused}
+use Rattle.editions.proofs.Drains.{drain-counted, drain-cutting, drain-entry, drain_rest, drain-checked}
+use Rattle.editions.proofs.Demand3.{answer-in}
+use Rattle.editions.proofs.Stops.{drain-stop, drain-go, drain-in, one-stop, one-stop-tail, one-taken, one-taken-tail, one-stop-in, one_in, one-refused}
 use Rattle.promises.specs.AnyDrain.{ended-leaves, rests-there, stop-0, stop-8, stop-9}
 use Rattle.promises.specs.Scratch.{going-room, lies_whole, drain-all-whole, drain-copied}
 

@@ -21,7 +21,7 @@ use Rattle.laws.specs.Whole.{Decodes, flag-unwritten, record-there, record-again
 use Rattle.laws.specs.Bytes.{apart}
 use Rattle.laws.specs.Every.{sound}
 use Rattle.editions.specs.Numbers.{check_numbers}
-use Rattle.editions.specs.InTable.{check-in}
+use Rattle.editions.proofs.InTable.{check-in}
 use Rattle.laws.specs.Told.{words-told}
 use Rattle.laws.specs.Exactly.{LaidOut, decodes-exactly}
 use Rattle.laws.specs.Answer42.{check-of, bytes_of, passes, Written, read_back, written-again, buffer-holds, exact-42, one_value, one-record}

@@ -23,9 +23,9 @@ use Rattle.record.specs.Into.{read_into_answer, read_into_words}
 use Rattle.editions.specs.Fairness.{rising, Words, depends_of, Fair}
 use Rattle.runs.specs.Cutting.{cutting, record_of, framed}
 use Rattle.editions.specs.Promise.{Demand3, EntryFair, OneFair}
-use Rattle.editions.specs.OneRecord.{either, check-fair, editions-rise}
-use Rattle.editions.specs.Demand3.{demand3, demand3-entry}
-use Rattle.editions.specs.Readers.{read-fair, one-fair}
+use Rattle.editions.proofs.OneRecord.{either, check-fair, editions-rise}
+use Rattle.editions.proofs.Demand3.{demand3, demand3-entry}
+use Rattle.editions.proofs.Readers.{read-fair, one-fair}
 use Rattle.laws.specs.Bytes.{apart}
 
 -- ---- what `Fair` says, in the demand's words

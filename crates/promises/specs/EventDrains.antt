@@ -12,7 +12,7 @@ use Rattle.meaning.specs.Drain.{End, start, frame_at, after, run}
 use Rattle.meaning.specs.Events.{asked_events, judge_events, drain_events}
 use Rattle.laws.specs.Rings.{run-go, run-stop}
 use Rattle.runs.specs.Cutting.{cutting_by}
-use Rattle.runs.specs.Forward.{Counted}
+use Rattle.runs.proofs.Forward.{Counted}
 use Rattle.promises.specs.AnyDrain.{ended-leaves, rests-there, stop-0, stop-8, stop-9}
 use Rattle.promises.specs.Events.{drain-events-counts}
 use Rattle.promises.specs.Header.{frame_with, crossing-never-answers}

@@ -26,24 +26,24 @@ use Rattle.meaning.specs.Backward.{back_frame, walk_events}
 use Rattle.laws.specs.Bytes.{apart, and-true}
 use Rattle.laws.specs.Lookup.{identifiers-length, identifier-at, is-in-at, index_in, index_is}
 use Rattle.laws.specs.Rows.{in-more, in-cond, first-in}
-use Rattle.laws.specs.Matched.{going-sound}
+use Rattle.laws.proofs.Refused.{going-sound}
 use Rattle.laws.specs.Inspected.{asked-own}
 use Rattle.runs.specs.Cutting.{Cut, cutting_by, nothing_cut, framed, All}
-use Rattle.runs.specs.Entries.{journal-entry, all-at}
-use Rattle.runs.specs.Streams.{AllFramed, all-framed-snoc}
-use Rattle.runs.specs.Forward.{frame-going}
+use Rattle.runs.proofs.Entries.{journal-entry, all-at}
+use Rattle.runs.proofs.Streams.{AllFramed, all-framed-snoc}
+use Rattle.runs.proofs.Forward.{frame-going}
 use Rattle.backward.specs.Promise.{walk_cuts}
 use Rattle.backward.specs.Frames.{back-goes}
-use Rattle.editions.specs.Demand3.{answer-in}
-use Rattle.editions.specs.EventRecord.{event-small}
+use Rattle.editions.proofs.Demand3.{answer-in}
+use Rattle.editions.proofs.EventRecord.{event-small}
 use Rattle.editions.specs.Numbers.{field_numbers, record_numbers}
-use Rattle.editions.specs.InTable.{not_in, fields_in, judge-in}
+use Rattle.editions.proofs.InTable.{not_in, fields_in, judge-in}
 use Rattle.entries.specs.declared.Entry.{Entry}
 use Rattle.entries.specs.Entries.{entry_at}
 use Rattle.replay.specs.declared.Replayed.{Replayed}
 use Rattle.replay.specs.Replay.{Happened, went_in, was_dropped, drained, Bench, bench, records_in, records_out, free, goes_in, goes_by, offer, drain_of, bench_cuts, drains_off, body_of, is_offer, fault_at, effect, Played, played, play, before, half, of_store, replay_told, replay_events}
 use Rattle.replay.specs.Drains.{bytes_of}
-use Rattle.replay.specs.Along.{in-append, no-fault}
+use Rattle.replay.proofs.Along.{in-append, no-fault}
 use Rattle.promises.specs.Checked.{record_rows, judge-rows, foremost, first-exactly, lead, hit, other}
 use Rattle.promises.specs.Inspected.{before-20, before-21, check-events-44}
 use Rattle.promises.specs.EventReads.{framed-asked}

@@ -24,11 +24,11 @@ use Rattle.laws.specs.Lookup.{identifiers-length, identifier-at, marked-at, inde
 use Rattle.laws.specs.Matched.{judge-found, judge-matched, sound-marked}
 use Rattle.laws.specs.Inspected.{asked-own, asked-refused, looked}
 use Rattle.runs.specs.Cutting.{framed}
-use Rattle.runs.specs.Streams.{says-framed}
+use Rattle.runs.proofs.Streams.{says-framed}
 use Rattle.event_laws.specs.Match.{matched-has}
 use Rattle.editions.specs.Numbers.{record_numbers}
-use Rattle.editions.specs.InTable.{not_in, judge-in}
-use Rattle.editions.specs.OneRecord.{check-framed}
+use Rattle.editions.proofs.InTable.{not_in, judge-in}
+use Rattle.editions.proofs.OneRecord.{check-framed}
 use Rattle.promises.specs.Checked.{answers-20}
 use Rattle.promises.specs.Demand2.{decoded-exactly}
 use Rattle.promises.specs.EventReads.{framed-asked}

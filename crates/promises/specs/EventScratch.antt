@@ -14,12 +14,12 @@ use Rattle.meaning.specs.Ring.{frame, record_at, whole, scratch_after, shown, no
 use Rattle.meaning.specs.Drain.{End}
 use Rattle.meaning.specs.Events.{asked_events, judge_events, drain_events, one_events_frame, taken_events, read_one_events, one_events_scratch}
 use Rattle.runs.specs.Cutting.{Cut, begin, cutting_by, All, nothing_cut}
-use Rattle.runs.specs.Runs.{run-cut}
-use Rattle.runs.specs.Forward.{frame-going, going-framed, frame-roomy}
+use Rattle.runs.proofs.Runs.{run-cut}
+use Rattle.runs.proofs.Forward.{frame-going, going-framed, frame-roomy}
 use Rattle.runs.specs.Scratches.{scratch-whole, scratch-crosses, put_holds, shown-record}
 use Rattle.editions.specs.Numbers.{event_numbers}
-use Rattle.editions.specs.EventRecord.{event-in}
-use Rattle.editions.specs.EventDrains.{drain-events-counted}
+use Rattle.editions.proofs.EventRecord.{event-in}
+use Rattle.editions.proofs.EventDrains.{drain-events-counted}
 use Rattle.promises.specs.Scratch.{going-room, lies_whole, drain-all-whole, drain-copied}
 
 -- ---- the drain

@@ -15,17 +15,17 @@ use Rattle.meaning.specs.Events.{attributes_of, identifier_of, event_for, has_ev
 use Rattle.laws.specs.Rows.{gives}
 use Rattle.laws.specs.Rings.{stop_rows, frame-stop, frame-reason}
 use Rattle.runs.specs.Cutting.{Cut, cutting_by, nothing_cut, record_of, All}
-use Rattle.runs.specs.Entries.{run-entry, run-rest}
-use Rattle.runs.specs.Forward.{Counted, frame-roomy}
+use Rattle.runs.proofs.Entries.{run-entry, run-rest}
+use Rattle.runs.proofs.Forward.{Counted, frame-roomy}
 use Rattle.editions.specs.Fairness.{rising}
 use Rattle.editions.specs.Numbers.{event_numbers, table_stop_numbers}
-use Rattle.editions.specs.InTable.{table-frame-in}
+use Rattle.editions.proofs.InTable.{table-frame-in}
 use Rattle.editions.specs.Promise.{EntryFair}
-use Rattle.editions.specs.OneRecord.{editions-rise}
+use Rattle.editions.proofs.OneRecord.{editions-rise}
 use Rattle.editions.specs.EventPromise.{EventWords, table_cutting, Demand3Events, OneEventsFair}
-use Rattle.editions.specs.EventRecord.{event-in, no-event-in}
-use Rattle.editions.specs.EventDrains.{demand3-events, demand3-events-entry, drain-events-in, drain-events-counted, drain-events-refused, one-event-alike, one-event-drain}
-use Rattle.editions.specs.EventReaders.{one-events-fair, one-event-reads}
+use Rattle.editions.proofs.EventRecord.{event-in, no-event-in}
+use Rattle.editions.proofs.EventDrains.{demand3-events, demand3-events-entry, drain-events-in, drain-events-counted, drain-events-refused, one-event-alike, one-event-drain}
+use Rattle.editions.proofs.EventReaders.{one-events-fair, one-event-reads}
 
 -- ---- demand 1: the answer of a record
 

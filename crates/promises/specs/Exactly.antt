@@ -21,12 +21,12 @@ use Rattle.laws.specs.Bytes.{apart, and-true}
 use Rattle.laws.specs.Rows.{tests, any, gives, before, Passed, passed, stopped-yes, stopped-no, stopped-passed}
 use Rattle.laws.specs.Rings.{stop_rows, frame-rows, frame-reason}
 use Rattle.runs.specs.Cutting.{Cuts, cutting_by}
-use Rattle.runs.specs.Forward.{Counted}
-use Rattle.editions.specs.Drains.{drain-counted}
-use Rattle.editions.specs.EventDrains.{drain-events-counted}
+use Rattle.runs.proofs.Forward.{Counted}
+use Rattle.editions.proofs.Drains.{drain-counted}
+use Rattle.editions.proofs.EventDrains.{drain-events-counted}
 use Rattle.backward.specs.Promise.{walk_cuts, Walks}
 use Rattle.backward.specs.Frames.{back_rows, back-rows, back-reason}
-use Rattle.backward.specs.Walks.{walk-walks}
+use Rattle.backward.proofs.Walks.{walk-walks}
 use Rattle.promises.specs.Called.{Called, one-called, one-events-called}
 
 -- ---- any rows

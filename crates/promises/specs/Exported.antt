@@ -27,9 +27,9 @@ use Rattle.laws.specs.Every.{sound}
 use Rattle.laws.specs.More.{written-clean}
 use Rattle.laws.specs.Told.{words-told}
 use Rattle.laws.specs.Answer42.{check-of, bytes_of, passes, Written, accepted, read_back, written-again, buffer-holds, exact-42, one-record}
-use Rattle.editions.specs.OneRecord.{check-framed}
-use Rattle.runs.specs.Forward.{frame-going, going-framed}
-use Rattle.editions.specs.Stops.{one-taken}
+use Rattle.editions.proofs.OneRecord.{check-framed}
+use Rattle.runs.proofs.Forward.{frame-going, going-framed}
+use Rattle.editions.proofs.Stops.{one-taken}
 use Rattle.runs.specs.Scratches.{put_holds}
 use Rattle.promises.specs.Demand1.{one-taken-moves, one-shows}
 

@@ -30,9 +30,9 @@ use Rattle.settings.specs.Versions.{versions}
 use Rattle.settings.specs.Reading.{read_store}
 use Rattle.settings.specs.Writing.{writes, write_store}
 use Rattle.laws.specs.Rows.{or-false, every, in-more, gives, Passed, passed-by, stopped-after}
-use Rattle.laws.specs.Rings.{header-whole}
+use Rattle.laws.proofs.Framing.{header-whole}
 use Rattle.editions.specs.Numbers.{record_numbers, check_numbers, record_check_numbers, stop_numbers, table_stop_numbers, walk_numbers, table_walk_numbers, event_numbers, write_numbers, name_numbers}
-use Rattle.editions.specs.InTable.{not_in}
+use Rattle.editions.proofs.InTable.{not_in}
 use Rattle.promises.specs.Demand1.{check-numbers, read-numbers, write-numbers, one-stop-numbers, one-numbers, drain-stop-numbers, drain-entry-numbers}
 use Rattle.promises.specs.Backward.{walk-numbers, walk-entry-numbers, walk-events-numbers, walk-events-entry-numbers}
 use Rattle.promises.specs.Lent.{read_numbers, lent-numbers}

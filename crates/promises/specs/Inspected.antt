@@ -26,12 +26,12 @@ use Rattle.laws.specs.Inspected.{inspected-is, inspected-most, asked-refused, as
 use Rattle.runs.specs.Cutting.{framed}
 use Rattle.editions.specs.Fairness.{rising, Fair}
 use Rattle.editions.specs.Numbers.{event_numbers, record_numbers}
-use Rattle.editions.specs.InTable.{not_in, judge-in}
-use Rattle.editions.specs.OneRecord.{kind-outside, fair-free, tested, editions-rise}
-use Rattle.editions.specs.Outside.{outside-less, known-within}
-use Rattle.editions.specs.EventDrains.{one-event-alike}
+use Rattle.editions.proofs.InTable.{not_in, judge-in}
+use Rattle.editions.proofs.OneRecord.{kind-outside, fair-free, tested, editions-rise}
+use Rattle.editions.proofs.Outside.{outside-less, known-within}
+use Rattle.editions.proofs.EventDrains.{one-event-alike}
 use Rattle.editions.specs.EventPromise.{EventWords}
-use Rattle.editions.specs.EventRecord.{event-in, event-fair}
+use Rattle.editions.proofs.EventRecord.{event-in, event-fair}
 use Rattle.event_laws.specs.Match.{matched-has}
 use Rattle.promises.specs.Demand3.{last-fair, known_of}
 use Rattle.promises.specs.Checked.{record_rows, foremost, first-exactly, judge-rows}

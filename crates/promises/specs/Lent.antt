@@ -17,7 +17,7 @@ use Rattle.laws.specs.Answer42.{check-of}
 use Rattle.laws.specs.Told.{words-told}
 use Rattle.laws.specs.Rows.{in-more, in-cond}
 use Rattle.runs.specs.Scratches.{put_holds}
-use Rattle.editions.specs.InTable.{check-in}
+use Rattle.editions.proofs.InTable.{check-in}
 use Rattle.editions.specs.Numbers.{check_numbers}
 
 abbrev pub read_numbers : List ℕ

@@ -13,7 +13,7 @@ use Rattle.meaning.specs.Refusals.{first}
 use Rattle.meaning.specs.Editions.{is_in}
 use Rattle.meaning.specs.Names.{name_answer, name_buffer}
 use Rattle.editions.specs.Numbers.{name_numbers}
-use Rattle.editions.specs.InTable.{name_in}
+use Rattle.editions.proofs.InTable.{name_in}
 use Rattle.runs.specs.Scratches.{put_holds}
 
 module _ (xs : List ℕ) (place count : ℕ) (buffer : List ℕ) where

@@ -10,7 +10,7 @@ use Rattle.meaning.specs.Editions.{is_in}
 use Rattle.laws.specs.Rows.{Passed, first-in}
 use Rattle.readers.specs.declared.Published.{Published}
 use Rattle.readers.specs.Readers.{readers_at, tail_rows, tail_answer, further_tail, published}
-use Rattle.readers.specs.Laws.{published-first, published-second, published-tail, published-zero, no-tail}
+use Rattle.readers.proofs.Laws.{published-first, published-second, published-tail, published-zero, no-tail}
 use Rattle.promises.specs.Checked.{foremost}
 use Rattle.promises.specs.Exactly.{numbers_of}
 use Rattle.promises.specs.StoreExactly.{told-exactly, told-zero-exactly}

@@ -12,8 +12,9 @@ use Rattle.editions.specs.Promise.{Demand3}
 use Rattle.editions.specs.EventPromise.{EventWords, Demand3Events}
 use Rattle.readers.specs.declared.Readers.{Readers}
 use Rattle.readers.specs.Readers.{readers_at, first_moved, second_moved, tail_answer, further_tail, published}
-use Rattle.readers.specs.Laws as laws
-use Rattle.readers.specs.Turns.{Lent, Turn, table-replaced, turns, first_alone, second_alone, first-as-alone, second-as-alone, first-by-itself, second-by-itself, both-see-it, one_set_drain, table_drain}
+use Rattle.readers.proofs.Laws as laws
+use Rattle.readers.specs.Turns.{Lent, Turn, table-replaced, turns, first_alone, second_alone, first-as-alone, second-as-alone, both-see-it, one_set_drain, table_drain}
+use Rattle.readers.proofs.Turns.{first-by-itself, second-by-itself}
 use Rattle.promises.specs.Demand3.{older-drain}
 use Rattle.promises.specs.Events.{older-events}
 

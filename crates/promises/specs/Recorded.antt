@@ -11,7 +11,7 @@ use Rattle.record.specs.Into.{read_into_answer}
 use Rattle.laws.specs.Answers.{or-zero, tested}
 use Rattle.laws.specs.Exactly.{LaidOut}
 use Rattle.editions.specs.Numbers.{check_numbers}
-use Rattle.editions.specs.InTable.{not_in, check-in}
+use Rattle.editions.proofs.InTable.{not_in, check-in}
 use Rattle.promises.specs.Checked.{check_rows, foremost, check-exactly}
 use Rattle.promises.specs.Demand2.{decoded-exactly, check-clean, check-flagged, check-44}
 use Rattle.promises.specs.Exported.{read-accepted, read-accepts}

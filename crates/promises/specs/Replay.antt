@@ -14,23 +14,23 @@ use Rattle.meaning.specs.Ring.{Asked, asking, length_allowed, frame}
 use Rattle.meaning.specs.Drain.{End}
 use Rattle.meaning.specs.Events.{asked_events, judge_events, drain_events}
 use Rattle.runs.specs.Cutting.{Cut, begin, entries, All, nothing_cut}
-use Rattle.runs.specs.Streams.{joined}
+use Rattle.runs.proofs.Streams.{joined}
 use Rattle.runs.specs.Scratches.{distance_self}
-use Rattle.runs.specs.Runs.{run-cut}
-use Rattle.runs.specs.Forward.{Counted, run-counted, frame-roomy}
+use Rattle.runs.proofs.Runs.{run-cut}
+use Rattle.runs.proofs.Forward.{Counted, run-counted, frame-roomy}
 use Rattle.entries.specs.declared.Entry.{Entry}
 use Rattle.settings.specs.Versions.{versions}
 use Rattle.settings.specs.Reading.{is_event_of, fits}
 use Rattle.promises.specs.Scratch.{lies_whole, drain-all-whole, drain-copied, put_holds}
 use Rattle.replay.specs.Replay.{Bench, bench, sum, records_in, records_out, held, put_round, free, goes_in, goes_by, offer, journal_left, drain_of, bench_cuts, drains_off, fault_at, Played, played, play, before, replay, half, of_store, standing, replay_told, rooms_of, replay_events}
 use Rattle.replay.specs.Drains.{bytes_of}
-use Rattle.replay.specs.Along.{BenchHolds, holds-start, holds-play}
+use Rattle.replay.proofs.Along.{BenchHolds, holds-start, holds-play}
 use Rattle.replay.specs.Queue.{took}
-use Rattle.replay.specs.Promises.{Point, at-every-point, comes-out-the-same, Stopped, drain-stops, why, drain-why, drain-takes, ends-before-fault, refused-before, read-to-end}
-use Rattle.replay.specs.Unseen.{Same, ring-unseen}
+use Rattle.replay.proofs.Promises.{Point, at-every-point, comes-out-the-same, Stopped, drain-stops, why, drain-why, drain-takes, ends-before-fault, refused-before, read-to-end}
+use Rattle.replay.proofs.Unseen.{Same, ring-unseen}
 use Rattle.replay.specs.Steps.{begun}
-use Rattle.replay.specs.Shows.{taken-sum}
-use Rattle.replay.specs.Playing.{Passes, passes, ring-half, half_twice}
+use Rattle.replay.proofs.Shows.{taken-sum}
+use Rattle.replay.proofs.Playing.{Passes, passes, ring-half, half_twice}
 
 module _ (limit : ℕ) (rows : List Known) (e : ℕ) (es : List Event) where
   abbrev asked : Asked

@@ -20,14 +20,14 @@ use Rattle.laws.specs.Bytes.{apart, num-spell}
 use Rattle.laws.specs.Put.{part_of}
 use Rattle.laws.specs.Rings.{goes-frame, going-length}
 use Rattle.runs.specs.Cutting.{Cut, Spot, begin, cutting_by, spot_frame, cut_at, All, nothing_cut}
-use Rattle.runs.specs.Along.{Steps, along}
-use Rattle.runs.specs.Entries.{run-count, run-entry, all-at}
-use Rattle.runs.specs.Crossing.{lies_whole}
-use Rattle.runs.specs.Forward.{Kept, frame-going, frame-roomy, frame-steps}
+use Rattle.runs.proofs.Along.{Steps, along}
+use Rattle.runs.proofs.Entries.{run-count, run-entry, all-at}
+use Rattle.runs.proofs.Crossing.{lies_whole}
+use Rattle.runs.proofs.Forward.{Kept, frame-going, frame-roomy, frame-steps}
 use Rattle.runs.specs.Scratches.{distance_self}
-use Rattle.editions.specs.InTable.{judge-small}
-use Rattle.editions.specs.EventRecord.{event-small}
-use Rattle.editions.specs.Demand3.{answer-in}
+use Rattle.editions.proofs.InTable.{judge-small}
+use Rattle.editions.proofs.EventRecord.{event-small}
+use Rattle.editions.proofs.Demand3.{answer-in}
 use Rattle.promises.specs.Called.{part, Called, one-called, one-events-called, told-answers, event-told-answers}
 
 -- ---- a record of a drain, at its own tail

@@ -5,14 +5,14 @@ use Rattle.std.proofs.Common.{sym, ap, ◌∙◌, subst, arith}
 use Rattle.meaning.specs.declared.Event.{Event}
 use Rattle.meaning.specs.Editions.{editions, allowed}
 use Rattle.meaning.specs.Events.{sound}
-use Rattle.runs.specs.Streams.{joined}
+use Rattle.runs.proofs.Streams.{joined}
 use Rattle.salvage.specs.declared.Salvaged.{Salvaged}
 use Rattle.salvage.specs.Salvage.{pieces, kept_records, output, holes, dropped, changes, salvage_answer, tells, table_unready, table_judge, salvage_told, salvage_out, salvage_list}
-use Rattle.salvage.specs.Steps.{AllAccepted}
-use Rattle.salvage.specs.Holes.{Spaced, without}
-use Rattle.salvage.specs.Cover as cover
-use Rattle.salvage.specs.Promises as laws
-use Rattle.salvage.specs.Turns.{unready-2, unready-11, unready-0, answer-before, answer-54, answer-0}
+use Rattle.salvage.proofs.Steps.{AllAccepted}
+use Rattle.salvage.proofs.Holes.{Spaced, without}
+use Rattle.salvage.proofs.Cover as cover
+use Rattle.salvage.proofs.Promises as laws
+use Rattle.salvage.proofs.Turns.{unready-2, unready-11, unready-0, answer-before, answer-54, answer-0}
 
 module _ (limit e : ℕ) (es : List Event) (xs : List ℕ) where
   abbrev judge : List ℕ → ℕ

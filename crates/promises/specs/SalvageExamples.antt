@@ -8,7 +8,7 @@ use Rattle.meaning.specs.Editions.{editions, known, outside, bits, depends, unre
 use Rattle.meaning.specs.Records.{layout, kind_of, misc_of, size_of, room_shape, room, fields_of, closed, fields_answer, judge}
 use Rattle.meaning.specs.Events.{attributes_of, distinct, all_marked, event_limit, sound, identifier_of, index_of, judge_events}
 use Rattle.entries.specs.Entries.{entry_bytes}
-use Rattle.runs.specs.Streams.{joined}
+use Rattle.runs.proofs.Streams.{joined}
 use Rattle.salvage.specs.declared.Salvaged.{Salvaged}
 use Rattle.salvage.specs.Salvage.{keeps, step, pieces, kept_in, output, Run, run, join, holes_in, holes, dropped, changes, salvage_answer, list_after, tells, salvaged, salvage_told, salvage_list, table_judge}
 

@@ -16,10 +16,10 @@ use Rattle.settings.specs.declared.Version.{Version}
 use Rattle.settings.specs.Versions.{one, versions, version_of, is_known}
 use Rattle.settings.specs.Reading.{shown, count_of, rows_of, refused, read_store, rows_after}
 use Rattle.settings.specs.Writing.{writes, store_bytes, write_rows, write_store, buffer_after}
-use Rattle.settings.specs.Turns.{kept_rows, Words}
-use Rattle.settings.specs.Only.{rows-length, accepted}
-use Rattle.settings.specs.Back.{settings, old-build, kept-identifiers, kept-attributes}
-use Rattle.settings.specs.Promises as store
+use Rattle.settings.proofs.Turns.{kept_rows, Words}
+use Rattle.settings.proofs.Only.{rows-length, accepted}
+use Rattle.settings.proofs.Back.{settings, old-build, kept-identifiers, kept-attributes}
+use Rattle.settings.proofs.Promises as store
 
 -- ---- "Write the table, ring length, edition and budget into lent bytes, and read them back"
 

@@ -8,8 +8,8 @@ use Rattle.laws.specs.Rows.{Passed, no_zero, first-passed, first-no, first-none}
 use Rattle.settings.specs.Versions.{one, versions, version_of}
 use Rattle.settings.specs.Reading.{read_store}
 use Rattle.settings.specs.Writing.{writes, store_bytes, write_rows, write_answer, write_store}
-use Rattle.settings.specs.Turns.{Words}
-use Rattle.settings.specs.Promises as store
+use Rattle.settings.proofs.Turns.{Words}
+use Rattle.settings.proofs.Promises as store
 use Rattle.promises.specs.Checked.{foremost, first-exactly}
 use Rattle.promises.specs.Exactly.{numbers_of}
 

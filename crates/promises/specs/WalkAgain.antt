@@ -24,15 +24,15 @@ use Rattle.laws.specs.Bytes.{apart}
 use Rattle.laws.specs.Rows.{passed}
 use Rattle.laws.specs.Rings.{stop_rows, frame-rows, goes-frame, going-length, distance-moved}
 use Rattle.runs.specs.Cutting.{Cut, Spot, Cuts, begin, add, spot_frame, cut_at, spot_after, cut_by, cutting_by, total, nothing_cut, end_of}
-use Rattle.runs.specs.Runs.{cut-go, cut-stop, run-cut}
-use Rattle.runs.specs.Along.{Steps, along}
-use Rattle.runs.specs.Crossing.{lies_whole}
-use Rattle.runs.specs.Forward.{Kept, Shaped, frame-going, frame-roomy, frame-paid, frame-steps}
+use Rattle.runs.proofs.Runs.{cut-go, cut-stop, run-cut}
+use Rattle.runs.proofs.Along.{Steps, along}
+use Rattle.runs.proofs.Crossing.{lies_whole}
+use Rattle.runs.proofs.Forward.{Kept, Shaped, frame-going, frame-roomy, frame-paid, frame-steps}
 use Rattle.runs.specs.Scratches.{distance_self}
 use Rattle.backward.specs.Promise.{walk_cuts}
 use Rattle.backward.specs.Frames.{back-goes, back-roomy}
-use Rattle.backward.specs.Walks.{BackStands, stands-first, stands_on, walk-walks}
-use Rattle.backward.specs.Twin.{round_from, twin-there, twin-back}
+use Rattle.backward.proofs.Walks.{BackStands, stands-first, stands_on, walk-walks}
+use Rattle.backward.proofs.Twin.{round_from, twin-there, twin-back}
 use Rattle.promises.specs.Reread.{Reread, entry-reread, event-entry-reread}
 
 -- ---- two ways of cutting, alike: the same records, and the same spot at the end

@@ -19,7 +19,7 @@ use Rattle.writer.specs.Writer.{write_words_answer, write_words_buffer}
 use Rattle.laws.specs.Bytes.{apart, and-true}
 use Rattle.laws.specs.Rows.{gives, before, Passed, stopped-reason, first-passed, first_stops}
 use Rattle.laws.specs.Answer42.{bytes_of, passes, accepted, buffer-holds, buffer-kept, flagged-43}
-use Rattle.editions.specs.OneRecord.{first_else}
+use Rattle.editions.proofs.OneRecord.{first_else}
 use Rattle.promises.specs.Checked.{foremost, first-exactly}
 use Rattle.promises.specs.Exported.{few, few-buffer, write-accepted, holds-record}
 

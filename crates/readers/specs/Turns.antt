@@ -76,13 +76,6 @@ module _ (T : Type 0) (drain : T → Lent → ℕ → End) where
       ap (λ (x : List End). drain t l r.second ∷ x) (second-as-alone ts t (readers_at r.first (drain t l r.second).state.tail))
   second-as-alone (table-replaced u ∷ ts) t r = second-as-alone ts u r
 
-  -- so another tail of the other reader changes nothing
-  pub first-by-itself : (ts : List (Turn T)) (t : T) (tail other other' : ℕ) → (turns t (readers_at tail other) ts).first ≡ (turns t (readers_at tail other') ts).first
-  first-by-itself ts t tail other other' = first-as-alone ts t (readers_at tail other) ∙ sym (first-as-alone ts t (readers_at tail other'))
-
-  pub second-by-itself : (ts : List (Turn T)) (t : T) (tail other other' : ℕ) → (turns t (readers_at other tail) ts).second ≡ (turns t (readers_at other' tail) ts).second
-  second-by-itself ts t tail other other' = second-as-alone ts t (readers_at other tail) ∙ sym (second-as-alone ts t (readers_at other' tail))
-
   -- "both see the new one from their next drain"
   pub both-see-it : (ts : List (Turn T)) (t u : T) (r : Readers) → turns t r (table-replaced u ∷ ts) ≡ turns u r ts
   unfolding turns

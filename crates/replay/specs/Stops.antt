@@ -12,9 +12,10 @@ use Rattle.meaning.specs.Records.{size_of}
 use Rattle.meaning.specs.Ring.{asking, length_allowed, distance, record_at, whole, stop_at, go_at, stopped, size_rows, sized, frame}
 use Rattle.laws.specs.Rows.{stopped-passed}
 use Rattle.laws.specs.Numbers.{size_is}
-use Rattle.laws.specs.Rings.{length-bounds, header-whole, record-number, record-length, distance_self, distance_none}
+use Rattle.laws.specs.Rings.{length-bounds, record-number, record-length, distance_self, distance_none}
+use Rattle.laws.proofs.Framing.{header-whole}
 use Rattle.runs.specs.Cutting.{framed}
-use Rattle.runs.specs.Streams.{framed-says, framed-size}
+use Rattle.runs.proofs.Streams.{framed-says, framed-size}
 
 and_no : (a b : Bool) → b ≡ false → (a && b) ≡ false
 and_no true b e = e

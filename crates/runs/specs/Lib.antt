@@ -1,10 +1,3 @@
 pub mod Cutting
-pub mod Runs
-pub mod Entries
-pub mod Along
 pub mod Scratches
-pub mod Crossing
-pub mod Forward
-pub mod Turns
 pub mod Enough
-pub mod Streams

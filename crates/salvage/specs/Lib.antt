@@ -1,7 +1,2 @@
 pub mod Salvage
 pub mod Walks
-pub mod Steps
-pub mod Holes
-pub mod Cover
-pub mod Promises
-pub mod Turns

@@ -9,7 +9,7 @@ use Rattle.meaning.specs.Events.{sound, judge_events}
 use Rattle.meaning.specs.Records.{size_of}
 use Rattle.meaning.specs.Refusals.{refusal, first, or_else}
 use Rattle.entries.specs.Entries.{entry_bytes}
-use Rattle.runs.specs.Streams.{joined}
+use Rattle.runs.proofs.Streams.{joined}
 use Rattle.salvage.specs.declared.Salvaged.{Salvaged}
 
 -- ---- the steps

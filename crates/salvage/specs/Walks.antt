@@ -1,7 +1,7 @@
 -- The salvage as it is walked, in two passes: the first measures, the second writes. Assumes nothing: these are definitions.
 use Rattle.std.specs.Prelude.{◌≡◌, ℕ, ◌+◌, ◌-◌, ◌*◌, ◌≤◌, cond, List, ltb, eqb, length, take, drop}
 use Rattle.meaning.specs.Bytes.{put}
-use Rattle.runs.specs.Streams.{joined}
+use Rattle.runs.proofs.Streams.{joined}
 use Rattle.salvage.specs.declared.Walk.{Walk}
 use Rattle.salvage.specs.Salvage.{Piece, pieces, kept_in, output, Run, run, join, holes_in, holes, hole_bytes, changes}
 

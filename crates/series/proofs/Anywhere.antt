@@ -8,9 +8,9 @@ use Rattle.meaning.specs.Ring.{Asked, stop_at, frame}
 use Rattle.meaning.specs.Drain.{State, End, start, frame_at}
 use Rattle.laws.specs.Rings.{frame-stop, scratch-length}
 use Rattle.runs.specs.Cutting.{Cut, Cuts, begin, halt, entries, Chained}
-use Rattle.runs.specs.Runs.{cut-stop, entries-append}
-use Rattle.runs.specs.Forward.{frame-paid}
-use Rattle.runs.specs.Enough.{run_ends}
+use Rattle.runs.proofs.Runs.{cut-stop, entries-append}
+use Rattle.runs.proofs.Forward.{frame-paid}
+use Rattle.runs.proofs.Enough.{run_ends}
 use Rattle.series.specs.Series.{Step, Given, drain_at, entries_of, from, series, series_to, reach, Steady, one_drain, Same, GoesOn}
 use Rattle.series.proofs.Goings.{reach-most}
 use Rattle.series.proofs.Stops.{lasting, stop-eight, stop-again, nothing-again, staying, stop-later}

@@ -10,8 +10,8 @@ use Rattle.meaning.specs.Drain.{End}
 use Rattle.laws.specs.Put.{put-start}
 use Rattle.laws.specs.Rings.{scratch-length}
 use Rattle.runs.specs.Cutting.{Cut, Spot, Cuts, add, spot_frame, cut_at, spot_after, halt, cut_by, cutting_by, entries, total, Chained, All}
-use Rattle.runs.specs.Runs.{run-cut, cut_fits, cut-go, cut-stop, length-entries}
-use Rattle.runs.specs.Forward.{frame-paid, frame-roomy}
+use Rattle.runs.proofs.Runs.{run-cut, cut_fits, cut-go, cut-stop, length-entries}
+use Rattle.runs.proofs.Forward.{frame-paid, frame-roomy}
 use Rattle.series.specs.Series.{Step, drain_at, entries_of}
 use Rattle.series.proofs.Goings.{There, there-frame}
 

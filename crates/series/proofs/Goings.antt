@@ -9,7 +9,8 @@ use Rattle.meaning.specs.Bytes.{number_at}
 use Rattle.meaning.specs.Ring.{Asked, length_allowed, distance, record_at, go_at, frame}
 use Rattle.laws.specs.Bytes.{le-or-lt}
 use Rattle.laws.specs.Put.{part_of}
-use Rattle.laws.specs.Rings.{Goes, goes-frame, frame-going, length-bounds, place-moves, header-whole, record-number, distance-on, apart-counts}
+use Rattle.laws.specs.Rings.{Goes, goes-frame, length-bounds, place-moves, record-number, distance-on, apart-counts}
+use Rattle.laws.proofs.Framing.{frame-going, header-whole}
 use Rattle.series.specs.Series.{Step, reach, between}
 
 -- ---- a record that is there: a budget of one and the room of one entry suffice for it

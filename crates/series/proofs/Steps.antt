@@ -8,9 +8,9 @@ use Rattle.meaning.specs.declared.Frame.{Frame}
 use Rattle.meaning.specs.Ring.{Asked, length_allowed, distance, frame, record_at}
 use Rattle.laws.specs.Rings.{length-bounds, frame-stop, going-length, record-length, scratch-length, distance-on}
 use Rattle.runs.specs.Cutting.{Cut, Spot, begin, spot_frame, cut_at, entries, Chained, All}
-use Rattle.runs.specs.Runs.{entries-append, chained-on, all_append}
-use Rattle.runs.specs.Along.{Steps as Stepping, along}
-use Rattle.runs.specs.Forward.{frame-paid, frame-roomy, frame-going}
+use Rattle.runs.proofs.Runs.{entries-append, chained-on, all_append}
+use Rattle.runs.proofs.Along.{Steps as Stepping, along}
+use Rattle.runs.proofs.Forward.{frame-paid, frame-roomy, frame-going}
 use Rattle.series.specs.Series.{Step, Given, from, drain_at, entries_of, onward, series, reach, Stays, Steady}
 use Rattle.series.proofs.Goings.{There, frame-there, there-later, between-part, reach_near, reach-past, reach-most}
 use Rattle.series.proofs.Chains.{Link, total-low, step_cuts, drain-reads}

@@ -9,7 +9,8 @@ use Rattle.meaning.specs.Editions.{is_in}
 use Rattle.meaning.specs.Ring.{Asked, length_allowed, distance, record_at, stop_at, go_at, stopped, size_rows, sized, call_rows, left_rows, frame}
 use Rattle.laws.specs.Bytes.{apart}
 use Rattle.laws.specs.Rows.{or-false, every, in-each, others, Passed, passed-by, passed-others, quiet-passed, stopped-yes, stopped-no, stopped-append, stopped-passed}
-use Rattle.laws.specs.Rings.{header-whole, record-number, apart-counts}
+use Rattle.laws.specs.Rings.{record-number, apart-counts}
+use Rattle.laws.proofs.Framing.{header-whole}
 
 -- ---- a stop with a number that no row of these has: they were passed
 abbrev numbered : List Refusal → ℕ → Bool

@@ -21,7 +21,7 @@ use Rattle.laws.specs.There.{item}
 use Rattle.laws.specs.Again.{fine, stepped, ItemPassed, item-passed, outcome}
 use Rattle.blocks.specs.Seen.{walk-append}
 use Rattle.blocks.specs.Steady.{steady, total, steady-in, steady-out}
-use Rattle.compare.specs.Pairs.{same_bytes_lem}
+use Rattle.compare.proofs.Pairs.{same_bytes_lem}
 use Rattle.twins.specs.Twins.{Abreast, Read, Twins}
 use Rattle.same_parts.specs.Parts.{same_span, same_but_four, name_same}
 

@@ -6,7 +6,8 @@ use Rattle.meaning.specs.declared.Attributes.{Attributes}
 use Rattle.meaning.specs.Schema.{schema, trailer}
 use Rattle.table.specs.Rows.{all_rows, field_rows}
 use Rattle.table.specs.declared.Part.{Part}
-use Rattle.table.specs.Same.{LaidOut, trailer-rows}
+use Rattle.table.specs.Same.{LaidOut}
+use Rattle.table.proofs.Same.{trailer-rows}
 use Rattle.writer_parts.specs.Parts.{items_from, Lays}
 
 pub body-lays : (a : Attributes) (kind misc : ℕ) (q : Part) → LaidOut kind q

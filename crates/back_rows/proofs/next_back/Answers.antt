@@ -2,7 +2,8 @@
 use Rattle.std.proofs.Common.{◌≡◌, sym, ◌∙◌, arith, eq-eqb, ne_eqb}
 use Rattle.meaning.specs.Ring.{stopped}
 use Rattle.meaning.specs.Backward.{back_frame}
-use Rattle.laws.specs.Rings.{length-bounds, header-whole}
+use Rattle.laws.specs.Rings.{length-bounds}
+use Rattle.laws.proofs.Framing.{header-whole}
 use Rattle.back_rows.proofs.next_back.Goals as goal
 
 pub returns-then-not-length_allowed : goal.returns-then-not-length_allowed

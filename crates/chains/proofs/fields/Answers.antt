@@ -8,7 +8,6 @@ use Prim.Native.Nat.{ℕ, ◌≤◌}
 use Rattle.meaning.specs.Schema.{schema, schemas}
 use Rattle.fills.specs.Chains.{ready-as, filling-as}
 use Rattle.chains.proofs.Nothing.{nothing}
-use borrow.Author.Rules.{rules}
 use Rattle.chains.proofs.fields.Goals as goal
 
 pub mmap-requires : goal.mmap-requires

@@ -20,8 +20,8 @@ mmap2_3-requires c = (next (lists.mmap2-2 c.args.misc) (lists.mmap2-3 c.args.mis
 
 pub shape_of-out : goal.shape_of-out
 unfolding tell width
-shape_of-out c = long ((last (next (lists.mmap2-2 c.args.misc) (lists.mmap2-3 c.args.misc) (next lists.mmap2-1 ((lists.mmap2-2 c.args.misc) ++ ((lists.mmap2-3 c.args.misc))) (start c.requires) c.mmap2_1-c0.ensures) c.mmap2_2-c1.ensures) c.mmap2_3.ensures))
+shape_of-out c = long (last (next (lists.mmap2-2 c.args.misc) (lists.mmap2-3 c.args.misc) (next lists.mmap2-1 ((lists.mmap2-2 c.args.misc) ++ ((lists.mmap2-3 c.args.misc))) (start c.requires) c.mmap2_1-c0.ensures) c.mmap2_2-c1.ensures) c.mmap2_3.ensures)
 
 pub returns : goal.returns
 unfolding tell width
-returns c = (last (next (lists.mmap2-2 c.args.misc) (lists.mmap2-3 c.args.misc) (next lists.mmap2-1 ((lists.mmap2-2 c.args.misc) ++ ((lists.mmap2-3 c.args.misc))) (start c.requires) c.mmap2_1-c0.ensures) c.mmap2_2-c1.ensures) c.mmap2_3.ensures)
+returns c = last (next (lists.mmap2-2 c.args.misc) (lists.mmap2-3 c.args.misc) (next lists.mmap2-1 ((lists.mmap2-2 c.args.misc) ++ ((lists.mmap2-3 c.args.misc))) (start c.requires) c.mmap2_1-c0.ensures) c.mmap2_2-c1.ensures) c.mmap2_3.ensures

@@ -3,7 +3,6 @@
 use mathlib.Core.Path.{refl}
 use Rattle.meaning.specs.Values.{tell}
 use Rattle.fills.specs.Chains.{start, done, long, head₁, next₁}
-use borrow.Author.Rules.{rules}
 use Rattle.chains.proofs.mmap2_3.Goals as goal
 
 pub ignored-c0-requires : goal.ignored-c0-requires

@@ -15,8 +15,8 @@ read_2-requires c = (next (lists.read-1 c.args.f) (lists.read-2 c.args.f) (start
 
 pub shape_of-out : goal.shape_of-out
 unfolding tell width
-shape_of-out c = long ((last (next (lists.read-1 c.args.f) (lists.read-2 c.args.f) (start c.requires) c.read_1-c0.ensures) c.read_2.ensures))
+shape_of-out c = long (last (next (lists.read-1 c.args.f) (lists.read-2 c.args.f) (start c.requires) c.read_1-c0.ensures) c.read_2.ensures)
 
 pub returns : goal.returns
 unfolding tell width
-returns c = (last (next (lists.read-1 c.args.f) (lists.read-2 c.args.f) (start c.requires) c.read_1-c0.ensures) c.read_2.ensures)
+returns c = last (next (lists.read-1 c.args.f) (lists.read-2 c.args.f) (start c.requires) c.read_1-c0.ensures) c.read_2.ensures

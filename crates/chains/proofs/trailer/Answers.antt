@@ -15,8 +15,8 @@ trailer_2-requires c = (next (lists.trailer-1 c.args.x) (lists.trailer-2 c.args.
 
 pub shape_of-out : goal.shape_of-out
 unfolding tell width
-shape_of-out c = long ((last (next (lists.trailer-1 c.args.x) (lists.trailer-2 c.args.x) (start c.requires) c.trailer_1-c0.ensures) c.trailer_2.ensures))
+shape_of-out c = long (last (next (lists.trailer-1 c.args.x) (lists.trailer-2 c.args.x) (start c.requires) c.trailer_1-c0.ensures) c.trailer_2.ensures)
 
 pub returns : goal.returns
 unfolding tell width
-returns c = (last (next (lists.trailer-1 c.args.x) (lists.trailer-2 c.args.x) (start c.requires) c.trailer_1-c0.ensures) c.trailer_2.ensures)
+returns c = last (next (lists.trailer-1 c.args.x) (lists.trailer-2 c.args.x) (start c.requires) c.trailer_1-c0.ensures) c.trailer_2.ensures

@@ -2,7 +2,6 @@
 -- Written by tools/chains.py from the rows of crate table.
 use Rattle.meaning.specs.Values.{tell}
 use Rattle.fills.specs.Chains.{start, done, long, head₁, next₁}
-use borrow.Author.Rules.{rules}
 use Rattle.chains.proofs.trailer_2.Goals as goal
 
 pub number8-c0-requires : goal.number8-c0-requires

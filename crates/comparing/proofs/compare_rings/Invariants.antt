@@ -5,13 +5,15 @@ use Rattle.meaning.specs.Editions.{editions, known, allowed}
 use Rattle.meaning.specs.Ring.{asking_with, frame, record_at, shown}
 use Rattle.meaning.specs.Events.{events_of, asked_events}
 use Rattle.laws.specs.Bytes.{and-true}
-use Rattle.laws.specs.Matched.{sound-marked, going-sound}
-use Rattle.laws.specs.Rings.{Going, frame-going, shown-record, scratch-length}
+use Rattle.laws.specs.Matched.{sound-marked}
+use Rattle.laws.proofs.Refused.{going-sound}
+use Rattle.laws.specs.Rings.{Going, shown-record, scratch-length}
+use Rattle.laws.proofs.Framing.{frame-going}
 use Rattle.runs.specs.Cutting.{framed}
-use Rattle.runs.specs.Forward.{going-framed}
+use Rattle.runs.proofs.Forward.{going-framed}
 use Rattle.compare.specs.Fields.{Reads, fields}
 use Rattle.compare.specs.Compared.{alike, agree, event_reads}
-use Rattle.compare.specs.Here.{Here, PairOf, here-start, here-ends, here-pair, here-same, ensured-same}
+use Rattle.compare.proofs.Here.{Here, PairOf, here-start, here-ends, here-pair, here-same, ensured-same}
 use Rattle.pair_fields.specs.Inner.{FieldsStand, to_go}
 use Rattle.laws.specs.Numbers.{small_of}
 use Rattle.pair_fields.specs.Fields.{stands_on, stands-ended, stands-other}

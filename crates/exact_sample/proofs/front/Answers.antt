@@ -12,17 +12,10 @@ use Rattle.blocks.specs.Seen.{Ends}
 use Rattle.blocks.specs.Steady.{steady, total}
 use Rattle.blocks.specs.Blocks.{counted_place}
 use Rattle.exact.specs.Stretches.{groups, group_fixed, group-bound, unit-bound, front-stuck, front-plain, front-group}
-use Rattle.exact_sample.proofs.front.Tie as tie
-use Rattle.exact_sample.proofs.front.Lts as lts
-use Rattle.exact_sample.proofs.front.Reads as reads
 use Rattle.exact_sample.proofs.front.Goals as goal
 
--- what the sum leaves of any fields that it is the sum of
-summed : (c : lts.After-sum tie.the-claims reads.Pre reads.Post tie.handed_clauses) (is : List Item) → steady is ≡ true → total is ≡ get_or c.args.sums.now 1 0 → Ends c.args.s.now is 8 c.sum-c.result
-summed c is f e = (c.sum-c.ensures.leaves is f e, c.sum-c.ensures.at_in_bounds)
-
 pub returns-then-c-ne0 : goal.returns-then-c-ne0
-returns-then-c-ne0 c = front-stuck c.args.s.now c.args.a _ c.requires.sums.first _ (summed c.before.before.before) c.if-c-ne0.true
+returns-then-c-ne0 c = front-stuck c.args.s.now c.args.a _ c.requires.sums.first _ (λ is f e. (c.sum-c.ensures.leaves is f e, c.sum-c.ensures.at_in_bounds)) c.if-c-ne0.true
 
 pub elements-requires : goal.elements-requires
 elements-requires c =
@@ -37,15 +30,15 @@ returns-then-has_bit-2 c =
     let f = c.args.a.format in
     let p = c.sum-c.result in
     let g : groups c.args.a ≡ true = ap₂ ◌&&◌ (sym c.has_bit.ensures ∙ c.if-has_bit.true) (sym c.has_bit-then-has_bit.ensures ∙ c.if-has_bit-2.true) in
-    front-group xs c.args.a _ c.requires.sums.first p (summed c.before.before.before.before.before.before.before.before.before.before) g c.if-c-ne0.false _
+    front-group xs c.args.a _ c.requires.sums.first p (λ is f e. (c.sum-c.ensures.leaves is f e, c.sum-c.ensures.at_in_bounds)) g c.if-c-ne0.false _
     (c.elements.ensures ∙ ap (λ (k : ℕ). counted_place xs p.at k c.unit-unit.result) c.requires.sums.group ∙ ap (counted_place xs p.at (group_fixed f)) c.unit-unit.ensures)
 
 pub returns-else-has_bit-2 : goal.returns-else-has_bit-2
 returns-else-has_bit-2 c =
     let g : groups c.args.a ≡ false = ap₂ ◌&&◌ (sym c.has_bit.ensures ∙ c.if-has_bit.true) (sym c.has_bit-then-has_bit.ensures ∙ c.if-has_bit-2.false) in
-    front-plain c.args.s.now c.args.a _ c.requires.sums.first _ (summed c.before.before.before.before.before.before.before) g
+    front-plain c.args.s.now c.args.a _ c.requires.sums.first _ (λ is f e. (c.sum-c.ensures.leaves is f e, c.sum-c.ensures.at_in_bounds)) g
 
 pub returns-else-has_bit : goal.returns-else-has_bit
 returns-else-has_bit c =
     let g : groups c.args.a ≡ false = ap (λ (x : Bool). x && bit c.args.a.format 3) (sym c.has_bit.ensures ∙ c.if-has_bit.false) in
-    front-plain c.args.s.now c.args.a _ c.requires.sums.first _ (summed c.before.before.before.before.before) g
+    front-plain c.args.s.now c.args.a _ c.requires.sums.first _ (λ is f e. (c.sum-c.ensures.leaves is f e, c.sum-c.ensures.at_in_bounds)) g

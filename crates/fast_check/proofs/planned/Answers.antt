@@ -7,17 +7,10 @@ use Rattle.meaning.specs.declared.Known.{Known}
 use Rattle.meaning.specs.Records.{layout, judge}
 use Rattle.reader.specs.Laws.{Headed, headed}
 use Rattle.marks.specs.Marks.{last_type, kinds-most}
-use Rattle.fast_check.proofs.planned.Tie as tie
-use Rattle.fast_check.proofs.planned.Lts as lts
-use Rattle.fast_check.proofs.planned.Reads as reads
 use Rattle.fast_check.proofs.planned.Goals as goal
 
--- the header of a record that has one
-whole : (c : lts.After-read_header tie.the-claims reads.Pre reads.Post tie.handed_clauses) → Headed c.args.r.now c.read_header-h.result
-whole c = headed _ _ c.read_header-h.ensures c.requires.in_bounds
-
 pub sampled-requires : goal.sampled-requires
-sampled-requires c = record { in_bounds = c.requires.in_bounds; r_len_bound = c.requires.r_len_bound; r_len = c.requires.r_len; kind_value = (whole c.before.before).kind-is; kind_value_2 = c.if-kind-eq9.true; }
+sampled-requires c = record { in_bounds = c.requires.in_bounds; r_len_bound = c.requires.r_len_bound; r_len = c.requires.r_len; kind_value = (headed _ _ c.read_header-h.ensures c.requires.in_bounds).kind-is; kind_value_2 = c.if-kind-eq9.true; }
 
 pub returns-then-kind-eq9 : goal.returns-then-kind-eq9
 returns-then-kind-eq9 c =
@@ -34,7 +27,7 @@ other-requires c =
     let t = c.trailer_room-trail.ensures in
     let l = t.1 in
     let m = c.other_mark-mark.ensures in
-    let z = c.if-kind-eq9.false in record { in_bounds = c.requires.in_bounds; r_len_bound = c.requires.r_len_bound; r_len = c.requires.r_len; kind_value = (whole c.before.before.before.before.before).kind-is; marked = m; trail_value = t.0; trail_le_trail_most = omega (arith, l); fixed_value = c.group_words.ensures; fact = λ e. z (m.stretched e).0; }
+    let z = c.if-kind-eq9.false in record { in_bounds = c.requires.in_bounds; r_len_bound = c.requires.r_len_bound; r_len = c.requires.r_len; kind_value = (headed _ _ c.read_header-h.ensures c.requires.in_bounds).kind-is; marked = m; trail_value = t.0; trail_le_trail_most = omega (arith, l); fixed_value = c.group_words.ensures; fact = λ e. z (m.stretched e).0; }
 
 pub returns : goal.returns
 returns c =

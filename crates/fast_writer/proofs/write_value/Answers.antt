@@ -4,25 +4,28 @@ use Rattle.meaning.specs.declared.Known.{Known}
 use Rattle.meaning.specs.Editions.{editions, known, unreadable}
 use Rattle.writer.specs.Answers.{answers-unknown, answers-43, answers-known}
 use borrow.Author.Rules.{rules}
-use Rattle.fast_writer.proofs.write_value.Tie as tie
-use Rattle.fast_writer.proofs.write_value.Lts as lts
-use Rattle.fast_writer.proofs.write_value.Reads as reads
 use Rattle.fast_writer.proofs.write_value.Goals as goal
-
-why-is : (c : lts.After-unreadable tie.the-claims reads.Pre reads.Post tie.handed_clauses) → c.unreadable-why.result ≡ unreadable (known editions c.args.e) c.args.a c.word-kind.result c.word-misc.result
-why-is c = c.unreadable-why.ensures ∙ ap (λ (k : Known). unreadable k c.args.a c.word-kind.result c.word-misc.result) c.edition.ensures
 
 pub returns-then-why-ne0 : goal.returns-then-why-ne0
 returns-then-why-ne0 c =
-    let a = c.args in let old : _ × _ = answers-unknown a.e a.a a.source.now a.ws.now a.buffer.now c.requires.0 c.word-kind.result c.word-misc.result
-    c.word-kind.ensures c.word-misc.ensures c.unreadable-why.result (why-is c.before.before) c.if-why-ne0.true in record { value = old.0; buffer_after = old.1; }
+    let a = c.args in
+    let why-is = c.unreadable-why.ensures ∙ ap (λ (k : Known). unreadable k a.a c.word-kind.result c.word-misc.result) c.edition.ensures in
+    let old : _ × _ = answers-unknown a.e a.a a.source.now a.ws.now a.buffer.now c.requires.0 c.word-kind.result c.word-misc.result
+    c.word-kind.ensures c.word-misc.ensures c.unreadable-why.result why-is c.if-why-ne0.true in
+    record { value = old.0; buffer_after = old.1; }
 
 pub returns-then-flag_set : goal.returns-then-flag_set
 returns-then-flag_set c =
-    let a = c.args in let old : _ × _ = answers-43 a.e a.a a.source.now a.ws.now a.buffer.now c.requires.0 c.word-kind.result c.word-misc.result
-    c.word-kind.ensures c.word-misc.ensures c.unreadable-why.result (why-is c.before.before.before.before) c.if-why-ne0.false c.flag_set.result c.flag_set.ensures c.if-flag_set.true in record { value = old.0; buffer_after = old.1; }
+    let a = c.args in
+    let why-is = c.unreadable-why.ensures ∙ ap (λ (k : Known). unreadable k a.a c.word-kind.result c.word-misc.result) c.edition.ensures in
+    let old : _ × _ = answers-43 a.e a.a a.source.now a.ws.now a.buffer.now c.requires.0 c.word-kind.result c.word-misc.result
+    c.word-kind.ensures c.word-misc.ensures c.unreadable-why.result why-is c.if-why-ne0.false c.flag_set.result c.flag_set.ensures c.if-flag_set.true in
+    record { value = old.0; buffer_after = old.1; }
 
 pub returns : goal.returns
 returns c =
-    let a = c.args in let old : _ × _ = answers-known a.e a.a a.source.now a.ws.now a.buffer.now c.requires.0 c.word-kind.result c.word-misc.result
-    c.word-kind.ensures c.word-misc.ensures c.unreadable-why.result (why-is c.before.before.before.before.before.before.before.before) c.if-why-ne0.false c.flag_set.result c.flag_set.ensures c.if-flag_set.false _ _ (c.write_known.ensures.value, c.write_known.ensures.buffer_after) in record { value = old.0; buffer_after = old.1; }
+    let a = c.args in
+    let why-is = c.unreadable-why.ensures ∙ ap (λ (k : Known). unreadable k a.a c.word-kind.result c.word-misc.result) c.edition.ensures in
+    let old : _ × _ = answers-known a.e a.a a.source.now a.ws.now a.buffer.now c.requires.0 c.word-kind.result c.word-misc.result
+    c.word-kind.ensures c.word-misc.ensures c.unreadable-why.result why-is c.if-why-ne0.false c.flag_set.result c.flag_set.ensures c.if-flag_set.false _ _ (c.write_known.ensures.value, c.write_known.ensures.buffer_after) in
+    record { value = old.0; buffer_after = old.1; }

@@ -4,8 +4,8 @@ use mathlib.Core.Path.{sym, ap}
 use Prim.Native.Nat.{ℕ}
 use Rattle.meaning.specs.Schema.{schema}
 use Rattle.write_fits.specs.Steps.{tried-as, tried-none}
-use Rattle.layouts.specs.Types.{no-type}
 use borrow.Author.Rules.{rules}
+use Rattle.layouts.specs.Types.{no-type}
 use Rattle.fit_chains.proofs.fields.Goals as goal
 
 pub returns-in-0 : goal.returns-in-0

@@ -14,4 +14,4 @@ number-requires c = (c.number-c0.ensures.place, omega (arith, c.requires.1))
 
 pub returns : goal.returns
 unfolding tell width
-returns c = (tried-next refl (tried-next refl (tried-none c.requires.0) c.number-c0.ensures) c.number.ensures)
+returns c = tried-next refl (tried-next refl (tried-none c.requires.0) c.number-c0.ensures) c.number.ensures

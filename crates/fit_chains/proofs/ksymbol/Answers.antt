@@ -23,4 +23,4 @@ name-requires c = (c.number-c3.ensures.place, omega (arith, c.requires.1))
 
 pub returns : goal.returns
 unfolding tell width
-returns c = (tried-next refl (tried-next refl (tried-next refl (tried-next refl (tried-next refl (tried-none c.requires.0) c.number-c0.ensures) c.number-c1.ensures) c.number-c2.ensures) c.number-c3.ensures) c.name.ensures)
+returns c = tried-next refl (tried-next refl (tried-next refl (tried-next refl (tried-next refl (tried-none c.requires.0) c.number-c0.ensures) c.number-c1.ensures) c.number-c2.ensures) c.number-c3.ensures) c.name.ensures

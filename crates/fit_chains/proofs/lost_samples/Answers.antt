@@ -11,4 +11,4 @@ number-requires c = (c.requires.0, omega (arith, c.requires.1))
 
 pub returns : goal.returns
 unfolding tell width
-returns c = (tried-next refl (tried-none c.requires.0) c.number.ensures)
+returns c = tried-next refl (tried-none c.requires.0) c.number.ensures

@@ -15,4 +15,4 @@ mmap2_3-requires c = (c.mmap2_2-c1.ensures.place, c.requires.1)
 
 pub returns : goal.returns
 unfolding tell width
-returns c = (tried_then (tried_then (tried_then (tried-none c.requires.0) c.mmap2_1-c0.ensures) c.mmap2_2-c1.ensures) c.mmap2_3.ensures)
+returns c = tried_then (tried_then (tried_then (tried-none c.requires.0) c.mmap2_1-c0.ensures) c.mmap2_2-c1.ensures) c.mmap2_3.ensures

@@ -4,7 +4,6 @@ use mathlib.Core.Path.{refl}
 use native.Mathlib.Omega.{arith}
 use Rattle.meaning.specs.Values.{tell, width}
 use Rattle.write_fits.specs.Steps.{tried-none, tried-next}
-use borrow.Author.Rules.{rules}
 use Rattle.fit_chains.proofs.mmap2_3.Goals as goal
 
 pub ignored-c0-requires : goal.ignored-c0-requires
@@ -24,4 +23,4 @@ name-requires c = (c.number-c3.ensures.place, omega (arith, c.requires.1))
 
 pub returns : goal.returns
 unfolding tell width
-returns c = (tried-next refl (tried-next refl (tried-next refl (tried-next c.has_bit-2.ensures (tried-next c.has_bit.ensures (tried-none c.requires.0) c.ignored-c0.ensures) c.listed-c1.ensures) c.number-c2.ensures) c.number-c3.ensures) c.name.ensures)
+returns c = tried-next refl (tried-next refl (tried-next refl (tried-next c.has_bit-2.ensures (tried-next c.has_bit.ensures (tried-none c.requires.0) c.ignored-c0.ensures) c.listed-c1.ensures) c.number-c2.ensures) c.number-c3.ensures) c.name.ensures

@@ -20,4 +20,4 @@ times-requires c = (c.count-c2.ensures.place, omega (arith, c.requires.1), omega
 
 pub returns : goal.returns
 unfolding tell width
-returns c = (tried-next refl (tried-next refl (tried-next refl (tried-next refl (tried-none c.requires.0) c.number-c0.ensures) c.number-c1.ensures) c.count-c2.ensures) c.times.ensures)
+returns c = tried-next refl (tried-next refl (tried-next refl (tried-next refl (tried-none c.requires.0) c.number-c0.ensures) c.number-c1.ensures) c.count-c2.ensures) c.times.ensures

@@ -5,7 +5,6 @@ use mathlib.Core.Bool.{not}
 use native.Mathlib.Omega.{arith}
 use Rattle.meaning.specs.Values.{tell, width}
 use Rattle.write_fits.specs.Steps.{tried-none, tried-next}
-use borrow.Author.Rules.{rules}
 use Rattle.fit_chains.proofs.read_1.Goals as goal
 
 pub number-c0-requires : goal.number-c0-requires
@@ -25,4 +24,4 @@ number-requires c = (c.count-c3.ensures.place, omega (arith, c.requires.1))
 
 pub returns : goal.returns
 unfolding tell width
-returns c = (tried-next c.has_bit-3.ensures (tried-next c.has_bit-2.ensures (tried-next (ap not c.has_bit.ensures) (tried-next refl (tried-next refl (tried-none c.requires.0) c.number-c0.ensures) c.number-c1.ensures) c.number-c2.ensures) c.count-c3.ensures) c.number.ensures)
+returns c = tried-next c.has_bit-3.ensures (tried-next c.has_bit-2.ensures (tried-next (ap not c.has_bit.ensures) (tried-next refl (tried-next refl (tried-none c.requires.0) c.number-c0.ensures) c.number-c1.ensures) c.number-c2.ensures) c.count-c3.ensures) c.number.ensures

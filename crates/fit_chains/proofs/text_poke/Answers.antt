@@ -26,4 +26,4 @@ pad-requires c = c.times-c4.ensures.place
 
 pub returns : goal.returns
 unfolding tell width
-returns c = (tried-next refl (tried-next refl (tried-next refl (tried-next refl (tried-next refl (tried-next refl (tried-none c.requires.0) c.number-c0.ensures) c.count-c1.ensures) c.count-c2.ensures) c.earlier-c3.ensures) c.times-c4.ensures) c.pad.ensures)
+returns c = tried-next refl (tried-next refl (tried-next refl (tried-next refl (tried-next refl (tried-next refl (tried-none c.requires.0) c.number-c0.ensures) c.count-c1.ensures) c.count-c2.ensures) c.earlier-c3.ensures) c.times-c4.ensures) c.pad.ensures

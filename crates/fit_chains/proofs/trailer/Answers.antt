@@ -12,4 +12,4 @@ trailer_2-requires c = (c.trailer_1-c0.ensures.place, c.requires.1)
 
 pub returns : goal.returns
 unfolding tell width
-returns c = (tried_then (tried_then (tried-none c.requires.0) c.trailer_1-c0.ensures) c.trailer_2.ensures)
+returns c = tried_then (tried_then (tried-none c.requires.0) c.trailer_1-c0.ensures) c.trailer_2.ensures

@@ -3,7 +3,6 @@
 use native.Mathlib.Omega.{arith}
 use Rattle.meaning.specs.Values.{tell, width}
 use Rattle.write_fits.specs.Steps.{tried-none, tried-next}
-use borrow.Author.Rules.{rules}
 use Rattle.fit_chains.proofs.trailer_2.Goals as goal
 
 pub number-c0-requires : goal.number-c0-requires
@@ -20,4 +19,4 @@ number-requires c = (c.ignored-c2.ensures.place, omega (arith, c.requires.1))
 
 pub returns : goal.returns
 unfolding tell width
-returns c = (tried-next c.has_bit-4.ensures (tried-next c.has_bit-3.ensures (tried-next c.has_bit-2.ensures (tried-next c.has_bit.ensures (tried-none c.requires.0) c.number-c0.ensures) c.number-c1.ensures) c.ignored-c2.ensures) c.number.ensures)
+returns c = tried-next c.has_bit-4.ensures (tried-next c.has_bit-3.ensures (tried-next c.has_bit-2.ensures (tried-next c.has_bit.ensures (tried-none c.requires.0) c.number-c0.ensures) c.number-c1.ensures) c.ignored-c2.ensures) c.number.ensures

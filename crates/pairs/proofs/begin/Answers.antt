@@ -12,8 +12,8 @@ use Rattle.meaning.specs.Events.{attributes_of, event_at, events_of, identifiers
 use Rattle.laws.specs.Bytes.{apart}
 use Rattle.laws.specs.Lookup.{rows-length}
 use Rattle.compare.specs.Compared.{event_reads}
-use Rattle.compare.specs.Pairs.{same_bytes_lem}
-use Rattle.compare.specs.Others.{same-record, other-answer, other-refused, other-kind, other-misc, other-size, other-identifier}
+use Rattle.compare.proofs.Pairs.{same_bytes_lem}
+use Rattle.compare.proofs.Others.{same-record, other-answer, other-refused, other-kind, other-misc, other-size, other-identifier}
 use Rattle.pair_fields.specs.Fields.{settled-stands, differs-stands}
 use Rattle.laws.specs.Numbers.{kind-is, misc-is, size_is}
 use Rattle.pairs.specs.Start.{framed-long, accepted-long, accepted-there, accepted-room, start-stands}

@@ -65,12 +65,15 @@ same_but-requires c =
 pub returns : goal.returns
 returns c q =
     let a = c.args in
-    let b : Beside a.x.now a.y.now c.u32_at-kind.result c.u16_at-misc.result c.attributes_at-a.result = same_but-requires c.before.before in
     let i = index_of (identifier_of a.x.now) (identifiers (events_of a.rows.now)) in
     let f : c.find.result ≡ i = c.find.ensures ∙ ap (λ (j : ℕ). index_of j (identifiers (events_of a.rows.now))) c.identifier_of-id.ensures in
     let kx = c.u32_at-kind.ensures.0 ∙ kind-is a.x.now in
     let mx = c.u16_at-misc.ensures.0 ∙ misc-is a.x.now in
-    like-alike (known editions a.e) (events_of a.rows.now) c.requires.rows_value a.x.now a.y.now c.requires.x_value.0 c.requires.x_value.1
-    (sym c.judge.ensures ∙ c.if-judge-ne0.false) (sym kx ∙ c.if-kind-u32_at.false ∙ c.u32_at.ensures.0 ∙ kind-is a.y.now) (sym mx ∙ c.if-misc-u16_at.false ∙ c.u16_at.ensures.0 ∙ misc-is a.y.now)
-    c.if-x-y.false (sym c.identifier_of-id.ensures ∙ c.if-id-identifier_of.false ∙ c.identifier_of.ensures)
-    c.attributes_at-a.result (c.attributes_at-a.ensures ∙ ap (λ (j : ℕ). attributes_of (event_at (events_of a.rows.now) j)) f) (same-like a.x.now a.y.now _ _ _ b (sym c.same_but.ensures ∙ q))
+    let ac = sym c.judge.ensures ∙ c.if-judge-ne0.false in
+    let k = sym kx ∙ c.if-kind-u32_at.false ∙ c.u32_at.ensures.0 ∙ kind-is a.y.now in
+    let m = sym mx ∙ c.if-misc-u16_at.false ∙ c.u16_at.ensures.0 ∙ misc-is a.y.now in
+    let ids = sym c.identifier_of-id.ensures ∙ c.if-id-identifier_of.false ∙ c.identifier_of.ensures in
+    let at = c.attributes_at-a.ensures ∙ ap (λ (j : ℕ). attributes_of (event_at (events_of a.rows.now) j)) f in
+    let b = beside-is (known editions a.e) (events_of a.rows.now) c.requires.rows_value a.x.now a.y.now c.requires.x_value.0 c.requires.x_value.1 ac k m c.if-x-y.false ids c.attributes_at-a.result at _ _ kx mx in
+    like-alike (known editions a.e) (events_of a.rows.now) c.requires.rows_value a.x.now a.y.now c.requires.x_value.0 c.requires.x_value.1 ac k m c.if-x-y.false ids
+    c.attributes_at-a.result at (same-like a.x.now a.y.now _ _ _ b (sym c.same_but.ensures ∙ q))

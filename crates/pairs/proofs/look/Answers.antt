@@ -5,8 +5,8 @@ use Rattle.meaning.specs.Editions.{editions, known}
 use Rattle.meaning.specs.Events.{events_of}
 use Rattle.laws.specs.Bytes.{apart}
 use Rattle.compare.specs.Compared.{event_reads}
-use Rattle.compare.specs.Pairs.{same_bytes_lem}
-use Rattle.compare.specs.Others.{same-record}
+use Rattle.compare.proofs.Pairs.{same_bytes_lem}
+use Rattle.compare.proofs.Others.{same-record}
 use Rattle.pair_fields.specs.Fields.{settled-stands}
 use Rattle.pairs.proofs.look.Goals as goal
 

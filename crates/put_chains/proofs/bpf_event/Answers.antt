@@ -27,4 +27,4 @@ shape_of-buffer c = c.bytes.ensures.long ∙ c.number-c2.ensures.long ∙ c.numb
 
 pub returns : goal.returns
 unfolding tell width
-returns c = (placed₁ refl (placed₁ refl (placed₁ refl (placed₁ refl placed-none c.number-c0.ensures) c.number-c1.ensures) c.number-c2.ensures) c.bytes.ensures)
+returns c = placed₁ refl (placed₁ refl (placed₁ refl (placed₁ refl placed-none c.number-c0.ensures) c.number-c1.ensures) c.number-c2.ensures) c.bytes.ensures

@@ -4,8 +4,8 @@ use mathlib.Core.Path.{sym, ap}
 use Prim.Native.Nat.{ℕ}
 use Rattle.meaning.specs.Schema.{schema}
 use Rattle.write_puts.specs.Puts.{ready-as, placed-as, placed-none}
-use Rattle.layouts.specs.Types.{no-type}
 use borrow.Author.Rules.{rules}
+use Rattle.layouts.specs.Types.{no-type}
 use Rattle.put_chains.proofs.fields.Goals as goal
 
 pub mmap-requires : goal.mmap-requires

@@ -31,4 +31,4 @@ shape_of-buffer c = c.name.ensures.long ∙ c.number-c3.ensures.long ∙ c.numbe
 
 pub returns : goal.returns
 unfolding tell width
-returns c = (placed₁ refl (placed₁ refl (placed₁ refl (placed₁ refl (placed₁ refl placed-none c.number-c0.ensures) c.number-c1.ensures) c.number-c2.ensures) c.number-c3.ensures) c.name.ensures)
+returns c = placed₁ refl (placed₁ refl (placed₁ refl (placed₁ refl (placed₁ refl placed-none c.number-c0.ensures) c.number-c1.ensures) c.number-c2.ensures) c.number-c3.ensures) c.name.ensures

@@ -19,4 +19,4 @@ shape_of-buffer c = c.number.ensures.long ∙ c.number-c0.ensures.long
 
 pub returns : goal.returns
 unfolding tell width
-returns c = (placed₁ refl (placed₁ refl placed-none c.number-c0.ensures) c.number.ensures)
+returns c = placed₁ refl (placed₁ refl placed-none c.number-c0.ensures) c.number.ensures

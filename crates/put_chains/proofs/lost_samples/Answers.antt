@@ -15,4 +15,4 @@ shape_of-buffer c = c.number.ensures.long
 
 pub returns : goal.returns
 unfolding tell width
-returns c = (placed₁ refl placed-none c.number.ensures)
+returns c = placed₁ refl placed-none c.number.ensures

@@ -5,7 +5,6 @@ use mathlib.Core.Bool.{not}
 use native.Mathlib.Omega.{arith}
 use Rattle.meaning.specs.Values.{tell, width}
 use Rattle.write_puts.specs.Puts.{placed-none, placed₁, head₁, next₁}
-use borrow.Author.Rules.{rules}
 use Rattle.put_chains.proofs.mmap2_2.Goals as goal
 
 pub number-c0-requires : goal.number-c0-requires
@@ -33,4 +32,4 @@ shape_of-buffer c = c.limit.ensures.long ∙ c.number-c3.ensures.long ∙ c.numb
 
 pub returns : goal.returns
 unfolding tell width
-returns c = (placed₁ c.has_bit-5.ensures (placed₁ (ap not c.has_bit-4.ensures) (placed₁ (ap not c.has_bit-3.ensures) (placed₁ (ap not c.has_bit-2.ensures) (placed₁ (ap not c.has_bit.ensures) placed-none c.number-c0.ensures) c.number-c1.ensures) c.number-c2.ensures) c.number-c3.ensures) c.limit.ensures)
+returns c = placed₁ c.has_bit-5.ensures (placed₁ (ap not c.has_bit-4.ensures) (placed₁ (ap not c.has_bit-3.ensures) (placed₁ (ap not c.has_bit-2.ensures) (placed₁ (ap not c.has_bit.ensures) placed-none c.number-c0.ensures) c.number-c1.ensures) c.number-c2.ensures) c.number-c3.ensures) c.limit.ensures

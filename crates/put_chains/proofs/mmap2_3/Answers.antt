@@ -4,7 +4,6 @@ use mathlib.Core.Path.{refl, ◌∙◌}
 use native.Mathlib.Omega.{arith}
 use Rattle.meaning.specs.Values.{tell, width}
 use Rattle.write_puts.specs.Puts.{placed-none, placed₁, head₁, next₁}
-use borrow.Author.Rules.{rules}
 use Rattle.put_chains.proofs.mmap2_3.Goals as goal
 
 pub ignored-c0-requires : goal.ignored-c0-requires
@@ -32,4 +31,4 @@ shape_of-buffer c = c.name.ensures.long ∙ c.number-c3.ensures.long ∙ c.numbe
 
 pub returns : goal.returns
 unfolding tell width
-returns c = (placed₁ refl (placed₁ refl (placed₁ refl (placed₁ c.has_bit-2.ensures (placed₁ c.has_bit.ensures placed-none c.ignored-c0.ensures) c.listed-c1.ensures) c.number-c2.ensures) c.number-c3.ensures) c.name.ensures)
+returns c = placed₁ refl (placed₁ refl (placed₁ refl (placed₁ c.has_bit-2.ensures (placed₁ c.has_bit.ensures placed-none c.ignored-c0.ensures) c.listed-c1.ensures) c.number-c2.ensures) c.number-c3.ensures) c.name.ensures

@@ -27,4 +27,4 @@ shape_of-buffer c = c.times.ensures.long ∙ c.count-c2.ensures.long ∙ c.numbe
 
 pub returns : goal.returns
 unfolding tell width
-returns c = (placed₁ refl (placed₁ refl (placed₁ refl (placed₁ refl placed-none c.number-c0.ensures) c.number-c1.ensures) c.count-c2.ensures) c.times.ensures)
+returns c = placed₁ refl (placed₁ refl (placed₁ refl (placed₁ refl placed-none c.number-c0.ensures) c.number-c1.ensures) c.count-c2.ensures) c.times.ensures

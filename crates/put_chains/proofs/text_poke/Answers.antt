@@ -35,4 +35,4 @@ shape_of-buffer c = c.pad.ensures.long ∙ c.times-c4.ensures.long ∙ c.earlier
 
 pub returns : goal.returns
 unfolding tell width
-returns c = (placed₁ refl (placed₁ refl (placed₁ refl (placed₁ refl (placed₁ refl (placed₁ refl placed-none c.number-c0.ensures) c.count-c1.ensures) c.count-c2.ensures) c.earlier-c3.ensures) c.times-c4.ensures) c.pad.ensures)
+returns c = placed₁ refl (placed₁ refl (placed₁ refl (placed₁ refl (placed₁ refl (placed₁ refl placed-none c.number-c0.ensures) c.count-c1.ensures) c.count-c2.ensures) c.earlier-c3.ensures) c.times-c4.ensures) c.pad.ensures

@@ -8,15 +8,15 @@ use Rattle.put_chains.proofs.trailer.Goals as goal
 
 pub trailer_1-c0-requires : goal.trailer_1-c0-requires
 unfolding tell width
-trailer_1-c0-requires c = (ready-first (lists.trailer-1 c.args.x) ((lists.trailer-2 c.args.x)) c.requires.0, c.requires.1)
+trailer_1-c0-requires c = (ready-first (lists.trailer-1 c.args.x) (lists.trailer-2 c.args.x) c.requires.0, c.requires.1)
 
 pub trailer_2-requires : goal.trailer_2-requires
 unfolding tell width
-trailer_2-requires c = ((ready-after (lists.trailer-1 c.args.x) ((lists.trailer-2 c.args.x)) c.trailer_1-c0.ensures c.requires.0), c.requires.1)
+trailer_2-requires c = ((ready-after (lists.trailer-1 c.args.x) (lists.trailer-2 c.args.x) c.trailer_1-c0.ensures c.requires.0), c.requires.1)
 
 pub shape_of-buffer : goal.shape_of-buffer
 shape_of-buffer c = c.trailer_2.ensures.long ∙ c.trailer_1-c0.ensures.long
 
 pub returns : goal.returns
 unfolding tell width
-returns c = (placed-then (placed-then placed-none c.trailer_1-c0.ensures) c.trailer_2.ensures)
+returns c = placed-then (placed-then placed-none c.trailer_1-c0.ensures) c.trailer_2.ensures

@@ -10,7 +10,7 @@ use Rattle.meaning.specs.Editions.{editions, known}
 use Rattle.meaning.specs.Ring.{asking_with, call_rows, length_allowed}
 use Rattle.meaning.specs.Events.{events_of, asked_events, judge_events}
 use Rattle.replay.specs.Replay.{Played, half, replay_told, rooms_of}
-use Rattle.replay.specs.Playing.{whole, call-refused, call_played, call_passes}
+use Rattle.replay.proofs.Playing.{whole, call-refused, call_played, call_passes}
 use Rattle.replaying.proofs.replay.Tie as tie
 use Rattle.replaying.proofs.replay.Lts as lts
 use Rattle.replaying.proofs.replay.Reads as reads

@@ -2,7 +2,7 @@
 use Rattle.std.proofs.Common.{◌≡◌, ℕ, ◌+◌, ◌-◌, ◌≤◌, List, length, get_or, take, drop, set, sym, refl, ap, ◌∙◌, arith}
 use Rattle.meaning.specs.Bytes.{put}
 use Rattle.laws.specs.Put.{put-nil, length-put}
-use Rattle.replay.specs.Within.{copied_on}
+use Rattle.replay.proofs.Within.{copied_on}
 use Rattle.rooms.proofs.copy_within.Goals as goal
 
 pub loop-j-init : goal.loop-j-init

@@ -1,7 +1,7 @@
 use Rattle.std.proofs.Common.{◌≡◌, ℕ, ◌+◌, ◌-◌, ◌≤◌, List, length, get_or, take, drop, set, sym, refl, ap, ◌∙◌, arith}
 use Rattle.meaning.specs.Bytes.{put}
 use Rattle.laws.specs.Put.{put-nil, length-put}
-use Rattle.replay.specs.Within.{copied_on}
+use Rattle.replay.proofs.Within.{copied_on}
 use Rattle.rooms.proofs.copy_within.Given as goal
 
 abbrev pub invariant-loop-j : goal.invariant-loop-j

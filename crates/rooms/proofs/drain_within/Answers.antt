@@ -6,7 +6,7 @@ use Rattle.meaning.specs.Ring.{asking}
 use Rattle.meaning.specs.Drain.{End, told}
 use Rattle.meaning.specs.Events.{events_of, judge_events}
 use Rattle.laws.specs.Rings.{Going, distance-lt}
-use Rattle.replay.specs.Within.{Together, together-first, together-going, together-inside, together-end, together-again}
+use Rattle.replay.proofs.Within.{Together, together-first, together-going, together-inside, together-end, together-again}
 use Rattle.rooms.proofs.drain_within.Tie as tie
 use Rattle.rooms.proofs.drain_within.Lts as lts
 use Rattle.rooms.proofs.drain_within.Reads as reads

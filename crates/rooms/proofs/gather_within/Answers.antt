@@ -1,7 +1,7 @@
 -- A record that goes round the ring's end is copied in two parts, which are one; any other leaves the slice as it was.
 use Rattle.std.proofs.Common.{ℕ, ◌+◌, ◌-◌, List, take, drop, ap, ◌∙◌, arith, rules}
 use Rattle.meaning.specs.Bytes.{put}
-use Rattle.replay.specs.Within.{gathered-not, gathered}
+use Rattle.replay.proofs.Within.{gathered-not, gathered}
 use Rattle.rooms.proofs.gather_within.Goals as goal
 
 pub returns-then-size-first : goal.returns-then-size-first

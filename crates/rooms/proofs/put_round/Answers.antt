@@ -2,7 +2,7 @@
 use Rattle.std.proofs.Common.{ℕ, ◌-◌, List, length, take, drop, sym, ap, ◌∙◌, arith, length-drop, length-take-le, take_all, rules}
 use Rattle.meaning.specs.Bytes.{put}
 use Rattle.replay.specs.Replay.{put_round}
-use Rattle.replay.specs.Round.{round-past, round_whole}
+use Rattle.replay.proofs.Round.{round-past, round_whole}
 use Rattle.rooms.proofs.put_round.Goals as goal
 
 pub returns-then-ring-place : goal.returns-then-ring-place

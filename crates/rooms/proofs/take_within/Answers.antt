@@ -6,7 +6,7 @@ use Rattle.meaning.specs.Ring.{record_at}
 use Rattle.meaning.specs.Drain.{journal_kind, entry}
 use Rattle.meaning.specs.Events.{events_of, judge_events}
 use Rattle.laws.specs.Rings.{record-length}
-use Rattle.replay.specs.Within.{shown-within}
+use Rattle.replay.proofs.Within.{shown-within}
 use Rattle.rooms.proofs.take_within.Tie as tie
 use Rattle.rooms.proofs.take_within.Lts as lts
 use Rattle.rooms.proofs.take_within.Reads as reads

@@ -8,8 +8,8 @@ use Rattle.meaning.specs.Editions.{editions}
 use Rattle.meaning.specs.Events.{events_of}
 use Rattle.meaning.specs.Records.{size_of}
 use Rattle.salvage.specs.Salvage.{table_judge}
-use Rattle.salvage.specs.Steps.{Kept}
-use Rattle.salvage.specs.Turns.{size_none, size-some}
+use Rattle.salvage.proofs.Steps.{Kept}
+use Rattle.salvage.proofs.Turns.{size_none, size-some}
 use borrow.Author.Rules.{rules}
 use Rattle.salvage_kept.proofs.kept_size.Goals as goal
 

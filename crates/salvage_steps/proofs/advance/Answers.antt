@@ -3,7 +3,7 @@ use mathlib.Core.Path.{sym, ap, ◌∙◌}
 use Prim.Native.Nat.{ℕ, ◌+◌}
 use native.Mathlib.Omega.{arith}
 use Rattle.salvage.specs.Walks.{walk}
-use Rattle.salvage.specs.Turns.{advanced-none, advanced-kept}
+use Rattle.salvage.proofs.Turns.{advanced-none, advanced-kept}
 use borrow.Author.Rules.{rules}
 use Rattle.salvage_steps.proofs.advance.Goals as goal
 

@@ -3,7 +3,7 @@ use mathlib.Core.Path.{ap, ◌∙◌}
 use mathlib.Core.List.{List}
 use Prim.Native.Nat.{ℕ, ◌+◌}
 use Rattle.meaning.specs.Bytes.{spell, put}
-use Rattle.salvage.specs.Turns.{hole-put}
+use Rattle.salvage.proofs.Turns.{hole-put}
 use borrow.Author.Rules.{rules}
 use Rattle.salvage_steps.proofs.put_hole.Goals as goal
 

@@ -1,7 +1,7 @@
 -- The hole that ends at the place is put behind those closed before; where none ends there nothing is written.
 use mathlib.Core.Path.{sym, ◌∙◌}
 use native.Mathlib.Omega.{arith}
-use Rattle.salvage.specs.Turns.{list_open, list-shut}
+use Rattle.salvage.proofs.Turns.{list_open, list-shut}
 use borrow.Author.Rules.{rules}
 use Rattle.salvage_steps.proofs.write_closed.Goals as goal
 

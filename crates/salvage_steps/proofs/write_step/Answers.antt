@@ -4,7 +4,7 @@ use Prim.Native.Nat.{ℕ, ◌+◌, ◌-◌}
 use native.Mathlib.Omega.{arith}
 use lib.ListN.{take, drop}
 use Rattle.meaning.specs.Bytes.{put}
-use Rattle.salvage.specs.Turns.{step-none, step-some}
+use Rattle.salvage.proofs.Turns.{step-none, step-some}
 use borrow.Author.Rules.{rules}
 use Rattle.salvage_steps.proofs.write_step.Goals as goal
 

@@ -10,7 +10,7 @@ use Rattle.meaning.specs.Events.{events_of}
 use Rattle.salvage.specs.declared.Walk.{Walk}
 use Rattle.salvage.specs.Salvage.{table_judge}
 use Rattle.salvage.specs.Walks.{SalvageStands}
-use Rattle.salvage.specs.Turns.{size_at, Sized, sized, stands-start, stands-again, stands-end, most}
+use Rattle.salvage.proofs.Turns.{size_at, Sized, sized, stands-start, stands-again, stands-end, most}
 use Rattle.salvaging.proofs.measure.Tie as tie
 use Rattle.salvaging.proofs.measure.Given as goal
 

@@ -12,8 +12,8 @@ use Rattle.meaning.specs.declared.Event.{Event}
 use Rattle.meaning.specs.Editions.{editions, allowed}
 use Rattle.meaning.specs.Events.{events_of, sound}
 use Rattle.salvage.specs.Salvage.{holes, dropped, changes, tells, table_unready, table_judge}
-use Rattle.salvage.specs.Promises.{changes-length, kept-and-dropped}
-use Rattle.salvage.specs.Turns.{unready-2, unready-11, unready-0, answer-before, answer-54, answer-0, refused-result, accepted-result}
+use Rattle.salvage.proofs.Promises.{changes-length, kept-and-dropped}
+use Rattle.salvage.proofs.Turns.{unready-2, unready-11, unready-0, answer-before, answer-54, answer-0, refused-result, accepted-result}
 use Rattle.salvaging.proofs.salvage.Tie as tie
 use Rattle.salvaging.proofs.salvage.Lts as lts
 use Rattle.salvaging.proofs.salvage.Reads as reads

@@ -12,8 +12,8 @@ use Rattle.meaning.specs.Events.{events_of}
 use Rattle.salvage.specs.declared.Walk.{Walk}
 use Rattle.salvage.specs.Salvage.{holes, table_judge}
 use Rattle.salvage.specs.Walks.{Wrote}
-use Rattle.salvage.specs.Promises.{changes-length}
-use Rattle.salvage.specs.Turns.{size_at, Sized, sized, wrote-start, wrote-lengths, wrote_by, write_again, write-end, stands-end, hole-room, most}
+use Rattle.salvage.proofs.Promises.{changes-length}
+use Rattle.salvage.proofs.Turns.{size_at, Sized, sized, wrote-start, wrote-lengths, wrote_by, write_again, write-end, stands-end, hole-room, most}
 use Rattle.salvaging.proofs.write_all.Tie as tie
 use Rattle.salvaging.proofs.write_all.Lts as lts
 use Rattle.salvaging.proofs.write_all.Reads as reads

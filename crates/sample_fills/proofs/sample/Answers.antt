@@ -36,8 +36,8 @@ sample_7-requires c = (next (lists.sample-6 c.args.x c.args.interrupt) (lists.sa
 
 pub shape_of-out : goal.shape_of-out
 unfolding tell width
-shape_of-out c = long ((last (next (lists.sample-6 c.args.x c.args.interrupt) (lists.sample-7 c.args.x) (next (lists.sample-5 c.args.x c.args.user) ((lists.sample-6 c.args.x c.args.interrupt) ++ ((lists.sample-7 c.args.x))) (next (lists.sample-4 c.args.x c.args.b) ((lists.sample-5 c.args.x c.args.user) ++ ((lists.sample-6 c.args.x c.args.interrupt) ++ ((lists.sample-7 c.args.x)))) (next (lists.sample-3 c.args.x c.args.f) ((lists.sample-4 c.args.x c.args.b) ++ ((lists.sample-5 c.args.x c.args.user) ++ ((lists.sample-6 c.args.x c.args.interrupt) ++ ((lists.sample-7 c.args.x))))) (next (lists.sample-2 c.args.x c.args.f) ((lists.sample-3 c.args.x c.args.f) ++ ((lists.sample-4 c.args.x c.args.b) ++ ((lists.sample-5 c.args.x c.args.user) ++ ((lists.sample-6 c.args.x c.args.interrupt) ++ ((lists.sample-7 c.args.x)))))) (next (lists.sample-1 c.args.x) ((lists.sample-2 c.args.x c.args.f) ++ ((lists.sample-3 c.args.x c.args.f) ++ ((lists.sample-4 c.args.x c.args.b) ++ ((lists.sample-5 c.args.x c.args.user) ++ ((lists.sample-6 c.args.x c.args.interrupt) ++ ((lists.sample-7 c.args.x))))))) (start c.requires) c.sample_1-c0.ensures) c.sample_2-c1.ensures) c.sample_3-c2.ensures) c.sample_4-c3.ensures) c.sample_5-c4.ensures) c.sample_6-c5.ensures) c.sample_7.ensures))
+shape_of-out c = long (last (next (lists.sample-6 c.args.x c.args.interrupt) (lists.sample-7 c.args.x) (next (lists.sample-5 c.args.x c.args.user) ((lists.sample-6 c.args.x c.args.interrupt) ++ ((lists.sample-7 c.args.x))) (next (lists.sample-4 c.args.x c.args.b) ((lists.sample-5 c.args.x c.args.user) ++ ((lists.sample-6 c.args.x c.args.interrupt) ++ ((lists.sample-7 c.args.x)))) (next (lists.sample-3 c.args.x c.args.f) ((lists.sample-4 c.args.x c.args.b) ++ ((lists.sample-5 c.args.x c.args.user) ++ ((lists.sample-6 c.args.x c.args.interrupt) ++ ((lists.sample-7 c.args.x))))) (next (lists.sample-2 c.args.x c.args.f) ((lists.sample-3 c.args.x c.args.f) ++ ((lists.sample-4 c.args.x c.args.b) ++ ((lists.sample-5 c.args.x c.args.user) ++ ((lists.sample-6 c.args.x c.args.interrupt) ++ ((lists.sample-7 c.args.x)))))) (next (lists.sample-1 c.args.x) ((lists.sample-2 c.args.x c.args.f) ++ ((lists.sample-3 c.args.x c.args.f) ++ ((lists.sample-4 c.args.x c.args.b) ++ ((lists.sample-5 c.args.x c.args.user) ++ ((lists.sample-6 c.args.x c.args.interrupt) ++ ((lists.sample-7 c.args.x))))))) (start c.requires) c.sample_1-c0.ensures) c.sample_2-c1.ensures) c.sample_3-c2.ensures) c.sample_4-c3.ensures) c.sample_5-c4.ensures) c.sample_6-c5.ensures) c.sample_7.ensures)
 
 pub returns : goal.returns
 unfolding tell width
-returns c = (last (next (lists.sample-6 c.args.x c.args.interrupt) (lists.sample-7 c.args.x) (next (lists.sample-5 c.args.x c.args.user) ((lists.sample-6 c.args.x c.args.interrupt) ++ ((lists.sample-7 c.args.x))) (next (lists.sample-4 c.args.x c.args.b) ((lists.sample-5 c.args.x c.args.user) ++ ((lists.sample-6 c.args.x c.args.interrupt) ++ ((lists.sample-7 c.args.x)))) (next (lists.sample-3 c.args.x c.args.f) ((lists.sample-4 c.args.x c.args.b) ++ ((lists.sample-5 c.args.x c.args.user) ++ ((lists.sample-6 c.args.x c.args.interrupt) ++ ((lists.sample-7 c.args.x))))) (next (lists.sample-2 c.args.x c.args.f) ((lists.sample-3 c.args.x c.args.f) ++ ((lists.sample-4 c.args.x c.args.b) ++ ((lists.sample-5 c.args.x c.args.user) ++ ((lists.sample-6 c.args.x c.args.interrupt) ++ ((lists.sample-7 c.args.x)))))) (next (lists.sample-1 c.args.x) ((lists.sample-2 c.args.x c.args.f) ++ ((lists.sample-3 c.args.x c.args.f) ++ ((lists.sample-4 c.args.x c.args.b) ++ ((lists.sample-5 c.args.x c.args.user) ++ ((lists.sample-6 c.args.x c.args.interrupt) ++ ((lists.sample-7 c.args.x))))))) (start c.requires) c.sample_1-c0.ensures) c.sample_2-c1.ensures) c.sample_3-c2.ensures) c.sample_4-c3.ensures) c.sample_5-c4.ensures) c.sample_6-c5.ensures) c.sample_7.ensures)
+returns c = last (next (lists.sample-6 c.args.x c.args.interrupt) (lists.sample-7 c.args.x) (next (lists.sample-5 c.args.x c.args.user) ((lists.sample-6 c.args.x c.args.interrupt) ++ ((lists.sample-7 c.args.x))) (next (lists.sample-4 c.args.x c.args.b) ((lists.sample-5 c.args.x c.args.user) ++ ((lists.sample-6 c.args.x c.args.interrupt) ++ ((lists.sample-7 c.args.x)))) (next (lists.sample-3 c.args.x c.args.f) ((lists.sample-4 c.args.x c.args.b) ++ ((lists.sample-5 c.args.x c.args.user) ++ ((lists.sample-6 c.args.x c.args.interrupt) ++ ((lists.sample-7 c.args.x))))) (next (lists.sample-2 c.args.x c.args.f) ((lists.sample-3 c.args.x c.args.f) ++ ((lists.sample-4 c.args.x c.args.b) ++ ((lists.sample-5 c.args.x c.args.user) ++ ((lists.sample-6 c.args.x c.args.interrupt) ++ ((lists.sample-7 c.args.x)))))) (next (lists.sample-1 c.args.x) ((lists.sample-2 c.args.x c.args.f) ++ ((lists.sample-3 c.args.x c.args.f) ++ ((lists.sample-4 c.args.x c.args.b) ++ ((lists.sample-5 c.args.x c.args.user) ++ ((lists.sample-6 c.args.x c.args.interrupt) ++ ((lists.sample-7 c.args.x))))))) (start c.requires) c.sample_1-c0.ensures) c.sample_2-c1.ensures) c.sample_3-c2.ensures) c.sample_4-c3.ensures) c.sample_5-c4.ensures) c.sample_6-c5.ensures) c.sample_7.ensures

@@ -4,7 +4,6 @@ use mathlib.Core.Path.{ap, ap₂}
 use mathlib.Core.Bool.{not, ◌&&◌}
 use Rattle.meaning.specs.Values.{tell}
 use Rattle.fills.specs.Chains.{start, done, long, head₁, next₁}
-use borrow.Author.Rules.{rules}
 use Rattle.sample_fills.proofs.sample_2.Goals as goal
 
 pub number8-c0-requires : goal.number8-c0-requires

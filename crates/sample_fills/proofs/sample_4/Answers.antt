@@ -4,7 +4,6 @@ use mathlib.Core.Path.{ap₂}
 use mathlib.Core.Bool.{◌&&◌}
 use Rattle.meaning.specs.Values.{tell}
 use Rattle.fills.specs.Chains.{start, done, long, head₁, next₁}
-use borrow.Author.Rules.{rules}
 use Rattle.sample_fills.proofs.sample_4.Goals as goal
 
 pub count8-c0-requires : goal.count8-c0-requires

@@ -27,4 +27,4 @@ sample_7-requires c = (c.sample_6-c5.ensures.place, c.requires.1)
 
 pub returns : goal.returns
 unfolding tell width
-returns c = (tried_then (tried_then (tried_then (tried_then (tried_then (tried_then (tried_then (tried-none c.requires.0) c.sample_1-c0.ensures) c.sample_2-c1.ensures) c.sample_3-c2.ensures) c.sample_4-c3.ensures) c.sample_5-c4.ensures) c.sample_6-c5.ensures) c.sample_7.ensures)
+returns c = tried_then (tried_then (tried_then (tried_then (tried_then (tried_then (tried_then (tried-none c.requires.0) c.sample_1-c0.ensures) c.sample_2-c1.ensures) c.sample_3-c2.ensures) c.sample_4-c3.ensures) c.sample_5-c4.ensures) c.sample_6-c5.ensures) c.sample_7.ensures

@@ -5,7 +5,6 @@ use mathlib.Core.Bool.{◌&&◌}
 use native.Mathlib.Omega.{arith}
 use Rattle.meaning.specs.Values.{tell, width}
 use Rattle.write_fits.specs.Steps.{tried-none, tried-next}
-use borrow.Author.Rules.{rules}
 use Rattle.sample_fits.proofs.sample_4.Goals as goal
 
 pub count-c0-requires : goal.count-c0-requires
@@ -28,4 +27,4 @@ number-requires c = (c.count-c4.ensures.place, omega (arith, c.requires.1))
 
 pub returns : goal.returns
 unfolding tell width
-returns c = (tried-next (ap₂ ◌&&◌ c.has_bit-6.ensures c.has_bit-7.ensures) (tried-next c.has_bit-5.ensures (tried-next c.has_bit-4.ensures (tried-next c.has_bit-3.ensures (tried-next c.has_bit-2.ensures (tried-next c.has_bit.ensures (tried-none c.requires.0) c.count-c0.ensures) c.times-c1.ensures) c.size-c2.ensures) c.times-c3.ensures) c.count-c4.ensures) c.number.ensures)
+returns c = tried-next (ap₂ ◌&&◌ c.has_bit-6.ensures c.has_bit-7.ensures) (tried-next c.has_bit-5.ensures (tried-next c.has_bit-4.ensures (tried-next c.has_bit-3.ensures (tried-next c.has_bit-2.ensures (tried-next c.has_bit.ensures (tried-none c.requires.0) c.count-c0.ensures) c.times-c1.ensures) c.size-c2.ensures) c.times-c3.ensures) c.count-c4.ensures) c.number.ensures

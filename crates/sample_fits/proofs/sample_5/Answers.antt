@@ -3,7 +3,6 @@
 use native.Mathlib.Omega.{arith}
 use Rattle.meaning.specs.Values.{tell, width}
 use Rattle.write_fits.specs.Steps.{tried-none, tried-next}
-use borrow.Author.Rules.{rules}
 use Rattle.sample_fits.proofs.sample_5.Goals as goal
 
 pub times-c0-requires : goal.times-c0-requires
@@ -26,4 +25,4 @@ filled-requires c = (c.times-c4.ensures.place, omega (arith, c.requires.1))
 
 pub returns : goal.returns
 unfolding tell width
-returns c = (tried-next c.has_bit-6.ensures (tried-next c.has_bit-5.ensures (tried-next c.has_bit-4.ensures (tried-next c.has_bit-3.ensures (tried-next c.has_bit-2.ensures (tried-next c.has_bit.ensures (tried-none c.requires.0) c.times-c0.ensures) c.abi-c1.ensures) c.registers-c2.ensures) c.size-c3.ensures) c.times-c4.ensures) c.filled.ensures)
+returns c = tried-next c.has_bit-6.ensures (tried-next c.has_bit-5.ensures (tried-next c.has_bit-4.ensures (tried-next c.has_bit-3.ensures (tried-next c.has_bit-2.ensures (tried-next c.has_bit.ensures (tried-none c.requires.0) c.times-c0.ensures) c.abi-c1.ensures) c.registers-c2.ensures) c.size-c3.ensures) c.times-c4.ensures) c.filled.ensures

@@ -3,7 +3,6 @@
 use native.Mathlib.Omega.{arith}
 use Rattle.meaning.specs.Values.{tell, width}
 use Rattle.write_fits.specs.Steps.{tried-none, tried-next}
-use borrow.Author.Rules.{rules}
 use Rattle.sample_fits.proofs.sample_7.Goals as goal
 
 pub number-c0-requires : goal.number-c0-requires
@@ -23,4 +22,4 @@ times-requires c = (c.size-c3.ensures.place, omega (arith, c.requires.1), omega 
 
 pub returns : goal.returns
 unfolding tell width
-returns c = (tried-next c.has_bit-5.ensures (tried-next c.has_bit-4.ensures (tried-next c.has_bit-3.ensures (tried-next c.has_bit-2.ensures (tried-next c.has_bit.ensures (tried-none c.requires.0) c.number-c0.ensures) c.number-c1.ensures) c.number-c2.ensures) c.size-c3.ensures) c.times.ensures)
+returns c = tried-next c.has_bit-5.ensures (tried-next c.has_bit-4.ensures (tried-next c.has_bit-3.ensures (tried-next c.has_bit-2.ensures (tried-next c.has_bit.ensures (tried-none c.requires.0) c.number-c0.ensures) c.number-c1.ensures) c.number-c2.ensures) c.size-c3.ensures) c.times.ensures

@@ -4,7 +4,6 @@ use mathlib.Core.Path.{◌∙◌}
 use native.Mathlib.Omega.{arith}
 use Rattle.meaning.specs.Values.{tell, width}
 use Rattle.write_puts.specs.Puts.{placed-none, placed₁, head₁, next₁}
-use borrow.Author.Rules.{rules}
 use Rattle.sample_puts.proofs.sample_1.Goals as goal
 
 pub number-c0-requires : goal.number-c0-requires
@@ -36,4 +35,4 @@ shape_of-buffer c = c.number.ensures.long ∙ c.number-c4.ensures.long ∙ c.num
 
 pub returns : goal.returns
 unfolding tell width
-returns c = (placed₁ c.has_bit-6.ensures (placed₁ c.has_bit-5.ensures (placed₁ c.has_bit-4.ensures (placed₁ c.has_bit-3.ensures (placed₁ c.has_bit-2.ensures (placed₁ c.has_bit.ensures placed-none c.number-c0.ensures) c.number-c1.ensures) c.number-c2.ensures) c.number-c3.ensures) c.number-c4.ensures) c.number.ensures)
+returns c = placed₁ c.has_bit-6.ensures (placed₁ c.has_bit-5.ensures (placed₁ c.has_bit-4.ensures (placed₁ c.has_bit-3.ensures (placed₁ c.has_bit-2.ensures (placed₁ c.has_bit.ensures placed-none c.number-c0.ensures) c.number-c1.ensures) c.number-c2.ensures) c.number-c3.ensures) c.number-c4.ensures) c.number.ensures

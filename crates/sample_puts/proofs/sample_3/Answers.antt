@@ -5,7 +5,6 @@ use mathlib.Core.Bool.{not, ◌&&◌}
 use native.Mathlib.Omega.{arith}
 use Rattle.meaning.specs.Values.{tell, width}
 use Rattle.write_puts.specs.Puts.{placed-none, placed₁, head₁, next₁}
-use borrow.Author.Rules.{rules}
 use Rattle.sample_puts.proofs.sample_3.Goals as goal
 
 pub count-c0-requires : goal.count-c0-requires
@@ -37,4 +36,4 @@ shape_of-buffer c = c.values.ensures.long ∙ c.number-c4.ensures.long ∙ c.num
 
 pub returns : goal.returns
 unfolding tell width
-returns c = (placed₁ (ap₂ ◌&&◌ c.has_bit-13.ensures c.has_bit-14.ensures) (placed₁ (ap₂ ◌&&◌ c.has_bit-10.ensures (ap₂ ◌&&◌ (ap not c.has_bit-11.ensures) c.has_bit-12.ensures)) (placed₁ (ap₂ ◌&&◌ c.has_bit-7.ensures (ap₂ ◌&&◌ (ap not c.has_bit-8.ensures) c.has_bit-9.ensures)) (placed₁ (ap₂ ◌&&◌ c.has_bit-5.ensures c.has_bit-6.ensures) (placed₁ (ap₂ ◌&&◌ c.has_bit-3.ensures c.has_bit-4.ensures) (placed₁ (ap₂ ◌&&◌ c.has_bit.ensures c.has_bit-2.ensures) placed-none c.count-c0.ensures) c.number-c1.ensures) c.number-c2.ensures) c.number-c3.ensures) c.number-c4.ensures) c.values.ensures)
+returns c = placed₁ (ap₂ ◌&&◌ c.has_bit-13.ensures c.has_bit-14.ensures) (placed₁ (ap₂ ◌&&◌ c.has_bit-10.ensures (ap₂ ◌&&◌ (ap not c.has_bit-11.ensures) c.has_bit-12.ensures)) (placed₁ (ap₂ ◌&&◌ c.has_bit-7.ensures (ap₂ ◌&&◌ (ap not c.has_bit-8.ensures) c.has_bit-9.ensures)) (placed₁ (ap₂ ◌&&◌ c.has_bit-5.ensures c.has_bit-6.ensures) (placed₁ (ap₂ ◌&&◌ c.has_bit-3.ensures c.has_bit-4.ensures) (placed₁ (ap₂ ◌&&◌ c.has_bit.ensures c.has_bit-2.ensures) placed-none c.count-c0.ensures) c.number-c1.ensures) c.number-c2.ensures) c.number-c3.ensures) c.number-c4.ensures) c.values.ensures

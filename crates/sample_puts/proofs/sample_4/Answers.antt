@@ -5,7 +5,6 @@ use mathlib.Core.Bool.{◌&&◌}
 use native.Mathlib.Omega.{arith}
 use Rattle.meaning.specs.Values.{tell, width}
 use Rattle.write_puts.specs.Puts.{placed-none, placed₁, head₁, next₁}
-use borrow.Author.Rules.{rules}
 use Rattle.sample_puts.proofs.sample_4.Goals as goal
 
 pub count-c0-requires : goal.count-c0-requires
@@ -37,4 +36,4 @@ shape_of-buffer c = c.number.ensures.long ∙ c.count-c4.ensures.long ∙ c.time
 
 pub returns : goal.returns
 unfolding tell width
-returns c = (placed₁ (ap₂ ◌&&◌ c.has_bit-6.ensures c.has_bit-7.ensures) (placed₁ c.has_bit-5.ensures (placed₁ c.has_bit-4.ensures (placed₁ c.has_bit-3.ensures (placed₁ c.has_bit-2.ensures (placed₁ c.has_bit.ensures placed-none c.count-c0.ensures) c.times-c1.ensures) c.size-c2.ensures) c.times-c3.ensures) c.count-c4.ensures) c.number.ensures)
+returns c = placed₁ (ap₂ ◌&&◌ c.has_bit-6.ensures c.has_bit-7.ensures) (placed₁ c.has_bit-5.ensures (placed₁ c.has_bit-4.ensures (placed₁ c.has_bit-3.ensures (placed₁ c.has_bit-2.ensures (placed₁ c.has_bit.ensures placed-none c.count-c0.ensures) c.times-c1.ensures) c.size-c2.ensures) c.times-c3.ensures) c.count-c4.ensures) c.number.ensures

@@ -4,7 +4,6 @@ use mathlib.Core.Path.{◌∙◌}
 use native.Mathlib.Omega.{arith}
 use Rattle.meaning.specs.Values.{tell, width}
 use Rattle.write_puts.specs.Puts.{placed-none, placed₁, head₁, next₁}
-use borrow.Author.Rules.{rules}
 use Rattle.sample_puts.proofs.sample_5.Goals as goal
 
 pub times-c0-requires : goal.times-c0-requires
@@ -36,4 +35,4 @@ shape_of-buffer c = c.filled.ensures.long ∙ c.times-c4.ensures.long ∙ c.size
 
 pub returns : goal.returns
 unfolding tell width
-returns c = (placed₁ c.has_bit-6.ensures (placed₁ c.has_bit-5.ensures (placed₁ c.has_bit-4.ensures (placed₁ c.has_bit-3.ensures (placed₁ c.has_bit-2.ensures (placed₁ c.has_bit.ensures placed-none c.times-c0.ensures) c.abi-c1.ensures) c.registers-c2.ensures) c.size-c3.ensures) c.times-c4.ensures) c.filled.ensures)
+returns c = placed₁ c.has_bit-6.ensures (placed₁ c.has_bit-5.ensures (placed₁ c.has_bit-4.ensures (placed₁ c.has_bit-3.ensures (placed₁ c.has_bit-2.ensures (placed₁ c.has_bit.ensures placed-none c.times-c0.ensures) c.abi-c1.ensures) c.registers-c2.ensures) c.size-c3.ensures) c.times-c4.ensures) c.filled.ensures

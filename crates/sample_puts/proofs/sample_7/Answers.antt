@@ -4,7 +4,6 @@ use mathlib.Core.Path.{◌∙◌}
 use native.Mathlib.Omega.{arith}
 use Rattle.meaning.specs.Values.{tell, width}
 use Rattle.write_puts.specs.Puts.{placed-none, placed₁, head₁, next₁}
-use borrow.Author.Rules.{rules}
 use Rattle.sample_puts.proofs.sample_7.Goals as goal
 
 pub number-c0-requires : goal.number-c0-requires
@@ -32,4 +31,4 @@ shape_of-buffer c = c.times.ensures.long ∙ c.size-c3.ensures.long ∙ c.number
 
 pub returns : goal.returns
 unfolding tell width
-returns c = (placed₁ c.has_bit-5.ensures (placed₁ c.has_bit-4.ensures (placed₁ c.has_bit-3.ensures (placed₁ c.has_bit-2.ensures (placed₁ c.has_bit.ensures placed-none c.number-c0.ensures) c.number-c1.ensures) c.number-c2.ensures) c.size-c3.ensures) c.times.ensures)
+returns c = placed₁ c.has_bit-5.ensures (placed₁ c.has_bit-4.ensures (placed₁ c.has_bit-3.ensures (placed₁ c.has_bit-2.ensures (placed₁ c.has_bit.ensures placed-none c.number-c0.ensures) c.number-c1.ensures) c.number-c2.ensures) c.size-c3.ensures) c.times.ensures

@@ -1,7 +1,7 @@
 -- The three tests are those of the definition, with one version alone.
 use mathlib.Core.Path.{sym, ◌∙◌}
 use mathlib.Core.List.{[], ◌∷◌}
-use Rattle.settings.specs.Steps.{fits_by, event-one}
+use Rattle.settings.proofs.Steps.{fits_by, event-one}
 use borrow.Author.Rules.{rules}
 use Rattle.settings_entries.proofs.fits.Goals as goal
 

@@ -10,7 +10,7 @@ use Rattle.meaning.specs.Bytes.{number_at}
 use Rattle.entries.specs.Entries.{entry_at}
 use Rattle.settings.specs.Versions.{row_length, place_of}
 use Rattle.settings.specs.Reading.{is_event, in_turn}
-use Rattle.settings.specs.Only.{is-by, entry-room}
+use Rattle.settings.proofs.Only.{is-by, entry-room}
 use borrow.Author.Rules.{rules}
 use Rattle.settings_entries.proofs.in_turn.Tie as tie
 use Rattle.settings_entries.proofs.in_turn.Lts as lts

@@ -3,7 +3,7 @@ use mathlib.Core.Path.{sym, ap, ◌∙◌}
 use mathlib.Core.Bool.{Bool, ◌||◌}
 use Rattle.settings.specs.Versions.{one, two}
 use Rattle.settings.specs.Reading.{is_event, is_event_of}
-use Rattle.settings.specs.Steps.{event-one}
+use Rattle.settings.proofs.Steps.{event-one}
 use borrow.Author.Rules.{rules}
 use Rattle.settings_entries.proofs.is_any_event.Goals as goal
 

@@ -3,8 +3,8 @@ use mathlib.Core.Path.{◌≡◌, refl, ap, ◌∙◌}
 use Prim.Native.Nat.{◌-◌, ◌≤◌}
 use native.Mathlib.Omega.{arith}
 use Rattle.settings.specs.Versions.{place_of}
-use Rattle.settings.specs.Steps.{place-next}
-use Rattle.settings.specs.Puts.{place-bound}
+use Rattle.settings.proofs.Steps.{place-next}
+use Rattle.settings.proofs.Puts.{place-bound}
 use Rattle.settings_put.proofs.place_of.Given as goal
 
 abbrev pub invariant-loop-i : goal.invariant-loop-i

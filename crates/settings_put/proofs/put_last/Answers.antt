@@ -1,5 +1,5 @@
 -- Head, ring length, edition and budget are put one right after the other: together they are the entry.
-use Rattle.settings.specs.Puts.{last-put}
+use Rattle.settings.proofs.Puts.{last-put}
 use borrow.Author.Rules.{rules}
 use Rattle.settings_put.proofs.put_last.Goals as goal
 

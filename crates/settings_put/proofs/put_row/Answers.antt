@@ -1,5 +1,5 @@
 -- Head, index and words are put one right after the other: together they are the entry.
-use Rattle.settings.specs.Puts.{row_put}
+use Rattle.settings.proofs.Puts.{row_put}
 use borrow.Author.Rules.{rules}
 use Rattle.settings_put.proofs.put_row.Goals as goal
 

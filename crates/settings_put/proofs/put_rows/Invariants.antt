@@ -8,8 +8,8 @@ use Rattle.meaning.specs.Bytes.{put}
 use Rattle.laws.specs.Put.{length-put}
 use Rattle.settings.specs.Versions.{place_of}
 use Rattle.settings.specs.Writing.{row_bytes, rows_bytes}
-use Rattle.settings.specs.Steps.{place-next, place_up}
-use Rattle.settings.specs.Puts.{rows-put, rows_none}
+use Rattle.settings.proofs.Steps.{place-next, place_up}
+use Rattle.settings.proofs.Puts.{rows-put, rows_none}
 use lib.Seq.{take_all}
 use Rattle.settings_put.proofs.put_rows.Tie as tie
 use Rattle.settings_put.proofs.put_rows.Given as goal

@@ -1,5 +1,5 @@
 -- Six words are put one right after the other.
-use Rattle.settings.specs.Puts.{words-put}
+use Rattle.settings.proofs.Puts.{words-put}
 use borrow.Author.Rules.{rules}
 use Rattle.settings_put.proofs.put_words.Goals as goal
 

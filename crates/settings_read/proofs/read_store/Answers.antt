@@ -11,9 +11,9 @@ use Rattle.settings.specs.declared.Version.{Version}
 use Rattle.settings.specs.Versions.{versions, version_of, place_of}
 use Rattle.settings.specs.Reading.{count_of, rows_of, last_rows, after_rows, shown, first_rows, table_rows, rest_answer, store_answer}
 use Rattle.settings.specs.Narrow.{Narrow}
-use Rattle.settings.specs.Back.{settings}
-use Rattle.settings.specs.Only.{head_passed, end-passed}
-use Rattle.settings.specs.Steps.{narrow-of, all-narrow, store-first, store-rest, rest_end, rest-table, table-11, table-40, table-0, read-refused, read-given}
+use Rattle.settings.proofs.Back.{settings}
+use Rattle.settings.proofs.Only.{head_passed, end-passed}
+use Rattle.settings.proofs.Steps.{narrow-of, all-narrow, store-first, store-rest, rest_end, rest-table, table-11, table-40, table-0, read-refused, read-given}
 use borrow.Author.Rules.{rules}
 use Rattle.settings_read.proofs.read_store.Tie as tie
 use Rattle.settings_read.proofs.read_store.Lts as lts

@@ -7,7 +7,7 @@ use native.Mathlib.Omega.{arith}
 use lib.ListN.{length, drop, set, length-set}
 use Rattle.settings.specs.Versions.{place_of}
 use Rattle.settings.specs.Reading.{fits, row_from, rows_of}
-use Rattle.settings.specs.Steps.{place-next, place_up, rows_next}
+use Rattle.settings.proofs.Steps.{place-next, place_up, rows_next}
 use Rattle.settings_rows.proofs.fill_rows.Tie as tie
 use Rattle.settings_rows.proofs.fill_rows.Lts as lts
 use Rattle.settings_rows.proofs.fill_rows.Reads as reads

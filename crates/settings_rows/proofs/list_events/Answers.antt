@@ -9,7 +9,7 @@ use lib.ListN.{length, drop, set, length-set}
 use Rattle.meaning.specs.Bytes.{number_at, bit}
 use Rattle.settings.specs.Versions.{place_of}
 use Rattle.settings.specs.Reading.{fits, rows_of}
-use Rattle.settings.specs.Steps.{place-next, place_up, listed_next, marked_next}
+use Rattle.settings.proofs.Steps.{place-next, place_up, listed_next, marked_next}
 use Rattle.meaning.specs.Events.{identifiers, events_of, all_marked}
 use Rattle.settings_rows.proofs.list_events.Tie as tie
 use Rattle.settings_rows.proofs.list_events.Lts as lts

@@ -10,11 +10,11 @@ use lib.Seq.{take_at}
 use Rattle.event_laws.specs.Sound.{sound-long, sound-short, sound-unmarked, sound-by}
 use Rattle.laws.specs.Lookup as Lookup
 use Rattle.settings.specs.declared.Version.{Version}
-use Rattle.settings.specs.Only.{rows-length}
-use Rattle.settings.specs.Puts.{prefix-length}
+use Rattle.settings.proofs.Only.{rows-length}
+use Rattle.settings.proofs.Puts.{prefix-length}
 use Rattle.meaning.specs.declared.Event.{Event}
 use Rattle.meaning.specs.Events.{identifiers, events_of, distinct}
-use Rattle.settings.specs.Steps.{listed-length}
+use Rattle.settings.proofs.Steps.{listed-length}
 use borrow.Author.Rules.{rules}
 use Rattle.settings_rows.proofs.rows_sound.Goals as goal
 

@@ -5,8 +5,8 @@ use native.Mathlib.Omega.{arith}
 use lib.ListN.{length}
 use Rattle.settings.specs.Versions.{row_length, place_of}
 use Rattle.settings.specs.Reading.{in_turn, turns_from, count_of}
-use Rattle.settings.specs.Back.{place-most, turns-end}
-use Rattle.settings.specs.Steps.{turns_more, turn-room, place-next}
+use Rattle.settings.proofs.Back.{place-most, turns-end}
+use Rattle.settings.proofs.Steps.{turns_more, turn-room, place-next}
 use Rattle.settings_walk.proofs.count_events.Tie as tie
 use Rattle.settings_walk.proofs.count_events.Given as goal
 

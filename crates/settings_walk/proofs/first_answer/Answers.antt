@@ -6,8 +6,8 @@ use Rattle.entries.specs.declared.Entry.{Entry}
 use Rattle.entries.specs.Entries.{entry_at}
 use Rattle.settings.specs.Versions.{versions, version_of, is_known}
 use Rattle.settings.specs.Reading.{shows_version, is_last, is_event_of, shown}
-use Rattle.settings.specs.Only.{is-by, entry-room}
-use Rattle.settings.specs.Steps.{head-50, head-0, head-52, head-51, fits_by}
+use Rattle.settings.proofs.Only.{is-by, entry-room}
+use Rattle.settings.proofs.Steps.{head-50, head-0, head-52, head-51, fits_by}
 use borrow.Author.Rules.{rules}
 use Rattle.settings_walk.proofs.first_answer.Tie as tie
 use Rattle.settings_walk.proofs.first_answer.Lts as lts

@@ -13,7 +13,7 @@ use Rattle.meaning.specs.Refusals.{first}
 use Rattle.entries.specs.declared.Entry.{Entry}
 use Rattle.entries.specs.Entries.{entry_at}
 use Rattle.settings.specs.Reading.{fits, after_rows}
-use Rattle.settings.specs.Steps.{last-51, last-kind, last-ring, last-edition, last-0, last-room, after-0, after-51, after-52}
+use Rattle.settings.proofs.Steps.{last-51, last-kind, last-ring, last-edition, last-0, last-room, after-0, after-51, after-52}
 use borrow.Author.Rules.{rules}
 use Rattle.settings_walk.proofs.last_answer.Tie as tie
 use Rattle.settings_walk.proofs.last_answer.Lts as lts

@@ -10,11 +10,11 @@ use Rattle.meaning.specs.Bytes.{put}
 use Rattle.meaning.specs.Editions.{editions, allowed}
 use Rattle.meaning.specs.Ring.{length_allowed}
 use Rattle.settings.specs.Versions.{place_of}
-use Rattle.settings.specs.Puts.{place-bound, store-put, write-11, write-1, write-2, write-40, write-0, write-refused, write-given}
+use Rattle.settings.proofs.Puts.{place-bound, store-put, write-11, write-1, write-2, write-40, write-0, write-refused, write-given}
 use Rattle.entries.specs.Entries.{entry_bytes}
 use Rattle.meaning.specs.Events.{events_of, sound}
 use Rattle.settings.specs.Writing.{stored}
-use Rattle.settings.specs.Back.{rows-limit}
+use Rattle.settings.proofs.Back.{rows-limit}
 use borrow.Author.Rules.{rules}
 use Rattle.settings_write.proofs.write_in.Tie as tie
 use Rattle.settings_write.proofs.write_in.Lts as lts

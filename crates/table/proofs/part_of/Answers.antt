@@ -5,7 +5,7 @@ use Prim.Native.Nat.{ℕ}
 use native.Mathlib.Numerals.{add-one}
 use lib.ListN.{get_or}
 use Rattle.table.specs.Rows.{ends}
-use Rattle.table.specs.Same.{part-holds, none-holds}
+use Rattle.table.proofs.Same.{part-holds, none-holds}
 use borrow.Author.Rules.{rules}
 use Rattle.table.proofs.part_of.Goals as goal
 

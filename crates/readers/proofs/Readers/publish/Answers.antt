@@ -1,7 +1,7 @@
 -- Each call's answer is the definition's for that reader's tail; where both are 0 the test picks the tail at the greater distance.
 use Rattle.std.proofs.Common.{◌≡◌, ℕ, sym, ap, ◌∙◌, arith}
 use Rattle.readers.specs.declared.Published.{Published}
-use Rattle.readers.specs.Laws.{tail-as-call, published-first, published-second, published-tail, further-first, further-second}
+use Rattle.readers.proofs.Laws.{tail-as-call, published-first, published-second, published-tail, further-first, further-second}
 use Rattle.readers.proofs.Readers.publish.Goals as goal
 
 -- a refusal, and no tail

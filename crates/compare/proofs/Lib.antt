@@ -1,0 +1,13 @@
+pub mod Numbered
+pub mod Told
+pub mod Identifier
+pub mod Values
+pub mod Pairs
+pub mod Meeting
+pub mod Sides
+pub mod Turns
+pub mod Here
+pub mod Inner
+pub mod Others
+pub mod Facts
+pub mod Examples

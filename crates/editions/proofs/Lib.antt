@@ -1,0 +1,10 @@
+pub mod Outside
+pub mod InTable
+pub mod OneRecord
+pub mod Drains
+pub mod Stops
+pub mod Demand3
+pub mod Readers
+pub mod EventRecord
+pub mod EventDrains
+pub mod EventReaders
