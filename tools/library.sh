@@ -201,10 +201,9 @@ library_for() { # TARGET INTO
 }
 
 programs_for() { # TARGET INTO
-  local folder folders include=() sources=() narrow=()
+  local folder folders include=() sources=()
   object "$1" ringdump "$2/ringdump.o"
-  case $1 in arm-*) narrow=(narrow/ringdump.c) ;; esac
-  "$gcc" -O2 -o "$2/ringdump" "$2/ringdump.o" "${narrow[@]}"
+  "$gcc" -std=gnu99 -Wall -Wextra -Werror -O2 -o "$2/ringdump" "$2/ringdump.o" narrow/ringdump.c
   # the program's files, by the folders that its own rules name; two at a time, and the first that fails ends it
   folders=$(sed -n 's/^TOOL_FOLDERS = //p' tool/Makefile.inc)
   for folder in $folders; do include+=("-Itool/$folder") && sources+=("tool/$folder"/*.c); done

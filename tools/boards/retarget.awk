@@ -5,21 +5,28 @@
 #   attributes                          without the processor's name, x86-64
 #   an export that tells a struct in memory: its place is the first argument on x86-64 and handed back. Elsewhere it may stand in a
 #       register of its own, and nothing is handed back: marked as what it is (sret)
-#   -v sign=1 (riscv64): a number of 32 bits that an export or main returns, or read and write are given, is widened by its sign, as that
-#       machine's convention wants
-#   -v wide=1 (32 bits): exports are called ollskuvan_wide_X, read and write wide_X: narrow/ calls and defines these. What is told in two
+#   -v sign=1 (riscv64): a number of 32 bits that an export or main returns, or a function of the C library is given, is widened by its sign, as
+#       that machine's convention wants
+#   -v wide=1 (32 bits): exports are called ollskuvan_wide_X, functions of the C library wide_X: narrow/ calls and defines these. What is told in two
 #       registers of 64 bits, which C knows no type for there, is told in memory
 BEGIN {
     layout = "target datalayout = \"e-m:e-p270:32:32-p271:32:32-p272:64:64-i64:64-i128:128-f80:128-n8:16:32:64-S128\""
-    split("alloca load store getelementptr call zext trunc br ret switch unreachable phi select icmp add sub mul udiv urem and or xor shl lshr extractvalue insertvalue", words, " ")
+    split("alloca load store getelementptr call zext sext trunc br ret switch unreachable phi select icmp add sub mul udiv urem and or xor shl lshr extractvalue insertvalue", words, " ")
     for (i in words) known[words[i]] = 1
-    split("nounwind nobuiltin nocallback nocreateundeforpoison nofree nosync speculatable willreturn noreturn cold memory(argmem:_readwrite) memory(argmem:_write) memory(none) memory(inaccessiblemem:_write) \"probe-stack\"=\"inline-asm\"", words, " ")
+    split("nounwind nobuiltin nocallback nocreateundeforpoison nofree nosync speculatable willreturn noreturn cold noinline alwaysinline memory(argmem:_readwrite) memory(argmem:_write) memory(none) memory(inaccessiblemem:_write) \"probe-stack\"=\"inline-asm\" \"stack-probe-size\"=\"3072\"", words, " ")
     for (i in words) attribute[words[i]] = 1
 }
 function wrong(why) {
     printf "retarget: line %d of the module: %s: %s\n", NR, why, substr($0, 1, 200) > "/dev/stderr"
     failed = 1
     exit 1
+}
+# A call or a declaration of a function of the C library, as the target's is.
+function of_c(line) {
+    if (line !~ / @(read|write|__xpg_strerror_r|__sysv_signal)\(i32/) return line
+    if (wide) { sub(/@(__xpg_|__sysv_)?/, "@wide_", line) }
+    if (sign) sub(/\(i32/, "(i32 signext", line)
+    return line
 }
 # What names a processor, an address as a number or a type that no module had so far.
 /asm|addrspace|ptrtoint|inttoptr|x86_|i128|float|double|half|atomic|volatile|va_arg|thread_local|comdat|section|gc / {
@@ -38,11 +45,9 @@ function wrong(why) {
 }
 /^!llvm\.ident = !\{!0\}$/ || /^![0-9]+ = !\{(!"rattle logic=[0-9a-f]+"|i(8|16|32|64) [0-9]+, i(8|16|32|64) [0-9]+)?\}$/ { print; next }
 /^declare void @llvm\.mem(move\.p0|cpy\.p0|set)\.p0\.i64\(/ || /^declare void @llvm\.(trap|assume)\(/ || /^declare i(8|16|32|64) @llvm\.[a-z.]+\.i(8|16|32|64)\(/ { print; next }
-/^declare (noundef )?i64 @(read|write)\(i32( noundef)?, ptr( noundef)?, i64( noundef)?\)( #[0-9]+)?$/ {
-    if (wide) sub(/@/, "@wide_")
-    if (sign) sub(/\(i32/, "(i32 signext")
-    print; next
-}
+# the functions of the C library that the program calls, and the one beside it that tells the last error
+/^declare (noundef )?(i64 @(read|write)|i32 @__xpg_strerror_r)\(i32( noundef)?, ptr( noundef)?, i64( noundef)?\)( #[0-9]+)?$/ || /^declare i64 @__sysv_signal\(i32, i64\)( #[0-9]+)?$/ { print of_c($0); next }
+/^declare noundef i32 @rattle_errno\(\)( #[0-9]+)?$/ { print; next }
 /^@[A-Za-z0-9_."]+ = (private|internal) (unnamed_addr )?constant \[[0-9]+ x i(8|16|32|64)\] / { print; next }
 /^define internal / { if (inside) wrong("a function within another"); inside = 1; told = ""; print; next }
 /^define (noundef )?i32 @main\(\) #[0-9]+ \{$/ {
@@ -84,9 +89,7 @@ told != "" && /^  ret / { wrong("an end of another form") }
 /^  / {
     opcode = $2 == "=" ? $3 : $1
     if (!(opcode in known)) wrong("an instruction that is not known")
-    if (wide && opcode == "call") { sub(/ @read\(/, " @wide_read("); sub(/ @write\(/, " @wide_write(") }
-    if (sign && opcode == "call") { sub(/ @read\(i32/, " @read(i32 signext"); sub(/ @write\(i32/, " @write(i32 signext") }
-    print; next
+    print opcode == "call" ? of_c($0) : $0; next
 }
 { wrong("a line that is not known") }
 END {

@@ -1,1 +1,3 @@
 mod Laws
+pub mod Kinds
+pub mod Whole

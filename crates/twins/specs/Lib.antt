@@ -1,5 +1,3 @@
 pub mod Twins
 pub mod Same
 pub mod Pieces
-pub mod Kinds
-pub mod Whole

@@ -7,11 +7,11 @@ use Rattle.all_marks.proofs.marks.Goals as goal
 
 pub type_marks-p-requires : goal.type_marks-p-requires
 type_marks-p-requires c =
-    let l = trail-small c.args.a c.args.sums.now c.requires.sums_value in record { kinds_le_last_type = c.requires.kinds_le_last_type; trail_value = (sums-given c.args.a c.args.sums.now c.requires.sums_value).trail; trail_le_sum_most = omega (arith, l); }
+    let l = trail-small c.args.a c.args.sums.now c.requires.sums_value in record { kinds_le_last_type = c.requires.kinds_le_last_type; trail_value = (sums-given c.args.a c.args.sums.now c.requires.sums_value).trail; trail_le_sum_most = omega (arith, l) }
 
 pub read_mark-requires : goal.read_mark-requires
 read_mark-requires c =
-    let l = trail-small c.args.a c.args.sums.now c.requires.sums_value in record { trail_value = (sums-given c.args.a c.args.sums.now c.requires.sums_value).trail; trail_le_sum_most = omega (arith, l); }
+    let l = trail-small c.args.a c.args.sums.now c.requires.sums_value in record { trail_value = (sums-given c.args.a c.args.sums.now c.requires.sums_value).trail; trail_le_sum_most = omega (arith, l) }
 
 pub returns : goal.returns
 returns c =

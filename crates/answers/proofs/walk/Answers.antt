@@ -15,7 +15,7 @@ pub loop-k-init : goal.loop-k-init
 loop-k-init c = (c.part_of-p.ensures.ordered, c.part_of-p.ensures.within, refl)
 
 pub turn-c-requires : goal.turn-c-requires
-turn-c-requires c = record { k_lt_all_rows = omega arith; all_value = c.all_rows-all.ensures; }
+turn-c-requires c = record { k_lt_all_rows = omega arith; all_value = c.all_rows-all.ensures }
 
 pub loop-k-preserved : goal.loop-k-preserved
 loop-k-preserved c =

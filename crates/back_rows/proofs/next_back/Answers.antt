@@ -13,29 +13,29 @@ returns-then-not-length_allowed c = simp (c.halt.ensures, sym c.length_allowed.e
 pub returns-then-not-ok : goal.returns-then-not-ok
 unfolding back_frame stopped
 returns-then-not-ok c = simp (
-      c.halt-then-not-ok.ensures,
-      sym c.length_allowed.ensures ∙ c.if-not-length_allowed.false,
-      c.if-not-ok.true,
-    )
+  c.halt-then-not-ok.ensures,
+  sym c.length_allowed.ensures ∙ c.if-not-length_allowed.false,
+  c.if-not-ok.true,
+)
 
 pub returns-then-head-ne0 : goal.returns-then-head-ne0
 unfolding back_frame stopped
 returns-then-head-ne0 c = simp (
-      c.halt-then-head-ne0.ensures,
-      sym c.length_allowed.ensures ∙ c.if-not-length_allowed.false,
-      c.if-not-ok.false,
-      ne_eqb _ _ c.if-head-ne0.true,
-    )
+  c.halt-then-head-ne0.ensures,
+  sym c.length_allowed.ensures ∙ c.if-not-length_allowed.false,
+  c.if-not-ok.false,
+  ne_eqb _ _ c.if-head-ne0.true,
+)
 
 pub returns-then-not-table : goal.returns-then-not-table
 unfolding back_frame stopped
 returns-then-not-table c = simp (
-      c.halt-then-not-table.ensures,
-      sym c.length_allowed.ensures ∙ c.if-not-length_allowed.false,
-      c.if-not-ok.false,
-      eq-eqb _ _ c.if-head-ne0.false,
-      c.if-not-table.true,
-    )
+  c.halt-then-not-table.ensures,
+  sym c.length_allowed.ensures ∙ c.if-not-length_allowed.false,
+  c.if-not-ok.false,
+  eq-eqb _ _ c.if-head-ne0.false,
+  c.if-not-table.true,
+)
 
 pub nonzero_rem-place : goal.nonzero_rem-place
 nonzero_rem-place c = omega (arith, length-bounds _ (sym c.length_allowed.ensures ∙ c.if-not-length_allowed.false))
@@ -47,10 +47,10 @@ placed_at-requires c = header-whole _ _ (sym c.length_allowed.ensures ∙ c.if-n
 pub returns : goal.returns
 unfolding back_frame stopped
 returns c = simp (
-      c.placed_at.ensures,
-      c.distance-way.ensures,
-      sym c.length_allowed.ensures ∙ c.if-not-length_allowed.false,
-      c.if-not-ok.false,
-      eq-eqb _ _ c.if-head-ne0.false,
-      c.if-not-table.false,
-    )
+  c.placed_at.ensures,
+  c.distance-way.ensures,
+  sym c.length_allowed.ensures ∙ c.if-not-length_allowed.false,
+  c.if-not-ok.false,
+  eq-eqb _ _ c.if-head-ne0.false,
+  c.if-not-table.false,
+)

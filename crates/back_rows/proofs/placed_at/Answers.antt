@@ -19,97 +19,97 @@ returns-then-len-way c = simp (c.halt.ensures, sym c.u16_at-size.ensures.0, le-l
 pub returns-then-size-eq0 : goal.returns-then-size-eq0
 unfolding placed stopped
 returns-then-size-eq0 c = simp (
-      c.halt-then-size-eq0.ensures,
-      sym c.u16_at-size.ensures.0,
-      lt-leb _ _ c.if-len-way.false,
-      eq-eqb _ _ c.if-size-eq0.true,
-    )
+  c.halt-then-size-eq0.ensures,
+  sym c.u16_at-size.ensures.0,
+  lt-leb _ _ c.if-len-way.false,
+  eq-eqb _ _ c.if-size-eq0.true,
+)
 
 pub returns-then-size-lt8 : goal.returns-then-size-lt8
 unfolding placed stopped
 returns-then-size-lt8 c = simp (
-      c.halt-then-size-lt8.ensures,
-      sym c.u16_at-size.ensures.0,
-      lt-leb _ _ c.if-len-way.false,
-      ne_eqb _ _ c.if-size-eq0.false,
-      lt-ltb _ _ c.if-size-lt8.true,
-    )
+  c.halt-then-size-lt8.ensures,
+  sym c.u16_at-size.ensures.0,
+  lt-leb _ _ c.if-len-way.false,
+  ne_eqb _ _ c.if-size-eq0.false,
+  lt-ltb _ _ c.if-size-lt8.true,
+)
 
 pub returns-then-size-ne0 : goal.returns-then-size-ne0
 unfolding placed stopped
 returns-then-size-ne0 c = simp (
-      c.halt-then-size-ne0.ensures,
-      sym c.u16_at-size.ensures.0,
-      lt-leb _ _ c.if-len-way.false,
-      ne_eqb _ _ c.if-size-eq0.false,
-      le-ltb _ _ c.if-size-lt8.false,
-      ne_eqb _ _ c.if-size-ne0.true,
-    )
+  c.halt-then-size-ne0.ensures,
+  sym c.u16_at-size.ensures.0,
+  lt-leb _ _ c.if-len-way.false,
+  ne_eqb _ _ c.if-size-eq0.false,
+  le-ltb _ _ c.if-size-lt8.false,
+  ne_eqb _ _ c.if-size-ne0.true,
+)
 
 pub returns-then-len-way-2 : goal.returns-then-len-way-2
 unfolding placed stopped
 returns-then-len-way-2 c = simp (
-      c.halt-then-len-way-2.ensures,
-      sym c.u16_at-size.ensures.0,
-      lt-leb _ _ c.if-len-way.false,
-      ne_eqb _ _ c.if-size-eq0.false,
-      le-ltb _ _ c.if-size-lt8.false,
-      eq-eqb _ _ c.if-size-ne0.false,
-      far _ _ _ c.if-len-way.false c.if-len-way-2.true,
-    )
+  c.halt-then-len-way-2.ensures,
+  sym c.u16_at-size.ensures.0,
+  lt-leb _ _ c.if-len-way.false,
+  ne_eqb _ _ c.if-size-eq0.false,
+  le-ltb _ _ c.if-size-lt8.false,
+  eq-eqb _ _ c.if-size-ne0.false,
+  far _ _ _ c.if-len-way.false c.if-len-way-2.true,
+)
 
 pub returns-then-left-eq0 : goal.returns-then-left-eq0
 unfolding placed stopped
 returns-then-left-eq0 c = simp (
-      c.halt-then-left-eq0.ensures,
-      sym c.u16_at-size.ensures.0,
-      lt-leb _ _ c.if-len-way.false,
-      ne_eqb _ _ c.if-size-eq0.false,
-      le-ltb _ _ c.if-size-lt8.false,
-      eq-eqb _ _ c.if-size-ne0.false,
-      near _ _ _ c.if-len-way.false c.if-len-way-2.false,
-      eq-eqb _ _ c.if-left-eq0.true,
-    )
+  c.halt-then-left-eq0.ensures,
+  sym c.u16_at-size.ensures.0,
+  lt-leb _ _ c.if-len-way.false,
+  ne_eqb _ _ c.if-size-eq0.false,
+  le-ltb _ _ c.if-size-lt8.false,
+  eq-eqb _ _ c.if-size-ne0.false,
+  near _ _ _ c.if-len-way.false c.if-len-way-2.false,
+  eq-eqb _ _ c.if-left-eq0.true,
+)
 
 pub returns-then-journal-lt16 : goal.returns-then-journal-lt16
 unfolding placed stopped
 returns-then-journal-lt16 c = simp (
-      c.halt-then-journal-lt16.ensures,
-      sym c.u16_at-size.ensures.0,
-      lt-leb _ _ c.if-len-way.false,
-      ne_eqb _ _ c.if-size-eq0.false,
-      le-ltb _ _ c.if-size-lt8.false,
-      eq-eqb _ _ c.if-size-ne0.false,
-      near _ _ _ c.if-len-way.false c.if-len-way-2.false,
-      ne_eqb _ _ c.if-left-eq0.false,
-      lt-ltb _ _ c.if-journal-lt16.true,
-    )
+  c.halt-then-journal-lt16.ensures,
+  sym c.u16_at-size.ensures.0,
+  lt-leb _ _ c.if-len-way.false,
+  ne_eqb _ _ c.if-size-eq0.false,
+  le-ltb _ _ c.if-size-lt8.false,
+  eq-eqb _ _ c.if-size-ne0.false,
+  near _ _ _ c.if-len-way.false c.if-len-way-2.false,
+  ne_eqb _ _ c.if-left-eq0.false,
+  lt-ltb _ _ c.if-journal-lt16.true,
+)
 
 pub returns-then-crosses-scratch : goal.returns-then-crosses-scratch
 unfolding placed stopped
 returns-then-crosses-scratch c = simp (
-      c.halt-then-crosses-scratch.ensures,
-      sym c.u16_at-size.ensures.0,
-      lt-leb _ _ c.if-len-way.false,
-      ne_eqb _ _ c.if-size-eq0.false,
-      le-ltb _ _ c.if-size-lt8.false,
-      eq-eqb _ _ c.if-size-ne0.false,
-      near _ _ _ c.if-len-way.false c.if-len-way-2.false,
-      ne_eqb _ _ c.if-left-eq0.false,
-      le-ltb _ _ c.if-journal-lt16.false,
-      rw c.lies_whole-crosses.ensures at c.if-crosses-scratch.true,
-    )
+  c.halt-then-crosses-scratch.ensures,
+  sym c.u16_at-size.ensures.0,
+  lt-leb _ _ c.if-len-way.false,
+  ne_eqb _ _ c.if-size-eq0.false,
+  le-ltb _ _ c.if-size-lt8.false,
+  eq-eqb _ _ c.if-size-ne0.false,
+  near _ _ _ c.if-len-way.false c.if-len-way-2.false,
+  ne_eqb _ _ c.if-left-eq0.false,
+  le-ltb _ _ c.if-journal-lt16.false,
+  rw c.lies_whole-crosses.ensures at c.if-crosses-scratch.true,
+)
 
 pub returns : goal.returns
 unfolding placed stopped
 returns c = simp (
-      sym c.u16_at-size.ensures.0,
-      lt-leb _ _ c.if-len-way.false,
-      ne_eqb _ _ c.if-size-eq0.false,
-      le-ltb _ _ c.if-size-lt8.false,
-      eq-eqb _ _ c.if-size-ne0.false,
-      near _ _ _ c.if-len-way.false c.if-len-way-2.false,
-      ne_eqb _ _ c.if-left-eq0.false,
-      le-ltb _ _ c.if-journal-lt16.false,
-      rw c.lies_whole-crosses.ensures at c.if-crosses-scratch.false,
-    )
+  sym c.u16_at-size.ensures.0,
+  lt-leb _ _ c.if-len-way.false,
+  ne_eqb _ _ c.if-size-eq0.false,
+  le-ltb _ _ c.if-size-lt8.false,
+  eq-eqb _ _ c.if-size-ne0.false,
+  near _ _ _ c.if-len-way.false c.if-len-way-2.false,
+  ne_eqb _ _ c.if-left-eq0.false,
+  le-ltb _ _ c.if-journal-lt16.false,
+  rw c.lies_whole-crosses.ensures at c.if-crosses-scratch.false,
+)

@@ -22,10 +22,10 @@ returns c =
     let a = c.args in
     let xs : List ℕ = a.s.now in
     let e : c.if-index.fixed ≡ branch_fixed a.index =
-      elim c.if-index.branch [
-        then-index w ↦ w.fixed-is ∙ sym (ap branch_fixed w.if-index.true)
+    elim c.if-index.branch [
+      | then-index w ↦ w.fixed-is ∙ sym (ap branch_fixed w.if-index.true)
       | else-index w ↦ w.fixed-is ∙ sym (ap branch_fixed w.if-index.false)
-      ]
+    ]
     in
     as-known (λ (t : Bool). branch_list t a.index) xs a.at _ true a.on c.if-not-on.false
     (branch-ends xs a.index a.at c.requires.at_in_bounds _ (c.elements.ensures ∙ ap (λ (k : ℕ). counted_place xs a.at k 24) e))

@@ -12,8 +12,8 @@ thirty p e q = let w = sym (ap (λ (r : Place). r.why) e) ∙ q in omega (arith,
 
 pub returns-then-s-at : goal.returns-then-s-at
 returns-then-s-at c =
-    let a = c.args in record { leaves = λ is f e. (refusing a.s.now is a.at _ 30 c.refused.ensures (λ q. omega (arith, q)) (steady-refused a.s.now is a.at a.k f e (omega arith) (omega arith))).0; at_in_bounds = λ q. absurd (thirty _ c.refused.ensures q); }
+    let a = c.args in record { leaves = λ is f e. (refusing a.s.now is a.at _ 30 c.refused.ensures (λ q. omega (arith, q)) (steady-refused a.s.now is a.at a.k f e (omega arith) (omega arith))).0; at_in_bounds = λ q. absurd (thirty _ c.refused.ensures q) }
 
 pub returns : goal.returns
 returns c =
-    let a = c.args in record { leaves = λ is f e. steady-leaves a.s.now is a.at a.k f e (omega arith); at_in_bounds = λ q. omega arith; }
+    let a = c.args in record { leaves = λ is f e. steady-leaves a.s.now is a.at a.k f e (omega arith); at_in_bounds = λ q. omega arith }

@@ -1,10 +1,13 @@
 -- SAMPLE's and READ's marks are noted; the other types' follow from what is noted of the event.
 use mathlib.Core.Path.{◌≡◌, sym, ap, ◌∙◌, subst}
+use mathlib.Core.List.{List}
 use Prim.Native.Nat.{ℕ}
 use native.Mathlib.Omega.{arith}
 use lib.ListN.{get_or}
 use borrow.Author.Rules.{rules}
 use Rattle.meaning.specs.declared.Attributes.{Attributes}
+use Rattle.meaning.specs.declared.Event.{Event}
+use Rattle.meaning.specs.declared.Known.{Known}
 use Rattle.meaning.specs.Editions.{unreadable}
 use Rattle.meaning.specs.Schema.{trailer}
 use Rattle.meaning.specs.Records.{room}
@@ -12,28 +15,21 @@ use Rattle.meaning.specs.Events.{attributes_of, event_at, events_of}
 use Rattle.laws.specs.Lookup.{rows-length}
 use Rattle.sums.specs.Sums.{trail-small, sums-given}
 use Rattle.marks.specs.Marks.{Marked, unreadable-most}
-use Rattle.slots.specs.Slots.{Planned, attributes_for}
-use Rattle.event_plan.proofs.mark_of.Tie as tie
-use Rattle.event_plan.proofs.mark_of.Lts as lts
-use Rattle.event_plan.proofs.mark_of.Reads as reads
+use Rattle.slots.specs.Slots.{SlotOf, attributes_for}
 use Rattle.event_plan.proofs.mark_of.Goals as goal
 
--- what the slot says of the event
-planned : (s : lts.Start tie.the-claims reads.Pre reads.Post tie.handed_clauses) → Planned s.args.known (attributes_for (events_of s.args.rows.now) s.args.id) s.args.slot.now
-planned s = s.requires.slot_of.planned s.requires.slot_value
-
 -- the attributes at the noted index are the event's
-same : (c : lts.After-attributes_at tie.the-claims reads.Pre reads.Post tie.handed_clauses) → c.attributes_at-a.result ≡ attributes_for (events_of c.args.rows.now) c.args.id
-same c =
-    c.attributes_at-a.ensures ∙ ap (λ (j : ℕ). attributes_of (event_at (events_of c.args.rows.now) j)) (c.requires.slot_of.index c.requires.slot_value).0
+same : (k : Known) (es : List Event) (id : ℕ) (slot : List ℕ) (a : Attributes) → SlotOf k es id slot → get_or slot 1 0 ≡ 2
+    → a ≡ attributes_of (event_at es (get_or slot 5 0)) → a ≡ attributes_for es id
+same k es id slot a held there is = is ∙ ap (λ (j : ℕ). attributes_of (event_at es j)) (held.index there).0
 
 pub returns-then-kind-eq9 : goal.returns-then-kind-eq9
 returns-then-kind-eq9 c =
-    subst (λ (n : ℕ). Marked c.args.known (attributes_for (events_of c.args.rows.now) c.args.id) n (get_or c.args.slot.now 3 0)) (sym c.if-kind-eq9.true) (planned c.before.before.before).sample
+    subst (λ (n : ℕ). Marked c.args.known (attributes_for (events_of c.args.rows.now) c.args.id) n (get_or c.args.slot.now 3 0)) (sym c.if-kind-eq9.true) (c.requires.slot_of.planned c.requires.slot_value).sample
 
 pub returns-then-kind-eq8 : goal.returns-then-kind-eq8
 returns-then-kind-eq8 c =
-    subst (λ (n : ℕ). Marked c.args.known (attributes_for (events_of c.args.rows.now) c.args.id) n (get_or c.args.slot.now 4 0)) (sym c.if-kind-eq8.true) (planned c.before.before.before.before).read
+    subst (λ (n : ℕ). Marked c.args.known (attributes_for (events_of c.args.rows.now) c.args.id) n (get_or c.args.slot.now 4 0)) (sym c.if-kind-eq8.true) (c.requires.slot_of.planned c.requires.slot_value).read
 
 pub attributes_at-a-requires : goal.attributes_at-a-requires
 attributes_at-a-requires c =
@@ -42,15 +38,15 @@ attributes_at-a-requires c =
 
 pub overflow_cast-slot : goal.overflow_cast-slot
 overflow_cast-slot c =
-    omega (arith, (planned c.before.before.before.before.before.before).why, unreadable-most c.args.known (attributes_for (events_of c.args.rows.now) c.args.id) 1 0)
+    omega (arith, (c.requires.slot_of.planned c.requires.slot_value).why, unreadable-most c.args.known (attributes_for (events_of c.args.rows.now) c.args.id) 1 0)
 
 pub type_mark-requires : goal.type_mark-requires
 type_mark-requires c =
-    let p = planned c.before.before.before.before.before.before.before in
-    let e = same c.before.before.before in
+    let p = c.requires.slot_of.planned c.requires.slot_value in
+    let e = same c.args.known (events_of c.args.rows.now) c.args.id c.args.slot.now c.attributes_at-a.result c.requires.slot_of c.requires.slot_value c.attributes_at-a.ensures in
     let k = c.args.known in
     let l = trail-small _ _ p.sums in record { kinds_le_last_type = c.requires.kinds_le_last_type; why_value = p.why ∙ ap (λ (x : Attributes). unreadable k x 1 0) (sym e); trail_value = (sums-given _ _ p.sums).trail ∙ ap (λ (x : Attributes). room (trailer 1 x)) (sym e); trail_le_sum_most = omega (arith, l); le_kind = c.requires.le_kind; kind_le_kinds = c.requires.kind_le_kinds; fact = (c.if-kind-eq8.false, c.if-kind-eq9.false); }
 
 pub returns : goal.returns
 returns c =
-    subst (λ (x : Attributes). Marked c.args.known x c.args.kind c.type_mark.result) (same c.before.before.before.before) c.type_mark.ensures
+    subst (λ (x : Attributes). Marked c.args.known x c.args.kind c.type_mark.result) (same c.args.known (events_of c.args.rows.now) c.args.id c.args.slot.now c.attributes_at-a.result c.requires.slot_of c.requires.slot_value c.attributes_at-a.ensures) c.type_mark.ensures

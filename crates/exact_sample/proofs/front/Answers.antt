@@ -22,7 +22,7 @@ elements-requires c =
     let u = c.unit-unit.ensures in
     let b = unit-bound c.args.a.format in
     let g = c.requires.sums.group in
-    let h = group-bound c.args.a.format in record { at_in_bounds = c.sum-c.ensures.at_in_bounds c.if-c-ne0.false; s_len_bound = c.requires.s_len_bound; le_fixed = omega (arith, g, h.0); fixed_le_size_bound = omega (arith, g, h.1); le_unit = omega (arith, u, b.0); unit_bound = omega (arith, u, b.1); }
+    let h = group-bound c.args.a.format in record { at_in_bounds = c.sum-c.ensures.at_in_bounds c.if-c-ne0.false; s_len_bound = c.requires.s_len_bound; le_fixed = omega (arith, g, h.0); fixed_le_size_bound = omega (arith, g, h.1); le_unit = omega (arith, u, b.0); unit_bound = omega (arith, u, b.1) }
 
 pub returns-then-has_bit-2 : goal.returns-then-has_bit-2
 returns-then-has_bit-2 c =

@@ -15,7 +15,7 @@ use Rattle.exact_sample.proofs.rest.Goals as goal
 
 -- one sum, compared with what is left
 one-sum : (xs sums : List ℕ) (a : Attributes) (at : ℕ) → late a ≡ false → Sums a sums → weights a ≡ false → at ≤ length xs →
-  Closes xs (sample_last a) at (sizes (length xs - at) (get_or sums 2 0))
+    Closes xs (sample_last a) at (sizes (length xs - at) (get_or sums 2 0))
 one-sum xs sums a at e s w h = last-closes xs a at _ e (s.last w e) h
 
 pub returns-then-left-last : goal.returns-then-left-last
@@ -34,7 +34,7 @@ pub returns-then-c-ne0 : goal.returns-then-c-ne0
 returns-then-c-ne0 c = closes-stuck c.args.s.now (weighed c.args.a) (paged c.args.a) c.args.at _ c.weighed-c.ensures.0 c.if-c-ne0.true
 
 pub paged-requires : goal.paged-requires
-paged-requires c = record { at_in_bounds = c.weighed-c.ensures.1 c.if-c-ne0.false; sums = c.requires.sums; }
+paged-requires c = record { at_in_bounds = c.weighed-c.ensures.1 c.if-c-ne0.false; sums = c.requires.sums }
 
 pub returns : goal.returns
 returns c =

@@ -13,4 +13,4 @@ pub planned-requires : goal.planned-requires
 planned-requires c =
     let n = length c.args.r.now in
     let o = or-false (not (eqb (n % 8) 0)) (ltb 65535 n) c.if-n.false in
-    let l : n ≤ 65535 = ltb-false 65535 n o.1 in record { in_bounds = c.requires; r_len_bound = omega (arith, l); r_len = eqb-true (n % 8) 0 (not-false _ o.0); }
+    let l : n ≤ 65535 = ltb-false 65535 n o.1 in record { in_bounds = c.requires; r_len_bound = omega (arith, l); r_len = eqb-true (n % 8) 0 (not-false _ o.0) }

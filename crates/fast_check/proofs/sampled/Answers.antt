@@ -7,4 +7,4 @@ use Rattle.fast_check.proofs.sampled.Goals as goal
 
 pub judge-requires : goal.judge-requires
 judge-requires c =
-    let a = c.args in record { in_bounds = c.requires.in_bounds; r_len_bound = c.requires.r_len_bound; r_len = c.requires.r_len; kind_value = c.requires.kind_value; marked = subst (λ (k : ℕ). Marked a.known a.a k c.sample_mark-mark.result) (sym c.requires.kind_value_2) c.sample_mark-mark.ensures; sums_value = c.sums-sums.ensures; }
+    let a = c.args in record { in_bounds = c.requires.in_bounds; r_len_bound = c.requires.r_len_bound; r_len = c.requires.r_len; kind_value = c.requires.kind_value; marked = subst (λ (k : ℕ). Marked a.known a.a k c.sample_mark-mark.result) (sym c.requires.kind_value_2) c.sample_mark-mark.ensures; sums_value = c.sums-sums.ensures }

@@ -10,10 +10,10 @@ use borrow.Author.Rules.{rules}
 use Rattle.fast_read.proofs.read_into.Goals as goal
 
 pub returns-then-answer-ne0 : goal.returns-then-answer-ne0
-returns-then-answer-ne0 c = let a = c.args in let old : _ × _ = into-refused editions a.e a.a a.r.now _ c.check-answer.ensures a.words.now c.if-answer-ne0.true in record { value = old.0; words_after = old.1; }
+returns-then-answer-ne0 c = let a = c.args in let old : _ × _ = into-refused editions a.e a.a a.r.now _ c.check-answer.ensures a.words.now c.if-answer-ne0.true in record { value = old.0; words_after = old.1 }
 
 pub returns-then-words-lt-VALUE_WORDS : goal.returns-then-words-lt-VALUE_WORDS
-returns-then-words-lt-VALUE_WORDS c = let a = c.args in let old : _ × _ = into-short editions a.e a.a a.r.now _ c.check-answer.ensures a.words.now c.if-answer-ne0.false c.if-words-lt-VALUE_WORDS.true in record { value = old.0; words_after = old.1; }
+returns-then-words-lt-VALUE_WORDS c = let a = c.args in let old : _ × _ = into-short editions a.e a.a a.r.now _ c.check-answer.ensures a.words.now c.if-answer-ne0.false c.if-words-lt-VALUE_WORDS.true in record { value = old.0; words_after = old.1 }
 
 pub slice_bounds-fill-end-2 : goal.slice_bounds-fill-end-2
 slice_bounds-fill-end-2 c = sym (length-take-le 56 c.args.words.now c.if-words-lt-VALUE_WORDS.false)
@@ -25,4 +25,4 @@ fill-requires c =
 
 pub returns : goal.returns
 returns c =
-    let a = c.args in let old : _ × _ = into-filled editions a.e a.a a.r.now _ c.check-answer.ensures a.words.now _ _ c.if-answer-ne0.false c.if-words-lt-VALUE_WORDS.false c.fill.ensures (first-put a.words.now _ (ap length c.fill.ensures ∙ words_long _ _ a.r.now) c.if-words-lt-VALUE_WORDS.false) in record { value = old.0; words_after = old.1; }
+    let a = c.args in let old : _ × _ = into-filled editions a.e a.a a.r.now _ c.check-answer.ensures a.words.now _ _ c.if-answer-ne0.false c.if-words-lt-VALUE_WORDS.false c.fill.ensures (first-put a.words.now _ (ap length c.fill.ensures ∙ words_long _ _ a.r.now) c.if-words-lt-VALUE_WORDS.false) in record { value = old.0; words_after = old.1 }

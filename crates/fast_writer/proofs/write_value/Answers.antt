@@ -12,7 +12,7 @@ returns-then-why-ne0 c =
     let why-is = c.unreadable-why.ensures ∙ ap (λ (k : Known). unreadable k a.a c.word-kind.result c.word-misc.result) c.edition.ensures in
     let old : _ × _ = answers-unknown a.e a.a a.source.now a.ws.now a.buffer.now c.requires.0 c.word-kind.result c.word-misc.result
     c.word-kind.ensures c.word-misc.ensures c.unreadable-why.result why-is c.if-why-ne0.true in
-    record { value = old.0; buffer_after = old.1; }
+    record { value = old.0; buffer_after = old.1 }
 
 pub returns-then-flag_set : goal.returns-then-flag_set
 returns-then-flag_set c =
@@ -20,7 +20,7 @@ returns-then-flag_set c =
     let why-is = c.unreadable-why.ensures ∙ ap (λ (k : Known). unreadable k a.a c.word-kind.result c.word-misc.result) c.edition.ensures in
     let old : _ × _ = answers-43 a.e a.a a.source.now a.ws.now a.buffer.now c.requires.0 c.word-kind.result c.word-misc.result
     c.word-kind.ensures c.word-misc.ensures c.unreadable-why.result why-is c.if-why-ne0.false c.flag_set.result c.flag_set.ensures c.if-flag_set.true in
-    record { value = old.0; buffer_after = old.1; }
+    record { value = old.0; buffer_after = old.1 }
 
 pub returns : goal.returns
 returns c =
@@ -28,4 +28,4 @@ returns c =
     let why-is = c.unreadable-why.ensures ∙ ap (λ (k : Known). unreadable k a.a c.word-kind.result c.word-misc.result) c.edition.ensures in
     let old : _ × _ = answers-known a.e a.a a.source.now a.ws.now a.buffer.now c.requires.0 c.word-kind.result c.word-misc.result
     c.word-kind.ensures c.word-misc.ensures c.unreadable-why.result why-is c.if-why-ne0.false c.flag_set.result c.flag_set.ensures c.if-flag_set.false _ _ (c.write_known.ensures.value, c.write_known.ensures.buffer_after) in
-    record { value = old.0; buffer_after = old.1; }
+    record { value = old.0; buffer_after = old.1 }

@@ -33,4 +33,4 @@ pub type_mark-requires : goal.type_mark-requires
 type_mark-requires c =
     let a = c.args in
     let o = or-false (eqb a.kind 0) (ltb a.known.kinds a.kind) c.if-kind-known.false in
-    let z = eqb-false a.kind 0 o.0 in record { kinds_le_last_type = c.requires.kinds_le_last_type; why_value = c.unreadable.ensures; trail_value = c.requires.trail_value; trail_le_sum_most = c.requires.trail_le_sum_most; le_kind = omega (arith, z); kind_le_kinds = ltb-false a.known.kinds a.kind o.1; fact = (c.if-kind-eq8.false, c.requires.fact); }
+    let z = eqb-false a.kind 0 o.0 in record { kinds_le_last_type = c.requires.kinds_le_last_type; why_value = c.unreadable.ensures; trail_value = c.requires.trail_value; trail_le_sum_most = c.requires.trail_le_sum_most; le_kind = omega (arith, z); kind_le_kinds = ltb-false a.known.kinds a.kind o.1; fact = (c.if-kind-eq8.false, c.requires.fact) }

@@ -10,7 +10,7 @@ use Rattle.meaning.specs.Events.{attributes_of, event_at, events_of, identifiers
 use Rattle.laws.specs.Bytes.{apart}
 use Rattle.laws.specs.Lookup.{rows-length}
 use Rattle.twins.specs.Twins.{Beside}
-use Rattle.twins.specs.Whole.{same-like}
+use Rattle.twins.proofs.Whole.{same-like}
 use Rattle.laws.specs.Numbers.{kind-is, misc-is}
 use Rattle.pairs.specs.Start.{framed-long, accepted-long, accepted-there, beside-is, like-alike}
 use Rattle.pairs.proofs.like.Goals as goal

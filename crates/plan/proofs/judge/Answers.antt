@@ -14,7 +14,7 @@ weighs c =
     one-weight c.args.known c.args.a (ap (λ (t : ℕ). unreadable c.args.known c.args.a t 0) (sym m.0) ∙ m.1)
 
 pub sample-requires : goal.sample-requires
-sample-requires c = record { in_bounds = c.requires.in_bounds; s_len_bound = c.requires.r_len_bound; sums = sums-given c.args.a c.args.sums.now c.requires.sums_value; a_value = weighs c; }
+sample-requires c = record { in_bounds = c.requires.in_bounds; s_len_bound = c.requires.r_len_bound; sums = sums-given c.args.a c.args.sums.now c.requires.sums_value; a_value = weighs c }
 
 pub returns-then-mark-eq-STRETCHED : goal.returns-then-mark-eq-STRETCHED
 returns-then-mark-eq-STRETCHED c =
@@ -24,4 +24,4 @@ returns-then-mark-eq-STRETCHED c =
 
 pub other-requires : goal.other-requires
 other-requires c =
-    let g = sums-given c.args.a c.args.sums.now c.requires.sums_value in record { in_bounds = c.requires.in_bounds; r_len_bound = c.requires.r_len_bound; r_len = c.requires.r_len; kind_value = c.requires.kind_value; marked = c.requires.marked; trail_value = g.trail; trail_le_trail_most = trail-small c.args.a c.args.sums.now c.requires.sums_value; fixed_value = (λ e. g.group); fact = c.if-mark-eq-STRETCHED.false; }
+    let g = sums-given c.args.a c.args.sums.now c.requires.sums_value in record { in_bounds = c.requires.in_bounds; r_len_bound = c.requires.r_len_bound; r_len = c.requires.r_len; kind_value = c.requires.kind_value; marked = c.requires.marked; trail_value = g.trail; trail_le_trail_most = trail-small c.args.a c.args.sums.now c.requires.sums_value; fixed_value = (λ e. g.group); fact = c.if-mark-eq-STRETCHED.false }

@@ -23,4 +23,4 @@ returns-then-mark-ge-REFUSED c =
     refused-judged a.known a.a a.r.now a.kind c.requires.kind_value (a.mark - refused_mark) (m.2 (misc_of a.r.now)) (λ z. omega (arith, z, l))
 
 pub opened-requires : goal.opened-requires
-opened-requires c = record { in_bounds = c.requires.in_bounds; r_len_bound = c.requires.r_len_bound; r_len = c.requires.r_len; kind_value = c.requires.kind_value; marked = c.requires.marked; trail_value = c.requires.trail_value; trail_le_trail_most = c.requires.trail_le_trail_most; fixed_value = c.requires.fixed_value; open_mark_le_mark = c.if-mark-lt-OPEN.false; mark_lt_refused_mark = c.if-mark-ge-REFUSED.false; fact = c.requires.fact; }
+opened-requires c = record { in_bounds = c.requires.in_bounds; r_len_bound = c.requires.r_len_bound; r_len = c.requires.r_len; kind_value = c.requires.kind_value; marked = c.requires.marked; trail_value = c.requires.trail_value; trail_le_trail_most = c.requires.trail_le_trail_most; fixed_value = c.requires.fixed_value; open_mark_le_mark = c.if-mark-lt-OPEN.false; mark_lt_refused_mark = c.if-mark-ge-REFUSED.false; fact = c.requires.fact }

@@ -6,7 +6,7 @@ use borrow.Author.Rules.{rules}
 use Rattle.salvage_steps.proofs.write_closed.Goals as goal
 
 pub overflow_mul-place : goal.overflow_mul-place
-overflow_mul-place c = omega (arith, c.requires c.if-start-at.true, c.before.before.before.before)
+overflow_mul-place c = omega (arith, c.requires c.if-start-at.true)
 
 pub put_hole-requires : goal.put_hole-requires
 put_hole-requires c = c.requires c.if-start-at.true

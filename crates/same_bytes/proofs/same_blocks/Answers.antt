@@ -16,7 +16,7 @@ pub overflow_sub-n : goal.overflow_sub-n
 overflow_sub-n c = c.loop-k.invariant.most
 
 pub same_four-requires : goal.same_four-requires
-same_four-requires c = let p₀ = c.requires.n_in_bounds in let p₁ = c.requires.n_in_bounds_2 in let h = c.loop-k-test.true in record { i_in_bounds = omega (arith, p₀, h); j_in_bounds = omega (arith, p₁, h); }
+same_four-requires c = let p₀ = c.requires.n_in_bounds in let p₁ = c.requires.n_in_bounds_2 in let h = c.loop-k-test.true in record { i_in_bounds = omega (arith, p₀, h); j_in_bounds = omega (arith, p₁, h) }
 
 pub returns-then-not-same_four : goal.returns-then-not-same_four
 returns-then-not-same_four c = c.loop-k.invariant

@@ -12,7 +12,7 @@ use Rattle.meaning.specs.Schema.{trailer}
 use Rattle.meaning.specs.Records.{room}
 use Rattle.same_parts.specs.Parts.{around_res, body_same}
 use Rattle.twins.specs.Same.{trail_bits, body_end, trail_before}
-use Rattle.twins.specs.Whole.{room-there, body-accepted}
+use Rattle.twins.proofs.Whole.{room-there, body-accepted}
 use Rattle.twins.proofs.Laws.{but-body, but-trail, but-flags}
 use Rattle.twins.proofs.same_but.Goals as goal
 

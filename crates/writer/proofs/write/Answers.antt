@@ -10,11 +10,11 @@ use Rattle.writer.proofs.write.Goals as goal
 
 pub returns-then-not-allowed : goal.returns-then-not-allowed
 returns-then-not-allowed c =
-    let a = c.args in let old : _ × _ = lent-2 a.e a.a a.source.now a.words.now a.buffer.now (sym c.allowed.ensures ∙ c.if-not-allowed.true) in record { value = old.0; buffer_after = old.1; }
+    let a = c.args in let old : _ × _ = lent-2 a.e a.a a.source.now a.words.now a.buffer.now (sym c.allowed.ensures ∙ c.if-not-allowed.true) in record { value = old.0; buffer_after = old.1 }
 
 pub returns-then-words-lt-VALUE_WORDS : goal.returns-then-words-lt-VALUE_WORDS
 returns-then-words-lt-VALUE_WORDS c =
-    let a = c.args in let old : _ × _ = too_few a.e a.a a.source.now a.words.now a.buffer.now (sym c.allowed.ensures ∙ c.if-not-allowed.false) c.if-words-lt-VALUE_WORDS.true in record { value = old.0; buffer_after = old.1; }
+    let a = c.args in let old : _ × _ = too_few a.e a.a a.source.now a.words.now a.buffer.now (sym c.allowed.ensures ∙ c.if-not-allowed.false) c.if-words-lt-VALUE_WORDS.true in record { value = old.0; buffer_after = old.1 }
 
 pub slice_bounds-write_value-end : goal.slice_bounds-write_value-end
 slice_bounds-write_value-end c = sym (length-take-le value_words c.args.words.now (omega (arith, c.if-words-lt-VALUE_WORDS.false)))
@@ -25,4 +25,4 @@ write_value-requires c = sym c.allowed.ensures ∙ c.if-not-allowed.false
 pub returns : goal.returns
 returns c =
     let a = c.args in let old : _ × _ = enough a.e a.a a.source.now a.words.now a.buffer.now (sym c.allowed.ensures ∙ c.if-not-allowed.false) c.if-words-lt-VALUE_WORDS.false _ _
-    c.write_value.ensures.value c.write_value.ensures.buffer_after in record { value = old.0; buffer_after = old.1; }
+    c.write_value.ensures.value c.write_value.ensures.buffer_after in record { value = old.0; buffer_after = old.1 }

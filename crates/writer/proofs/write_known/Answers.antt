@@ -21,7 +21,7 @@ returns-then-any_beyond c =
     sym (beyond-lays a.source.now a.ws.now c.body-b.result a.a a.kind (schema a.kind a.misc a.a) c.start_at.result c.any_beyond.result
     c.body-b.ensures c.start_at.ensures c.any_beyond.ensures) in
     let old : _ × _ = known-41 a.source.now a.ws.now a.buffer.now a.a a.kind a.misc c.any_beyond.result passing c.if-any_beyond.true in
-    record { value = old.0; buffer_after = old.1; }
+    record { value = old.0; buffer_after = old.1 }
 
 pub measure-end-requires : goal.measure-end-requires
 measure-end-requires c =
@@ -38,7 +38,7 @@ returns-then-end-eq0 c =
     sym (beyond-lays a.source.now a.ws.now c.body-b.result a.a a.kind (schema a.kind a.misc a.a) c.start_at.result c.any_beyond.result
     c.body-b.ensures c.start_at.ensures c.any_beyond.ensures) in
     let old : _ × _ = known-42 a.source.now a.ws.now a.buffer.now a.a a.kind a.misc c.any_beyond.result passing c.if-any_beyond.false c.measure-end.result c.measure-end.ensures c.if-end-eq0.true in
-    record { value = old.0; buffer_after = old.1; }
+    record { value = old.0; buffer_after = old.1 }
 
 pub returns-then-buffer-end : goal.returns-then-buffer-end
 returns-then-buffer-end c =
@@ -47,7 +47,7 @@ returns-then-buffer-end c =
     sym (beyond-lays a.source.now a.ws.now c.body-b.result a.a a.kind (schema a.kind a.misc a.a) c.start_at.result c.any_beyond.result
     c.body-b.ensures c.start_at.ensures c.any_beyond.ensures) in
     let old : _ × _ = known-40 a.source.now a.ws.now a.buffer.now a.a a.kind a.misc c.any_beyond.result passing c.if-any_beyond.false c.measure-end.result c.measure-end.ensures c.if-end-eq0.false c.if-buffer-end.true in
-    record { value = old.0; buffer_after = old.1; }
+    record { value = old.0; buffer_after = old.1 }
 
 pub put_record-requires : goal.put_record-requires
 put_record-requires c =
@@ -65,4 +65,4 @@ returns c =
     sym (beyond-lays a.source.now a.ws.now c.body-b.result a.a a.kind (schema a.kind a.misc a.a) c.start_at.result c.any_beyond.result
     c.body-b.ensures c.start_at.ensures c.any_beyond.ensures) in
     let old : _ × _ = known-0 a.source.now a.ws.now a.buffer.now a.a a.kind a.misc c.any_beyond.result passing c.if-any_beyond.false c.measure-end.result c.measure-end.ensures c.if-end-eq0.false c.if-buffer-end.false _ c.put_record.ensures in
-    record { value = old.0; buffer_after = old.1; }
+    record { value = old.0; buffer_after = old.1 }

@@ -15,7 +15,7 @@ loop-k-init c =
     record { same = refl; fine = p.4; room = p.5; long = refl; within = record { rows = p.0; words = omega (arith, p.2) }; place = p.3 }
 
 pub item_here-i-requires : goal.item_here-i-requires
-item_here-i-requires c = record { k_lt_all_rows = omega (arith, c.loop-k-test.true, c.requires.1); all_value = c.all_rows-all.ensures; }
+item_here-i-requires c = record { k_lt_all_rows = omega (arith, c.loop-k-test.true, c.requires.1); all_value = c.all_rows-all.ensures }
 
 pub given_by-s-requires : goal.given_by-s-requires
 given_by-s-requires c = omega (arith, c.loop-k.invariant.within.words, c.loop-k-test.true, c.requires.1)

@@ -11,7 +11,7 @@ pub loop-k-init : goal.loop-k-init
 loop-k-init c = record { same = refl; within = record { rows = c.requires.0; words = omega (arith, c.requires.2) }; place = c.requires.3; fine = c.requires.4 }
 
 pub item_here-i-requires : goal.item_here-i-requires
-item_here-i-requires c = record { k_lt_all_rows = omega (arith, c.loop-k-test.true, c.requires.1); all_value = c.all_rows-all.ensures; }
+item_here-i-requires c = record { k_lt_all_rows = omega (arith, c.loop-k-test.true, c.requires.1); all_value = c.all_rows-all.ensures }
 
 pub given_by-s-requires : goal.given_by-s-requires
 given_by-s-requires c = omega (arith, c.loop-k.invariant.within.words, c.loop-k-test.true, c.requires.1)

@@ -10,7 +10,7 @@ pub loop-k-init : goal.loop-k-init
 loop-k-init c = record { same = refl; rows = c.requires.0; few = omega (arith, c.requires.2) }
 
 pub item_here-i-requires : goal.item_here-i-requires
-item_here-i-requires c = record { k_lt_all_rows = omega (arith, c.loop-k-test.true, c.requires.1); all_value = c.all_rows-all.ensures; }
+item_here-i-requires c = record { k_lt_all_rows = omega (arith, c.loop-k-test.true, c.requires.1); all_value = c.all_rows-all.ensures }
 
 pub overflow_add-end : goal.overflow_add-end
 overflow_add-end c = omega (arith, c.loop-k.invariant.few, c.words_of-end.ensures.1, c.loop-k-test.true, c.requires.1)

@@ -31,11 +31,11 @@ returns c =
     let xs = a.s.now in
     let last : ℕ = length xs - 8 in
     elim c.if-i-last.branch [
-      then-i-last+else-zero8 w ↦
-        let e : l.i + 8 ≡ last = omega (arith, w.if-i-last.true, c.loop-i-test.false, l.invariant.2) in
-        scan-last xs a.at last _ c.zero8-2.ensures (omega arith)
-        (subst (Scanned xs a.at) e (scan-on xs a.at 8 l.i _ w.zero8.ensures w.if-zero8.false (omega arith) l.invariant.3))
-    | else-i-last w ↦
-        let e : l.i ≡ last = omega (arith, w.if-i-last.false) in
-        scan-last xs a.at last _ c.zero8-2.ensures (omega arith) (subst (Scanned xs a.at) e l.invariant.3)
+      | then-i-last+else-zero8 w ↦
+          let e : l.i + 8 ≡ last = omega (arith, w.if-i-last.true, c.loop-i-test.false, l.invariant.2) in
+          scan-last xs a.at last _ c.zero8-2.ensures (omega arith)
+          (subst (Scanned xs a.at) e (scan-on xs a.at 8 l.i _ w.zero8.ensures w.if-zero8.false (omega arith) l.invariant.3))
+      | else-i-last w ↦
+          let e : l.i ≡ last = omega (arith, w.if-i-last.false) in
+          scan-last xs a.at last _ c.zero8-2.ensures (omega arith) (subst (Scanned xs a.at) e l.invariant.3)
     ]

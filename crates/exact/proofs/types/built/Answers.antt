@@ -17,7 +17,7 @@ pub returns-then-u8_at-gt20 : goal.returns-then-u8_at-gt20
 returns-then-u8_at-gt20 c = build-bad c.args.f.now c.requires.in_bounds c.if-f-lt48.false (omega (arith, c.u8_at.ensures.0, c.if-u8_at-gt20.true))
 
 pub named-requires : goal.named-requires
-named-requires c = record { f_len = c.requires.f_len; from_value = refl; }
+named-requires c = record { f_len = c.requires.f_len; from_value = refl }
 
 pub returns : goal.returns
 returns c =

@@ -18,7 +18,7 @@ elements-requires c =
     let u = c.unit-unit.ensures in
     let b = unit-bound c.args.format in
     let g = c.requires.fixed_value in
-    let h = group-bound c.args.format in record { at_in_bounds = c.if-f-lt16.false; s_len_bound = c.requires.f_len_bound; le_fixed = omega (arith, g, h.0); fixed_le_size_bound = omega (arith, g, h.1); le_unit = omega (arith, u, b.0); unit_bound = omega (arith, u, b.1); }
+    let h = group-bound c.args.format in record { at_in_bounds = c.if-f-lt16.false; s_len_bound = c.requires.f_len_bound; le_fixed = omega (arith, g, h.0); fixed_le_size_bound = omega (arith, g, h.1); le_unit = omega (arith, u, b.0); unit_bound = omega (arith, u, b.1) }
 
 pub returns : goal.returns
 returns c =

@@ -10,7 +10,7 @@ pub returns-then-f-from : goal.returns-then-f-from
 returns-then-f-from c = sym (name-short _ _ c.if-f-from.true)
 
 pub name_ok-requires : goal.name_ok-requires
-name_ok-requires c = let l = c.if-f-from.false in let m = c.requires.f_len in let n = c.requires.from_value in record { at_in_bounds = l; at_value = omega arith; }
+name_ok-requires c = let l = c.if-f-from.false in let m = c.requires.f_len in let n = c.requires.from_value in record { at_in_bounds = l; at_value = omega arith }
 
 pub returns-then-name_ok : goal.returns-then-name_ok
 returns-then-name_ok c =

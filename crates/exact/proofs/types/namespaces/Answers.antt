@@ -12,7 +12,7 @@ pub returns-then-f-lt16 : goal.returns-then-f-lt16
 returns-then-f-lt16 c = namespaces-short c.args.f.now c.requires.in_bounds c.if-f-lt16.true
 
 pub elements-requires : goal.elements-requires
-elements-requires c = record { at_in_bounds = c.if-f-lt16.false; s_len_bound = c.requires.f_len_bound; le_fixed = omega arith; fixed_le_size_bound = omega arith; le_unit = omega arith; unit_bound = omega arith; }
+elements-requires c = record { at_in_bounds = c.if-f-lt16.false; s_len_bound = c.requires.f_len_bound; le_fixed = omega arith; fixed_le_size_bound = omega arith; le_unit = omega arith; unit_bound = omega arith }
 
 pub returns : goal.returns
 returns c =

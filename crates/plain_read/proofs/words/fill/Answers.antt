@@ -15,7 +15,7 @@ pub loop-k-init : goal.loop-k-init
 loop-k-init c = let a = c.args in let g = c.requires in filling-start (item_of a.a a.misc a.kind) a.s.now a.from a.to a.first a.out.now a.start g.0 g.1 g.2
 
 pub item_lent-i-requires : goal.item_lent-i-requires
-item_lent-i-requires c = record { k_lt_all_rows = omega arith; all_value = c.all_rows-all.ensures; }
+item_lent-i-requires c = record { k_lt_all_rows = omega arith; all_value = c.all_rows-all.ensures }
 
 pub told-t-requires : goal.told-t-requires
 told-t-requires c =
