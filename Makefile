@@ -28,7 +28,7 @@ run:
 	@test -f "$(RING)" || { echo "no such ring image: $(RING)" >&2; exit 1; }
 	@tools/needs.sh run
 	@test -x target/bin/ringdump || echo "$(PROVES_FIRST)" >&2
-	@tools/prove.sh check ringdump
+	@tools/library.sh ringdump
 	@tools/x86.sh ready
 	@target/bin/ringdump < "$(RING)"
 

@@ -49,7 +49,8 @@ refuses 'no such slip: none' bash tools/slips.sh --each none
 refuses 'no such word: teeth' bash tools/never_used.sh teeth
 refuses 'there is no log none' bash tools/sizes.sh none
 refuses 'use: tools/needs.sh' tools/needs.sh all
-for script in tools/dev.py tools/paths.py tools/thin.py tools/wrap.py bench/kinds.py; do
+refuses 'use: tools/prove.sh CRATE' tools/prove.sh none
+for script in tools/dev.py tools/paths.py tools/compile.py tools/wrap.py bench/kinds.py; do
   refuses "$(basename $script) " python3 $script
 done
 for script in tools/chains.py tools/write_chains.py; do

@@ -10,8 +10,8 @@ bad=0
 meanings() { # TREE
   cd "$1" || return 2
   # rows of refusals, and the lists of numbers that stops and answers are in
-  grep -rnE '\brefusal .* 10( |\)|$)|stopAt 10\b' crates --include='*.antt' | grep -vE '^crates/promises/specs/Header\.antt:[0-9]*:crossing n tail = '
-  grep -rnE '(Numbers|measured) = .*\b10 ∷|\bisIn .*\b10 ∷' crates --include='*.antt'
+  grep -rnE '\brefusal .* 10( |\)|$)|stop_at 10\b' crates --include='*.antt' | grep -vE '^crates/promises/specs/Header\.antt:[0-9]*:crossing n tail = '
+  grep -rnE '(_numbers|measured) = .*\b10 ∷|\bis_in .*\b10 ∷' crates --include='*.antt'
   # a choice of which 10 is one side
   grep -rnE '\bcond\b.* (10 [0-9(]|[0-9]+ 10\b)|\bcond\b.*\) 10\b' crates --include='*.antt'
   grep -nE '\bstop [0-9]+( [0-9]+| \([^)]*\)){6} 10$' crates/tables/specs/Rows.antt

@@ -1,6 +1,6 @@
 #!/usr/bin/env bash
 # Public functions without a theorem of uniqueness: none. A function is public if another crate can call it: `pub fn` in a crate's lib.rt, or in a
-# module that lib.rt declares `pub mod`. For its result, and for each slice that it is lent for writing, there must be a theorem in
+# module that lib.rt declares `pub mod`; none can call a static library. For its result, and for each slice that it is lent for writing, there must be a theorem in
 # crates/uniqueness/specs/Unique.antt over its own contract (`ALIAS.PATH.Reads.Learnt`, or `ALIAS.PATH.ended` for a method that is proved by a walk).
 # What is left open stands in docs/UNIQUENESS.md, between two marks there, a name to a line, and between two others what has a theorem over a part of its
 # result and not over the whole; a name there that has its theorems, or that no crate has, is wrong too.
@@ -35,7 +35,7 @@ theorems() { # CALL
     function theorem() {
       if (!index(text, call "Reads.Learnt") && !index(text, call "ended")) return
       all++
-      if (text ~ /: Result / || text ~ /\(λ κs x s\. now \(s / || text ~ /\(λ κs x\. x\)/) whole++
+      if (text ~ /: Result / || text ~ /\(λ κs x s\. s[.0-9]*\.now\)/ || text ~ /\(λ κs x\. x\)/) whole++
     }
     /^ *pub / { theorem(); text = "" }
     { text = text " " $0 }
@@ -44,7 +44,8 @@ theorems() { # CALL
 
 for lib in crates/*/src/lib.rt; do
   crate=$(basename "$(dirname "$(dirname "$lib")")")
-  alias=$(sed -n "s/^use Rattle·$crate\.proofs as \([a-z_-]*\)$/\1/p" "$unique")
+  ! grep -q "^$crate staticlib" crates.txt || continue
+  alias=$(sed -n "s/^use Rattle\.$crate\.proofs as \([a-z_-]*\)$/\1/p" "$unique")
   while read -r path gives; do
     [ "$path" = nothing ] && continue # a crate has a function; this one says nothing
     name=$crate::${path//./::}

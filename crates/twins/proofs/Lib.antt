@@ -1,3 +1,3 @@
 mod Laws
-pub mod Kinds
+pub mod ByType
 pub mod Whole

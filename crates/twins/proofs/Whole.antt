@@ -18,7 +18,7 @@ use Rattle.record.specs.Into.{or_dirty, record_flag, name_dirty}
 use Rattle.twins.specs.Twins.{Twins, Beside, Like}
 use Rattle.same_parts.specs.Parts.{around_res, body_same}
 use Rattle.twins.specs.Same.{trail_bits, trail_before, same_but}
-use Rattle.twins.proofs.Kinds.{body-twins, trail-twins}
+use Rattle.twins.proofs.ByType.{body-twins, trail-twins}
 
 -- its flag, by record check's 44
 flag-back : (u v : Bool) → eqb (cond (eqb (cond u 1 0) 0) 0 44) (cond (eqb (cond v 1 0) 0) 0 44) ≡ true → u ≡ v
