@@ -83,7 +83,7 @@ case $mode in
         ;;
     *)
         [ -f "$archive" ] || stop "$archive is missing: run 'make lib' first"
-        [ $mode = long ] || [ -x "$ringdump" ] || stop "$ringdump is missing: run 'rt check ringdump' first"
+        [ $mode = long ] || [ -x "$ringdump" ] || stop "$ringdump is missing: run 'make run' first"
         part "build the independent reader" rust -C link-arg="$archive" -o "$out/reader" tests/reader/main.rs
         [ $mode = soak ] || part "build the calls from C" c -o "$out/exports" tests/exports.c "$archive"
         ;;

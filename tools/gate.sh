@@ -7,26 +7,29 @@ log=$(mktemp) || exit 2
 trap 'rm -f "$log"' EXIT
 began=$(date +%s)
 
-# A check copies what its crate stands on, thousands of small files, to a temporary folder. In memory, where there is room for them and programs may be
-# run from there, that takes less time
+# In memory, where there is room for them and programs may be run from there, the parts' temporary files take less time
 folder=
 if [ -z "${TMPDIR:-}" ] && [ "$(df -Pk /dev/shm 2>/dev/null | awk 'NR == 2 { print ($4 > 8000000) }')" = 1 ]; then
   folder=$(mktemp -d /dev/shm/gate.XXXXXX) && chmod 711 "$folder" && trap 'rm -rf "$log" "$folder"' EXIT
   cp /bin/true "$folder/true" && "$folder/true" 2>/dev/null || { rm -rf "$folder"; folder=; }
 fi
-# How many crates, or edits, rt proves at a time. It starts the next batch only when the whole of one is done, so more of them than processors keep
-# all of these busy. Each is given 1.7 GB of memory, a little more than the largest crate takes: as many as fit, from 2 to 12
-jobs=$(awk '/^MemAvailable:/ { n = int($2 / 1700000); print (n < 2 ? 2 : n > 12 ? 12 : n) }' /proc/meminfo 2>/dev/null)
 there=${TMPDIR:-${folder:-/tmp}}
-TMPDIR=$there RT_JOBS=${RT_JOBS:-${jobs:-4}} rt ci >"$log" 2>&1
+rt ci >"$log" 2>&1
 status=$?
 last=$(tail -n 1 "$log")
 grep -E '^rt: ' "$log"
+# an edit that cannot be applied or read fails nothing there; here it does
+if [ "$status" -eq 0 ] && grep -qE '^rt: ok.*, [0-9]+ bad' "$log"; then
+  grep -E 'BAD EDIT' "$log"
+  echo 'a must-fail edit is bad'
+  echo '0 passed, 1 failed'
+  exit 1
+fi
 if [ "$status" -ne 0 ]; then
   tail -n 60 "$log"
   case "$last" in
-    *' passed, 0 failed' | '') echo '0 passed, 1 failed' ;;
-    *' passed, '*' failed') ;;                       # its own last line counts what failed
+    *' passed, 0 failed'* | '') echo '0 passed, 1 failed' ;;
+    *' passed, '*' failed'*) ;;                       # its own last line counts what failed
     *) echo '0 passed, 1 failed' ;;
   esac
   exit 1

@@ -10,16 +10,16 @@ bad=0
 meanings() { # TREE
   cd "$1" || return 2
   # rows of refusals, and the lists of numbers that stops and answers are in
-  grep -rnE '\brefusal .* 10( |\)|$)|stop_at 10\b' crates --include='*.antt' | grep -vE '^crates/promises/specs/Header\.antt:[0-9]*:crossing n tail = '
-  grep -rnE '(_numbers|measured) = .*\b10 ∷|\bis_in .*\b10 ∷' crates --include='*.antt'
+  grep -rnE --exclude-dir=out '\brefusal .* 10( |\)|$)|stop_at 10\b' crates --include='*.antt' | grep -vE '^crates/promises/specs/Header\.antt:[0-9]*:crossing n tail = '
+  grep -rnE --exclude-dir=out '(_numbers|measured) = .*\b10 ∷|\bis_in .*\b10 ∷' crates --include='*.antt'
   # a choice of which 10 is one side
-  grep -rnE '\bcond\b.* (10 [0-9(]|[0-9]+ 10\b)|\bcond\b.*\) 10\b' crates --include='*.antt'
+  grep -rnE --exclude-dir=out '\bcond\b.* (10 [0-9(]|[0-9]+ 10\b)|\bcond\b.*\) 10\b' crates --include='*.antt'
   grep -nE '\bstop [0-9]+( [0-9]+| \([^)]*\)){6} 10$' crates/tables/specs/Rows.antt
   # functions that answer by a number
-  grep -rnE '\b(halt|refuse|refused|told)\(([a-z]+, )?10\b|\btell\([0-9], 10\b|return 10;|(stop|answer|refused|why): 10\b|\{ 10 \}|^ +10$' crates --include='*.rt'
+  grep -rnE --exclude-dir=out '\b(halt|refuse|refused|told)\(([a-z]+, )?10\b|\btell\([0-9], 10\b|return 10;|(stop|answer|refused|why): 10\b|\{ 10 \}|^ +10$' crates --include='*.rt'
   # constants of the header, and the name that 10 had
   grep -nE '#define OLLSKUVAN_(STOP|REFUSED)_[A-Z_]+ 10u?\b' include/ollskuvan.h
-  grep -rnI 'HEADER_CROSSES' include words tool examples tests bench packaging docs/FORMAT.md crates README.md
+  grep -rnI --exclude-dir=out 'HEADER_CROSSES' include words tool examples tests bench packaging docs/FORMAT.md crates README.md
   # texts: a row of words, of the manual page, of the page that tells the format
   grep -rnE '\{ *10u?, *(NULL|")' words tool
   grep -nE '^10(	|$)' packaging/ollskuvan.3
@@ -29,7 +29,7 @@ meanings() { # TREE
     grep -E '\b(stop|answer|why)(\[[^]]*\])? = ([^;]*[?:] )?10\b|\breturn ([^;]*[?:] )?10\b|\bstopped\([^,]*, 10\)|\? 10 :'
   grep -nE '\b(Some|Err|refused)\(10\)|\breturn 10;|=> 10,|\{ 10 \}|^ +10$|\b(stop|answer): 10\b|\bstop = 10\b' tests/reader/*.rs bench/*.rs
   # orders of stops that still count it
-  grep -rnE '8, 9, 10, 6|5, 0, 10, 6' include packaging docs/FORMAT.md docs/ARCHITECTURE.md README.md crates
+  grep -rnE --exclude-dir=out '8, 9, 10, 6|5, 0, 10, 6' include packaging docs/FORMAT.md docs/ARCHITECTURE.md README.md crates
   return 0
 }
 
@@ -45,7 +45,7 @@ teeth() {
   local planted=0 file edit
   copy=$(mktemp -d) || exit 2
   trap 'rm -rf "$copy"' EXIT
-  (cd "$home" && cp -R crates include words tool examples tests bench packaging docs README.md "$copy/")
+  tar -C "$home" --exclude='crates/*/out' -cf - crates include words tool examples tests bench packaging docs README.md | tar -C "$copy" -xf -
   look "$copy" || bad=1
   while IFS='|' read -r file edit; do
     sed -i -E "$edit" "$copy/$file"

@@ -31,9 +31,9 @@ esac
 needs || exit 1
 exports=$(sed -n "s/^exports='\(.*\)'$/\1/p" tools/library.sh)
 [ -n "$exports" ] || die "tools/library.sh names no crates with exports"
-[ -f "$modules/ollskuvan.bc" ] || die "$modules has no modules: make lib proves the library and keeps them"
+[ -f "$modules/ollskuvan_c.bc" ] || die "$modules has no modules: make lib proves the library and keeps them"
 command -v rt >/dev/null || die "rt is missing: put the Rattle toolchain's rt on the PATH"
-clang=$(dirname "$(dirname "$(readlink -f "$(command -v rt)")")")/on/$(uname -m)/toolchain/bin/clang
+clang=$(dirname "$(dirname "$(readlink -f "$(command -v rt)")")")/toolchain/bin/clang
 work=$(mktemp -d)
 trap 'rm -rf "$work"' EXIT
 

@@ -33,7 +33,7 @@ for path in $(echo "$named" | grep -v NAME | sort -u); do
 done
 
 # the crates of docs/ARCHITECTURE.md's two tables are those of crates.txt
-listed=$(sed -n 's/^\([a-z0-9_]*\):.*/\1/p' crates.txt | sort)
+listed=$(sed -n 's/^\([a-z0-9_]*\)\( staticlib\)\?:.*/\1/p' crates.txt | sort)
 [ "$(wc -w <<<"$listed")" -ge 100 ] || say "crates.txt was not read"
 for table in 'The crates, one above the other' 'Size and time'; do
   told=$(awk -v title="## $table" '/^## / { on = $0 == title } on' docs/ARCHITECTURE.md | sed -n 's/^| `\([a-z0-9_]*\)` |.*/\1/p' | sort)

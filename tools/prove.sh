@@ -7,8 +7,15 @@ cd "$(dirname "$0")/.." || exit 2
 mkdir -p target
 log=$PWD/target/prove.log
 status=$PWD/target/prove.status
-{ (cd "crates/$1" && rt check) 2>&1; echo $? >"$status"; } | tee "$log" |
-  awk '/^rt: chose --jobs [0-9]+ for / { crate = $NF } /^logic=proved / && crate != "" { print "proved: " crate; crate = ""; fflush() }' >&2
+{ (cd "crates/$1" && rt check) 2>&1; echo $? >"$status"; } | tee "$log" | {
+  crate=
+  while IFS= read -r line; do
+    case $line in
+      'rt: chose --jobs '*) crate=${line##* } began=$(date +%s) ;;
+      'logic=proved '*) [ -z "$crate" ] || echo "proved: $crate ($(($(date +%s) - began)) s)" >&2; crate= ;;
+    esac
+  done
+}
 status=$(cat "$status")
 [ "$status" -eq 0 ] || tail -n 20 "$log" >&2
 exit "$status"

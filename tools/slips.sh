@@ -19,11 +19,12 @@ try() { # NAME SLIP..
   local at=$work/$1 name=$1 slip
   shift
   mkdir -p "$at/crates"
-  cp -R "$root/crates/meaning" "$root/crates/tables" "$at/crates/"
-  rm -rf "$at/crates/tables/must-fail"
+  tar -C "$root" --exclude=out --exclude=must-fail -cf - crates/meaning crates/tables | tar -C "$at" -xf -
+  mkdir "$at/.git" # the top of a repository
   printf 'meaning:\ntables: meaning\n' >"$at/crates.txt"
   for slip in "$@"; do apply "$at/crates/meaning" "$slip" || return 1; done
-  (cd "$at" && RT_JOBS=1 rt check tables) >"$work/$name.log" 2>&1
+  (cd "$at/crates/tables" && rt check --jobs 1) >"$work/$name.log" 2>&1
+  rm -rf "$at"
   return 0
 }
 
@@ -50,11 +51,11 @@ apply() { # CRATE SLIP
 
 of_batch() { grep -lx "batch: $1" tools/slips/*.edit; }
 value() { sed -n "s/^$1: //p" "$2"; }
-theorems() { sed -n 's/^.*tables\/specs\/[A-Z][a-z]*\.antt:[0-9:]*: error: `\([^`]*\)`.*/\1/p' "$1" | sort -u | tr '\n' ' '; }
+theorems() { sed -n 's/^\(\.\/\)\?\(specs\|proofs\)\/[A-Za-z]*\.antt:[0-9:]*: error: `\([^`]*\)`.*/\3/p' "$1" | sort -u | tr '\n' ' '; }
 
 # meaning itself must still be accepted, and the named theorem refused
 seen() { # LOG SLIP
-  grep -q '^rt: meaning proved' "$1" 2>/dev/null && grep -qF " error: \`$(value seen "$2")\`:" "$1"
+  grep -q '^crate tables: ' "$1" 2>/dev/null && grep -qF " error: \`$(value seen "$2")\`:" "$1"
 }
 
 judge() { # LOG SLIP

@@ -78,8 +78,8 @@ few_tools() {
 # Lines that are not known, one at a time, in a module that is.
 forms() {
   local clang module=$out/module.ll line tried=0
-  clang=$(dirname "$(dirname "$(readlink -f "$(command -v rt)")")")/on/$(uname -m)/toolchain/bin/clang
-  "$clang" -x ir target/modules/event_list.bc -S -emit-llvm -O0 -Xclang -disable-llvm-passes -Wno-override-module -o $module
+  clang=$(dirname "$(dirname "$(readlink -f "$(command -v rt)")")")/toolchain/bin/clang
+  "$clang" -x ir target/modules/event_list_c.bc -S -emit-llvm -O0 -Xclang -disable-llvm-passes -Wno-override-module -o $module
   awk -f tools/boards/retarget.awk $module >$out/known.ll || stop "a module is not known"
   # changed: the layout, the triple and the processor's name alone
   [ "$(diff $module $out/known.ll | grep -c '^[<>]')" -eq 4 ] || stop "other lines of a module are changed than those that name the processor"

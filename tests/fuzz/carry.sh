@@ -16,16 +16,16 @@ build_carry() {
         command -v "$tool" >/dev/null || skip "$tool is missing (tools/x86.sh line tells what installs it)"
     done
     [ -f "$played_archive" ] || stop "$played_archive is missing: run 'make lib' first"
-    [ -f "$played_program" ] || stop "$played_program is missing: run 'rt check ringdump' first"
+    [ -f "$played_program" ] || stop "$played_program is missing: run 'make run' first"
     wrapped='-Wl,--wrap=LLVMFuzzerTestOneInput,--wrap=ringdump_main,--wrap=ringdump_read,--wrap=ringdump_write'
     wrapped="$wrapped $(nm "$archive" 2>/dev/null | sed -n 's/.* T \(ollskuvan_.*\)/-Wl,--wrap=\1/p' | tr '\n' ' ')"
     carry=$out/carry.o
     newer "$carry" tests/fuzz include ||
         clang -std=gnu11 -Wall -Wextra -Wshadow -Werror -g -O2 -Iinclude -c -o "$carry" tests/fuzz/carry.c
-    newer "$out/played" tests/fuzz include "$played_archive" "$played_program" || {
+    newer "$out/played" tests/fuzz include narrow "$played_archive" "$played_program" || {
         $cross_objcopy --redefine-sym main=ringdump_main --redefine-sym read=ringdump_read \
             --redefine-sym write=ringdump_write "$played_program" "$out/played-ringdump.o"
-        $cross -std=gnu11 -Wall -Wextra -Wshadow -Werror -g -O2 -static -Iinclude -o "$out/played" tests/fuzz/played.c \
+        $cross -std=gnu11 -Wall -Wextra -Wshadow -Werror -g -O2 -static -Iinclude -o "$out/played" tests/fuzz/played.c narrow/ringdump.c \
             "$out/played-ringdump.o" "$played_archive"
     }
 }

@@ -102,7 +102,7 @@ echo 'int LLVMFuzzerTestOneInput(const char *b, unsigned long n) { return !b && 
 clang $machine -fsanitize=$sanitizers -o "$out/probe" "$out/probe.c" 2>/dev/null ||
     skip "clang has no sanitizer libraries (Debian: apt-get install libclang-rt-$number-dev$of)"
 [ -f "$archive" ] || stop "$archive is missing: run 'make lib' first"
-[ -f "$program" ] || stop "$program is missing: run 'rt check ringdump' first"
+[ -f "$program" ] || stop "$program is missing: run 'make run' first"
 
 libraries="-lpthread -ldl -lm"
 build() {
@@ -126,12 +126,12 @@ newer "$out/libindependent.a" tests/reader tests/fuzz/run.sh ||
         -C llvm-args=-sanitizer-coverage-level=4 -C llvm-args=-sanitizer-coverage-inline-8bit-counters \
         -C llvm-args=-sanitizer-coverage-pc-table $compares \
         -o "$out/libindependent.a" tests/reader/library.rs
-newer "$out/target" tests/fuzz tests/reader include "$archive" "$program" || {
+newer "$out/target" tests/fuzz tests/reader include narrow "$archive" "$program" || {
     # ringdump as it was compiled, with its main, read and write under other names
     $objcopy --redefine-sym main=ringdump_main --redefine-sym read=ringdump_read \
         --redefine-sym write=ringdump_write "$program" "$out/ringdump.o"
     # shellcheck disable=SC2086
-    build -o "$out/target" tests/fuzz/target.c $carry $wrapped "$out/ringdump.o" "$out/libindependent.a" \
+    build -o "$out/target" tests/fuzz/target.c narrow/ringdump.c $carry $wrapped "$out/ringdump.o" "$out/libindependent.a" \
         "$archive" $libraries
 }
 newer "$out/seeds/made-0" tests/reader rings || {

@@ -3,4 +3,4 @@ use borrow.Author.Rules.{rules}
 use Rattle.ollskuvan_events.proofs.ollskuvan_read_events.Goals as goal
 
 pub returns : goal.returns
-returns c = let old : _ × _ = (c.read_events.ensures.value, c.read_events.ensures.words_after) in record { value = old.0; fields_after = old.1; }
+returns c = record { value = c.read_events.ensures.value; fields_after = c.read_events.ensures.words_after }

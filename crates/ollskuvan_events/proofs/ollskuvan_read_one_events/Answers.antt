@@ -3,4 +3,4 @@ use borrow.Author.Rules.{rules}
 use Rattle.ollskuvan_events.proofs.ollskuvan_read_one_events.Goals as goal
 
 pub returns : goal.returns
-returns c = let old : _ × _ × _ = (c.read_one_events.ensures.value, (c.read_one_events.ensures.scratch_after, c.read_one_events.ensures.words_after)) in record { value = old.0; scratch_after = old.1.0; fields_after = old.1.1; }
+returns c = record { value = c.read_one_events.ensures.value; scratch_after = c.read_one_events.ensures.scratch_after; fields_after = c.read_one_events.ensures.words_after }

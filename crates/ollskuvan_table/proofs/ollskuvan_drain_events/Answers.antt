@@ -3,4 +3,4 @@ use borrow.Author.Rules.{rules}
 use Rattle.ollskuvan_table.proofs.ollskuvan_drain_events.Goals as goal
 
 pub returns : goal.returns
-returns c = let old : _ × _ × _ = (c.drain_events.ensures.value, (c.drain_events.ensures.journal_after, c.drain_events.ensures.scratch_after)) in record { value = old.0; journal_after = old.1.0; scratch_after = old.1.1; }
+returns c = record { value = c.drain_events.ensures.value; journal_after = c.drain_events.ensures.journal_after; scratch_after = c.drain_events.ensures.scratch_after }

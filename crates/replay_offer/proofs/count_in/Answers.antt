@@ -25,4 +25,4 @@ unfolding after
 returns c =
     let a = c.args in
     let w = c.wrapping_add_u64-head in
-    ap (after a.s a.n w.result) c.distance.ensures ∙ ap (λ (k : ℕ). after a.s a.n k (distance k a.s.tail)) w.ensures
+    ap (after a.s a.n w.result) c.distance.ensures ∙ ap (λ (k : ℕ). after a.s a.n k (distance k a.s.tail)) w.ensures.value

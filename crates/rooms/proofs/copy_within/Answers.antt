@@ -6,19 +6,7 @@ use Rattle.replay.proofs.Within.{copied_on}
 use Rattle.rooms.proofs.copy_within.Goals as goal
 
 pub loop-j-init : goal.loop-j-init
-loop-j-init c = (sym (put-nil _ _ (omega (arith, (c.requires.n_bound, c.requires.n_in_bounds)))), omega arith, refl)
-
-pub overflow_add-d : goal.overflow_add-d
-overflow_add-d c = omega (arith, (c.requires.n_bound, c.requires.n_in_bounds))
-
-pub bounds-d-from : goal.bounds-d-from
-bounds-d-from c = omega (arith, (c.requires.n_bound, c.requires.n_in_bounds), c.loop-j.invariant.2)
-
-pub overflow_add-d-in-loop-j : goal.overflow_add-d-in-loop-j
-overflow_add-d-in-loop-j c = omega (arith, (c.requires.n_bound, c.requires.n_in_bounds))
-
-pub bounds-d-to : goal.bounds-d-to
-bounds-d-to c = omega (arith, (c.requires.n_bound, c.requires.n_in_bounds), c.loop-j.invariant.2)
+loop-j-init c = (sym (put-nil _ _ (omega (arith, c.requires.n_bound, c.requires.n_in_bounds))), omega arith, refl)
 
 pub loop-j-preserved : goal.loop-j-preserved
 loop-j-preserved c =
@@ -27,9 +15,6 @@ loop-j-preserved c =
     let e = copied_on a.d.now a.from a.to a.n l.j c.requires.n_bound c.requires.n_in_bounds c.loop-j-test.true in
     let x = ap (λ (d : List ℕ). set d (a.to + l.j) (get_or d (a.from + l.j) 0)) l.invariant.0 ∙ e in
     (x, omega arith, ap length x ∙ length-put _ _ _)
-
-pub shape_of-d : goal.shape_of-d
-shape_of-d c = c.loop-j.invariant.2
 
 pub returns : goal.returns
 returns c =

@@ -2,47 +2,41 @@
 use borrow.Author.Rules.{rules}
 use mathlib.Core.Path.{◌≡◌, refl, ap, ◌∙◌}
 use mathlib.Core.List.{List, []}
-use Prim.Native.Nat.{ℕ, ◌+◌, ◌-◌, ◌≤◌}
+use Prim.Native.Nat.{ℕ, ◌+◌, ◌-◌, ◌<◌, ◌≤◌}
 use native.Mathlib.Omega.{arith}
 use lib.ListN.{length, get_or, take}
 use Rattle.meaning.specs.Bytes.{put}
 use Rattle.laws.specs.Put.{length-put}
+use Rattle.settings.specs.declared.Version.{Version}
 use Rattle.settings.specs.Versions.{place_of}
 use Rattle.settings.specs.Writing.{row_bytes, rows_bytes}
 use Rattle.settings.proofs.Steps.{place-next, place_up}
 use Rattle.settings.proofs.Puts.{rows-put, rows_none}
 use lib.Seq.{take_all}
-use Rattle.settings_put.proofs.put_rows.Tie as tie
-use Rattle.settings_put.proofs.put_rows.Lts as lts
-use Rattle.settings_put.proofs.put_rows.Reads as reads
 use Rattle.settings_put.proofs.put_rows.Goals as goal
 
-room : (c : lts.In-loop tie.the-claims reads.Pre reads.Post tie.handed_clauses goal.the-invariant-loop-i goal.the-decreases-loop-i)
-    → place_of c.args.v c.loop-i.i + (c.args.v.width + 54) ≤ length c.args.d.now
-room c =
-    let a = c.args in
-    let i = c.loop-i.i in
-    omega (arith, place-next a.v i, place_up a.v (i + 1) (length a.rows.now) (omega (arith, c.loop-i-test.true)), c.requires.1)
+room : (v : Version) (i n m : ℕ) → i < n → place_of v n ≤ m → place_of v i + (v.width + 54) ≤ m
+room v i n m t h = omega (arith, place-next v i, place_up v (i + 1) n (omega arith), h)
 
 pub loop-i-init : goal.loop-i-init
 unfolding place_of
 loop-i-init c = (rows_none c.args.v c.args.d.now c.args.rows.now (omega (arith, place_up c.args.v 0 (length c.args.rows.now) (omega arith), c.requires.1)), refl, omega arith, refl)
 
 pub put_row-requires : goal.put_row-requires
-put_row-requires c = (c.requires.0, omega (arith, room c.before.before, c.loop-i.invariant.1, c.loop-i.invariant.3))
+put_row-requires c = (c.requires.0, omega (arith, room c.args.v c.loop-i.i (length c.args.rows.now) (length c.args.d.now) c.loop-i-test.true c.requires.1, c.loop-i.invariant.1, c.loop-i.invariant.3))
 
 pub overflow_add-at : goal.overflow_add-at
 overflow_add-at c = omega (arith, c.requires.0.high)
 
 pub overflow_add-at-in-loop-i : goal.overflow_add-at-in-loop-i
-overflow_add-at-in-loop-i c = omega (arith, room c.before.before.before.before.before.before.before, c.loop-i.invariant.1, c.well_formed)
+overflow_add-at-in-loop-i c = omega (arith, room c.args.v c.loop-i.i (length c.args.rows.now) (length c.args.d.now) c.loop-i-test.true c.requires.1, c.loop-i.invariant.1, c.well_formed)
 
 pub loop-i-preserved : goal.loop-i-preserved
 loop-i-preserved c =
     let a = c.args in
     let l = c.loop-i in
     let r : List ℕ = get_or a.rows.now l.i [] in
-    let m : place_of a.v (l.i + 1) ≤ length a.d.now = omega (arith, room c.before.before.before.before.before.before.before, place-next a.v l.i) in (
+    let m : place_of a.v (l.i + 1) ≤ length a.d.now = omega (arith, room c.args.v c.loop-i.i (length c.args.rows.now) (length c.args.d.now) c.loop-i-test.true c.requires.1, place-next a.v l.i) in (
       c.put_row.ensures
           ∙ ap (λ (p : ℕ). put l.d p (row_bytes a.v l.i r)) l.invariant.1
           ∙ rows-put a.v a.d.now l.d a.rows.now l.i c.loop-i-test.true m l.invariant.0,

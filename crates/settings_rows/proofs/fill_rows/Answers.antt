@@ -2,24 +2,19 @@
 use borrow.Author.Rules.{rules}
 use mathlib.Core.Path.{◌≡◌, refl, ap, ◌∙◌}
 use mathlib.Core.List.{List, ◌++◌}
-use Prim.Native.Nat.{ℕ, ◌+◌, ◌-◌, ◌≤◌}
+use Prim.Native.Nat.{ℕ, ◌+◌, ◌-◌, ◌<◌, ◌≤◌}
 use native.Mathlib.Omega.{arith}
 use lib.ListN.{length, drop, set, length-set}
+use Rattle.settings.specs.declared.Version.{Version}
 use Rattle.settings.specs.Versions.{place_of}
 use Rattle.settings.specs.Reading.{fits, row_from, rows_of}
 use Rattle.settings.proofs.Steps.{place-next, place_up, rows_next}
-use Rattle.settings_rows.proofs.fill_rows.Tie as tie
-use Rattle.settings_rows.proofs.fill_rows.Lts as lts
-use Rattle.settings_rows.proofs.fill_rows.Reads as reads
 use Rattle.settings_rows.proofs.fill_rows.Goals as goal
 
-room : (c : lts.In-loop tie.the-claims reads.Pre reads.Post tie.handed_clauses goal.the-invariant-loop-i goal.the-decreases-loop-i)
-    → place_of c.args.v c.loop-i.i + (c.args.v.width + 54) ≤ length c.args.bytes.now
-room c =
-    let a = c.args in
-    let i = c.loop-i.i in
-    let m : i + 1 ≤ a.n = omega (arith, c.loop-i-test.true) in
-    omega (arith, place-next a.v i, place_up a.v (i + 1) a.n m, c.requires.1)
+room : (v : Version) (b : List ℕ) (i n : ℕ) → i < n → place_of v n ≤ length b → place_of v i + (v.width + 54) ≤ length b
+room v b i n t h =
+    let m : i + 1 ≤ n = omega arith in
+    omega (arith, place-next v i, place_up v (i + 1) n m, h)
 
 pub overflow_add-size : goal.overflow_add-size
 overflow_add-size c = omega (arith, c.requires.0.high)
@@ -29,19 +24,19 @@ unfolding place_of rows_of
 loop-i-init c = (refl, refl, omega arith, refl, refl)
 
 pub overflow_add-at : goal.overflow_add-at
-overflow_add-at c = omega (arith, room c, c.loop-i.invariant.1, c.well_formed)
+overflow_add-at c = omega (arith, room c.args.v c.args.bytes.now c.loop-i.i c.args.n c.loop-i-test.true c.requires.1, c.loop-i.invariant.1, c.well_formed)
 
 pub overflow_add-at-in-loop-i : goal.overflow_add-at-in-loop-i
-overflow_add-at-in-loop-i c = omega (arith, room c.before.before, c.loop-i.invariant.1, c.well_formed)
+overflow_add-at-in-loop-i c = omega (arith, room c.args.v c.args.bytes.now c.loop-i.i c.args.n c.loop-i-test.true c.requires.1, c.loop-i.invariant.1, c.well_formed)
 
 pub row_at-requires : goal.row_at-requires
-row_at-requires c = omega (arith, room c.before.before, c.loop-i.invariant.1)
+row_at-requires c = omega (arith, room c.args.v c.args.bytes.now c.loop-i.i c.args.n c.loop-i-test.true c.requires.1, c.loop-i.invariant.1)
 
 pub bounds-rows-i : goal.bounds-rows-i
 bounds-rows-i c = omega (arith, c.loop-i-test.true, c.loop-i.invariant.3, c.requires.2)
 
 pub overflow_add-at-in-loop-i-2 : goal.overflow_add-at-in-loop-i-2
-overflow_add-at-in-loop-i-2 c = omega (arith, room c.before.before.before, c.loop-i.invariant.1, c.loop-i.invariant.4, c.well_formed)
+overflow_add-at-in-loop-i-2 c = omega (arith, room c.args.v c.args.bytes.now c.loop-i.i c.args.n c.loop-i-test.true c.requires.1, c.loop-i.invariant.1, c.loop-i.invariant.4, c.well_formed)
 
 pub overflow_add-i : goal.overflow_add-i
 overflow_add-i c = omega (arith, c.loop-i-test.true, c.ranges.n.fits)

@@ -3,54 +3,49 @@ use borrow.Author.Rules.{rules}
 use mathlib.Core.Path.{◌≡◌, refl, ap, ◌∙◌}
 use mathlib.Core.Bool.{◌&&◌}
 use mathlib.Core.List.{List, ◌++◌}
-use Prim.Native.Nat.{ℕ, ◌+◌, ◌-◌, ◌≤◌}
+use Prim.Native.Nat.{ℕ, ◌+◌, ◌-◌, ◌<◌, ◌≤◌}
 use native.Mathlib.Omega.{arith}
 use lib.ListN.{length, drop, set, length-set}
 use Rattle.meaning.specs.Bytes.{number_at, bit}
+use Rattle.settings.specs.declared.Version.{Version}
 use Rattle.settings.specs.Versions.{place_of}
 use Rattle.settings.specs.Reading.{fits, rows_of}
 use Rattle.settings.proofs.Steps.{place-next, place_up, listed_next, marked_next}
 use Rattle.meaning.specs.Events.{identifiers, events_of, all_marked}
-use Rattle.settings_rows.proofs.list_events.Tie as tie
-use Rattle.settings_rows.proofs.list_events.Lts as lts
-use Rattle.settings_rows.proofs.list_events.Reads as reads
 use Rattle.settings_rows.proofs.list_events.Goals as goal
 
-room : (c : lts.In-loop tie.the-claims reads.Pre reads.Post tie.handed_clauses goal.the-invariant-loop-i goal.the-decreases-loop-i)
-    → place_of c.args.v c.loop-i.i + (c.args.v.width + 54) ≤ length c.args.bytes.now
-room c =
-    let a = c.args in
-    let i = c.loop-i.i in
-    let m : i + 1 ≤ a.n = omega (arith, c.loop-i-test.true) in
-    omega (arith, place-next a.v i, place_up a.v (i + 1) a.n m, c.requires.1)
+room : (v : Version) (b : List ℕ) (i n : ℕ) → i < n → place_of v n ≤ length b → place_of v i + (v.width + 54) ≤ length b
+room v b i n t h =
+    let m : i + 1 ≤ n = omega arith in
+    omega (arith, place-next v i, place_up v (i + 1) n m, h)
 
 pub loop-i-init : goal.loop-i-init
 unfolding place_of rows_of all_marked
 loop-i-init c = (refl, refl, refl, omega arith, refl)
 
 pub overflow_add-p : goal.overflow_add-p
-overflow_add-p c = omega (arith, room c, c.loop-i.invariant.2, c.well_formed)
+overflow_add-p c = omega (arith, room c.args.v c.args.bytes.now c.loop-i.i c.args.n c.loop-i-test.true c.requires.1, c.loop-i.invariant.2, c.well_formed)
 
 pub overflow_add-p-in-loop-i : goal.overflow_add-p-in-loop-i
-overflow_add-p-in-loop-i c = omega (arith, room c.before.before, c.loop-i.invariant.2, c.well_formed)
+overflow_add-p-in-loop-i c = omega (arith, room c.args.v c.args.bytes.now c.loop-i.i c.args.n c.loop-i-test.true c.requires.1, c.loop-i.invariant.2, c.well_formed)
 
 pub u64_at-requires : goal.u64_at-requires
-u64_at-requires c = omega (arith, room c.before.before, c.loop-i.invariant.2)
+u64_at-requires c = omega (arith, room c.args.v c.args.bytes.now c.loop-i.i c.args.n c.loop-i-test.true c.requires.1, c.loop-i.invariant.2)
 
 pub bounds-ids-i : goal.bounds-ids-i
 bounds-ids-i c = omega (arith, c.loop-i-test.true, c.loop-i.invariant.4, c.requires.2)
 
 pub overflow_add-p-in-loop-i-2 : goal.overflow_add-p-in-loop-i-2
-overflow_add-p-in-loop-i-2 c = omega (arith, room c.before.before.before, c.loop-i.invariant.2, c.well_formed)
+overflow_add-p-in-loop-i-2 c = omega (arith, room c.args.v c.args.bytes.now c.loop-i.i c.args.n c.loop-i-test.true c.requires.1, c.loop-i.invariant.2, c.well_formed)
 
 pub u64_at-requires-in-loop-i : goal.u64_at-requires-in-loop-i
-u64_at-requires-in-loop-i c = omega (arith, room c.before.before.before, c.loop-i.invariant.2)
+u64_at-requires-in-loop-i c = omega (arith, room c.args.v c.args.bytes.now c.loop-i.i c.args.n c.loop-i-test.true c.requires.1, c.loop-i.invariant.2)
 
 pub overflow_add-at : goal.overflow_add-at
 overflow_add-at c = omega (arith, c.requires.0.high)
 
 pub overflow_add-at-in-loop-i : goal.overflow_add-at-in-loop-i
-overflow_add-at-in-loop-i c = omega (arith, room c.before.before.before.before.before.before, c.loop-i.invariant.2, c.well_formed)
+overflow_add-at-in-loop-i c = omega (arith, room c.args.v c.args.bytes.now c.loop-i.i c.args.n c.loop-i-test.true c.requires.1, c.loop-i.invariant.2, c.well_formed)
 
 pub overflow_add-i : goal.overflow_add-i
 overflow_add-i c = omega (arith, c.loop-i-test.true, c.ranges.n.fits)

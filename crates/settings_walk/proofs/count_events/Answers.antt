@@ -8,17 +8,7 @@ use Rattle.settings.specs.Versions.{row_length, place_of}
 use Rattle.settings.specs.Reading.{in_turn, turns_from, count_of}
 use Rattle.settings.proofs.Back.{place-most, turns-end}
 use Rattle.settings.proofs.Steps.{turns_more, turn-room, place-next}
-use Rattle.settings_walk.proofs.count_events.Tie as tie
-use Rattle.settings_walk.proofs.count_events.Lts as lts
-use Rattle.settings_walk.proofs.count_events.Reads as reads
 use Rattle.settings_walk.proofs.count_events.Goals as goal
-
-turned : (c : lts.Then1 tie.the-claims reads.Pre reads.Post tie.handed_clauses goal.the-invariant-loop-v goal.the-decreases-loop-v) → in_turn c.args.v c.args.bytes.now c.loop-v.n ≡ true
-turned c = sym c.in_turn.ensures ∙ c.loop-v-test.true
-
-room : (c : lts.Then1 tie.the-claims reads.Pre reads.Post tie.handed_clauses goal.the-invariant-loop-v goal.the-decreases-loop-v)
-    → place_of c.args.v c.loop-v.n + (6 + row_length c.args.v) ≤ length c.args.bytes.now
-room c = turn-room c.args.v c.args.bytes.now c.loop-v.n (turned c)
 
 pub overflow_add-size : goal.overflow_add-size
 overflow_add-size c = omega (arith, c.requires.high)
@@ -34,20 +24,20 @@ pub in_turn-requires : goal.in_turn-requires
 in_turn-requires c = (c.requires, c.loop-v.invariant.1)
 
 pub overflow_add-n : goal.overflow_add-n
-overflow_add-n c = omega (arith, room c, place-most c.args.v c.loop-v.n, c.well_formed)
+overflow_add-n c = omega (arith, turn-room c.args.v c.args.bytes.now c.loop-v.n (sym c.in_turn.ensures ∙ c.loop-v-test.true), place-most c.args.v c.loop-v.n, c.well_formed)
 
 pub overflow_add-at : goal.overflow_add-at
-overflow_add-at c = omega (arith, room c, c.loop-v.invariant.1, c.loop-v.invariant.2, c.well_formed)
+overflow_add-at c = omega (arith, turn-room c.args.v c.args.bytes.now c.loop-v.n (sym c.in_turn.ensures ∙ c.loop-v-test.true), c.loop-v.invariant.1, c.loop-v.invariant.2, c.well_formed)
 
 pub loop-v-smaller : goal.loop-v-smaller
-loop-v-smaller c = omega (arith, room c, place-most c.args.v c.loop-v.n)
+loop-v-smaller c = omega (arith, turn-room c.args.v c.args.bytes.now c.loop-v.n (sym c.in_turn.ensures ∙ c.loop-v-test.true), place-most c.args.v c.loop-v.n)
 
 pub loop-v-preserved : goal.loop-v-preserved
 loop-v-preserved c =
     let a = c.args in
     let l = c.loop-v in
     let xs = a.bytes.now in (
-      sym (turns_more a.v xs l.n (omega (arith, room c, place-most a.v l.n)) (turned c)) ∙ l.invariant.0,
+      sym (turns_more a.v xs l.n (omega (arith, turn-room c.args.v c.args.bytes.now c.loop-v.n (sym c.in_turn.ensures ∙ c.loop-v-test.true), place-most a.v l.n)) (sym c.in_turn.ensures ∙ c.loop-v-test.true)) ∙ l.invariant.0,
       omega (arith, l.invariant.1, l.invariant.2, place-next a.v l.n),
       l.invariant.2,
     )

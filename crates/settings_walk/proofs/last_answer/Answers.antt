@@ -15,93 +15,111 @@ use Rattle.entries.specs.Entries.{entry_at}
 use Rattle.settings.specs.Reading.{fits, after_rows}
 use Rattle.settings.proofs.Steps.{last-51, last-kind, last-ring, last-edition, last-0, last-room, after-0, after-51, after-52}
 use borrow.Author.Rules.{rules}
-use Rattle.settings_walk.proofs.last_answer.Tie as tie
-use Rattle.settings_walk.proofs.last_answer.Lts as lts
-use Rattle.settings_walk.proofs.last_answer.Reads as reads
 use Rattle.settings_walk.proofs.last_answer.Goals as goal
-
-good : (c : lts.Else1 tie.the-claims reads.Pre reads.Post tie.handed_clauses) → fits (c.args.v ∷ []) (entry_at c.args.bytes.now c.args.at) ≡ true
-good c = ap (fits (c.args.v ∷ [])) (sym c.entry_at-e.ensures) ∙ sym c.fits-2.ensures ∙ c.if-not-fits.false
-
-third : (c : lts.Else2 tie.the-claims reads.Pre reads.Post tie.handed_clauses) → (entry_at c.args.bytes.now c.args.at).kind ≡ 3
-third c = ap (λ (q : Entry). q.kind) (sym c.entry_at-e.ensures) ∙ c.if-e-ne3.false
-
-room : (c : lts.Else2 tie.the-claims reads.Pre reads.Post tie.handed_clauses) → c.args.at + 19 ≤ length c.args.bytes.now
-room c = last-room c.args.v editions c.args.bytes.now c.args.at 0 (good c.before.before.before) (third c)
-
-ringed : (c : lts.Else3 tie.the-claims reads.Pre reads.Post tie.handed_clauses) → length_allowed (number_at 8 c.args.bytes.now (c.args.at + 6)) ≡ true
-ringed c = ap length_allowed (sym c.u64_at.ensures) ∙ sym c.length_allowed.ensures ∙ c.if-not-length_allowed.false
-
-edition : (c : lts.Else4 tie.the-claims reads.Pre reads.Post tie.handed_clauses) → allowed editions (number_at 1 c.args.bytes.now (c.args.at + 14)) ≡ true
-edition c = ap (allowed editions) (sym c.u8_at.ensures.0) ∙ sym c.allowed.ensures ∙ c.if-not-allowed.false
 
 pub returns-then-not-fits : goal.returns-then-not-fits
 returns-then-not-fits c =
     let a = c.args in
     let xs = a.bytes.now in
     let rest = first (after_rows a.v xs (a.at + 19)) 0 in
-    sym (last-51 a.v editions xs a.at rest (ap (fits (a.v ∷ [])) (sym c.entry_at-e.ensures) ∙ sym c.fits-2.ensures ∙ c.if-not-fits.true))
+    sym (last-51 a.v editions xs a.at rest (ap (fits (a.v ∷ [])) (sym c.entry_at-e.ensures) ∙ sym c.fits.ensures ∙ c.if-not-fits.true))
 
 pub returns-then-e-ne3 : goal.returns-then-e-ne3
 returns-then-e-ne3 c =
+    let good = ap (fits (c.args.v ∷ [])) (sym c.entry_at-e.ensures) ∙ sym c.fits.ensures ∙ c.if-not-fits.false in
     let a = c.args in
     let xs = a.bytes.now in
     let rest = first (after_rows a.v xs (a.at + 19)) 0 in
-    sym (last-kind a.v editions xs a.at rest (good c.before.before.before) (λ e. c.if-e-ne3.true (ap (λ (q : Entry). q.kind) c.entry_at-e.ensures ∙ e)))
+    sym (last-kind a.v editions xs a.at rest good (λ e. c.if-e-ne3.true (ap (λ (q : Entry). q.kind) c.entry_at-e.ensures ∙ e)))
 
 pub overflow_add-at : goal.overflow_add-at
-overflow_add-at c = omega (arith, room c, c.well_formed)
+overflow_add-at c =
+    let good = ap (fits (c.args.v ∷ [])) (sym c.entry_at-e.ensures) ∙ sym c.fits.ensures ∙ c.if-not-fits.false in
+    let third = ap (λ (q : Entry). q.kind) (sym c.entry_at-e.ensures) ∙ c.if-e-ne3.false in
+    omega (arith, last-room c.args.v editions c.args.bytes.now c.args.at 0 good third, c.well_formed)
 
 pub u64_at-requires : goal.u64_at-requires
-u64_at-requires c = omega (arith, room c)
+u64_at-requires c =
+    let good = ap (fits (c.args.v ∷ [])) (sym c.entry_at-e.ensures) ∙ sym c.fits.ensures ∙ c.if-not-fits.false in
+    let third = ap (λ (q : Entry). q.kind) (sym c.entry_at-e.ensures) ∙ c.if-e-ne3.false in
+    omega (arith, last-room c.args.v editions c.args.bytes.now c.args.at 0 good third)
 
 pub returns-then-not-length_allowed : goal.returns-then-not-length_allowed
 returns-then-not-length_allowed c =
+    let good = ap (fits (c.args.v ∷ [])) (sym c.entry_at-e.ensures) ∙ sym c.fits.ensures ∙ c.if-not-fits.false in
+    let third = ap (λ (q : Entry). q.kind) (sym c.entry_at-e.ensures) ∙ c.if-e-ne3.false in
     let a = c.args in
     let xs = a.bytes.now in
     let rest = first (after_rows a.v xs (a.at + 19)) 0 in
-    sym (last-ring a.v editions xs a.at rest (good c.before.before.before.before.before.before) (third c.before.before.before.before)
+    sym (last-ring a.v editions xs a.at rest good third
     (ap length_allowed (sym c.u64_at.ensures) ∙ sym c.length_allowed.ensures ∙ c.if-not-length_allowed.true))
 
 pub overflow_add-at-2 : goal.overflow_add-at-2
-overflow_add-at-2 c = omega (arith, room c.before.before.before.before, c.well_formed)
+overflow_add-at-2 c =
+    let good = ap (fits (c.args.v ∷ [])) (sym c.entry_at-e.ensures) ∙ sym c.fits.ensures ∙ c.if-not-fits.false in
+    let third = ap (λ (q : Entry). q.kind) (sym c.entry_at-e.ensures) ∙ c.if-e-ne3.false in
+    omega (arith, last-room c.args.v editions c.args.bytes.now c.args.at 0 good third, c.well_formed)
 
 pub u8_at-requires : goal.u8_at-requires
-u8_at-requires c = omega (arith, room c.before.before.before.before)
+u8_at-requires c =
+    let good = ap (fits (c.args.v ∷ [])) (sym c.entry_at-e.ensures) ∙ sym c.fits.ensures ∙ c.if-not-fits.false in
+    let third = ap (λ (q : Entry). q.kind) (sym c.entry_at-e.ensures) ∙ c.if-e-ne3.false in
+    omega (arith, last-room c.args.v editions c.args.bytes.now c.args.at 0 good third)
 
 pub returns-then-not-allowed : goal.returns-then-not-allowed
 returns-then-not-allowed c =
+    let good = ap (fits (c.args.v ∷ [])) (sym c.entry_at-e.ensures) ∙ sym c.fits.ensures ∙ c.if-not-fits.false in
+    let third = ap (λ (q : Entry). q.kind) (sym c.entry_at-e.ensures) ∙ c.if-e-ne3.false in
+    let ringed = ap length_allowed (sym c.u64_at.ensures) ∙ sym c.length_allowed.ensures ∙ c.if-not-length_allowed.false in
     let a = c.args in
     let xs = a.bytes.now in
     let rest = first (after_rows a.v xs (a.at + 19)) 0 in
-    sym (last-edition a.v editions xs a.at rest (good c.before.before.before.before.before.before.before.before.before) (third c.before.before.before.before.before.before.before) (ringed c.before.before.before.before)
+    sym (last-edition a.v editions xs a.at rest good third ringed
     (ap (allowed editions) (sym c.u8_at.ensures.0) ∙ sym c.allowed.ensures ∙ c.if-not-allowed.true))
 
 pub overflow_add-at-3 : goal.overflow_add-at-3
-overflow_add-at-3 c = omega (arith, room c.before.before.before.before.before.before.before, c.well_formed)
+overflow_add-at-3 c =
+    let good = ap (fits (c.args.v ∷ [])) (sym c.entry_at-e.ensures) ∙ sym c.fits.ensures ∙ c.if-not-fits.false in
+    let third = ap (λ (q : Entry). q.kind) (sym c.entry_at-e.ensures) ∙ c.if-e-ne3.false in
+    omega (arith, last-room c.args.v editions c.args.bytes.now c.args.at 0 good third, c.well_formed)
 
 pub returns-then-at-bytes : goal.returns-then-at-bytes
 returns-then-at-bytes c =
+    let good = ap (fits (c.args.v ∷ [])) (sym c.entry_at-e.ensures) ∙ sym c.fits.ensures ∙ c.if-not-fits.false in
+    let third = ap (λ (q : Entry). q.kind) (sym c.entry_at-e.ensures) ∙ c.if-e-ne3.false in
+    let ringed = ap length_allowed (sym c.u64_at.ensures) ∙ sym c.length_allowed.ensures ∙ c.if-not-length_allowed.false in
+    let edition = ap (allowed editions) (sym c.u8_at.ensures.0) ∙ sym c.allowed.ensures ∙ c.if-not-allowed.false in
     let a = c.args in
     let xs = a.bytes.now in
     let rest = first (after_rows a.v xs (a.at + 19)) 0 in
-    sym (last-0 a.v editions xs a.at rest (good c.before.before.before.before.before.before.before.before.before.before) (third c.before.before.before.before.before.before.before.before) (ringed c.before.before.before.before.before) (edition c.before.before) ∙ after-0 a.v xs (a.at + 19) 0 c.if-at-bytes.true)
+    sym (last-0 a.v editions xs a.at rest good third ringed edition ∙ after-0 a.v xs (a.at + 19) 0 c.if-at-bytes.true)
 
 pub overflow_add-at-4 : goal.overflow_add-at-4
-overflow_add-at-4 c = omega (arith, room c.before.before.before.before.before.before.before.before, c.well_formed)
+overflow_add-at-4 c =
+    let good = ap (fits (c.args.v ∷ [])) (sym c.entry_at-e.ensures) ∙ sym c.fits.ensures ∙ c.if-not-fits.false in
+    let third = ap (λ (q : Entry). q.kind) (sym c.entry_at-e.ensures) ∙ c.if-e-ne3.false in
+    omega (arith, last-room c.args.v editions c.args.bytes.now c.args.at 0 good third, c.well_formed)
 
 pub returns-then-not-fits-2 : goal.returns-then-not-fits-2
 returns-then-not-fits-2 c =
+    let good = ap (fits (c.args.v ∷ [])) (sym c.entry_at-e.ensures) ∙ sym c.fits.ensures ∙ c.if-not-fits.false in
+    let third = ap (λ (q : Entry). q.kind) (sym c.entry_at-e.ensures) ∙ c.if-e-ne3.false in
+    let ringed = ap length_allowed (sym c.u64_at.ensures) ∙ sym c.length_allowed.ensures ∙ c.if-not-length_allowed.false in
+    let edition = ap (allowed editions) (sym c.u8_at.ensures.0) ∙ sym c.allowed.ensures ∙ c.if-not-allowed.false in
     let a = c.args in
     let xs = a.bytes.now in
     let rest = first (after_rows a.v xs (a.at + 19)) 0 in
-    sym (last-0 a.v editions xs a.at rest (good c.before.before.before.before.before.before.before.before.before.before.before.before.before) (third c.before.before.before.before.before.before.before.before.before.before.before) (ringed c.before.before.before.before.before.before.before.before) (edition c.before.before.before.before.before) ∙ after-51 a.v xs (a.at + 19) 0 c.if-at-bytes.false
-    (ap (fits (a.v ∷ [])) (sym c.entry_at-f.ensures) ∙ sym c.fits3.ensures ∙ c.if-not-fits-2.true))
+    sym (last-0 a.v editions xs a.at rest good third ringed edition ∙ after-51 a.v xs (a.at + 19) 0 c.if-at-bytes.false
+    (ap (fits (a.v ∷ [])) (sym c.entry_at-f.ensures) ∙ sym c.fits-2.ensures ∙ c.if-not-fits-2.true))
 
 pub returns : goal.returns
 returns c =
+    let good = ap (fits (c.args.v ∷ [])) (sym c.entry_at-e.ensures) ∙ sym c.fits.ensures ∙ c.if-not-fits.false in
+    let third = ap (λ (q : Entry). q.kind) (sym c.entry_at-e.ensures) ∙ c.if-e-ne3.false in
+    let ringed = ap length_allowed (sym c.u64_at.ensures) ∙ sym c.length_allowed.ensures ∙ c.if-not-length_allowed.false in
+    let edition = ap (allowed editions) (sym c.u8_at.ensures.0) ∙ sym c.allowed.ensures ∙ c.if-not-allowed.false in
     let a = c.args in
     let xs = a.bytes.now in
     let rest = first (after_rows a.v xs (a.at + 19)) 0 in
-    sym (last-0 a.v editions xs a.at rest (good c.before.before.before.before.before.before.before.before.before.before.before.before.before) (third c.before.before.before.before.before.before.before.before.before.before.before) (ringed c.before.before.before.before.before.before.before.before) (edition c.before.before.before.before.before) ∙ after-52 a.v xs (a.at + 19) 0 c.if-at-bytes.false
-    (ap (fits (a.v ∷ [])) (sym c.entry_at-f.ensures) ∙ sym c.fits3.ensures ∙ c.if-not-fits-2.false))
+    sym (last-0 a.v editions xs a.at rest good third ringed edition ∙ after-52 a.v xs (a.at + 19) 0 c.if-at-bytes.false
+    (ap (fits (a.v ∷ [])) (sym c.entry_at-f.ensures) ∙ sym c.fits-2.ensures ∙ c.if-not-fits-2.false))

@@ -16,24 +16,7 @@ use Rattle.meaning.specs.Events.{events_of, sound}
 use Rattle.settings.specs.Writing.{stored}
 use Rattle.settings.proofs.Back.{rows-limit}
 use borrow.Author.Rules.{rules}
-use Rattle.settings_write.proofs.write_in.Tie as tie
-use Rattle.settings_write.proofs.write_in.Lts as lts
-use Rattle.settings_write.proofs.write_in.Reads as reads
 use Rattle.settings_write.proofs.write_in.Goals as goal
-
-sounds : (c : lts.Else1 tie.the-claims reads.Pre reads.Post tie.handed_clauses) → sound c.args.v.limit (events_of c.args.rows.now) ≡ true
-sounds c = sym c.sound.ensures ∙ c.if-not-sound.false
-
-ringed : (c : lts.Else2 tie.the-claims reads.Pre reads.Post tie.handed_clauses) → length_allowed c.args.ring ≡ true
-ringed c = sym c.length_allowed.ensures ∙ c.if-not-length_allowed.false
-
-editioned : (c : lts.Else3 tie.the-claims reads.Pre reads.Post tie.handed_clauses) → allowed editions c.args.edition ≡ true
-editioned c = sym c.allowed.ensures ∙ c.if-not-allowed.false
-
-few : (c : lts.Else3 tie.the-claims reads.Pre reads.Post tie.handed_clauses) → length c.args.rows.now ≤ 1024
-few c =
-    let a = c.args in
-    omega (arith, rows-limit a.v.limit a.rows.now (sounds c.before.before.before.before.before), c.requires.most)
 
 pub returns-then-not-sound : goal.returns-then-not-sound
 returns-then-not-sound c =
@@ -46,51 +29,64 @@ returns-then-not-sound c =
 
 pub returns-then-not-length_allowed : goal.returns-then-not-length_allowed
 returns-then-not-length_allowed c =
+    let sounds = sym c.sound.ensures ∙ c.if-not-sound.false in
     let a = c.args in
     let rows = a.rows.now in
     let d = a.buffer.now in
     let p = write-refused a.v editions rows a.ring a.edition a.budget d 1
-    (write-1 a.v editions rows a.ring a.edition a.budget (length d) (sounds c.before.before.before.before)
+    (write-1 a.v editions rows a.ring a.edition a.budget (length d) sounds
     (sym c.length_allowed.ensures ∙ c.if-not-length_allowed.true))
     (λ (e : ◌≡◌ {A = ℕ} 1 0). omega arith) in record { value = c.told-then-not-length_allowed.ensures ∙ p.0; buffer_after = p.1; }
 
 pub returns-then-not-allowed : goal.returns-then-not-allowed
 returns-then-not-allowed c =
+    let sounds = sym c.sound.ensures ∙ c.if-not-sound.false in
+    let ringed = sym c.length_allowed.ensures ∙ c.if-not-length_allowed.false in
     let a = c.args in
     let rows = a.rows.now in
     let d = a.buffer.now in
     let p = write-refused a.v editions rows a.ring a.edition a.budget d 2
-    (write-2 a.v editions rows a.ring a.edition a.budget (length d) (sounds c.before.before.before.before.before.before) (ringed c.before.before.before.before)
+    (write-2 a.v editions rows a.ring a.edition a.budget (length d) sounds ringed
     (sym c.allowed.ensures ∙ c.if-not-allowed.true))
     (λ (e : ◌≡◌ {A = ℕ} 2 0). omega arith) in record { value = c.told-then-not-allowed.ensures ∙ p.0; buffer_after = p.1; }
 
 pub place_of-at-requires : goal.place_of-at-requires
-place_of-at-requires c = (c.requires, few c)
+place_of-at-requires c =
+    let sounds = sym c.sound.ensures ∙ c.if-not-sound.false in
+    (c.requires, omega (arith, rows-limit c.args.v.limit c.args.rows.now sounds, c.requires.most))
 
 pub overflow_add-at : goal.overflow_add-at
 overflow_add-at c =
-    omega (arith, c.place_of-at.ensures, place-bound c.args.v (length c.args.rows.now) c.requires, few c.before.before)
+    let sounds = sym c.sound.ensures ∙ c.if-not-sound.false in
+    omega (arith, c.place_of-at.ensures, place-bound c.args.v (length c.args.rows.now) c.requires, rows-limit c.args.v.limit c.args.rows.now sounds, c.requires.most)
 
 pub returns-then-buffer-at : goal.returns-then-buffer-at
 returns-then-buffer-at c =
+    let sounds = sym c.sound.ensures ∙ c.if-not-sound.false in
+    let ringed = sym c.length_allowed.ensures ∙ c.if-not-length_allowed.false in
+    let editioned = sym c.allowed.ensures ∙ c.if-not-allowed.false in
     let a = c.args in
     let rows = a.rows.now in
     let d = a.buffer.now in
     let p = write-refused a.v editions rows a.ring a.edition a.budget d 40
-    (write-40 a.v editions rows a.ring a.edition a.budget (length d) (sounds c.before.before.before.before.before.before.before.before) (ringed c.before.before.before.before.before.before) (editioned c.before.before.before.before) (omega (arith, c.if-buffer-at.true, c.place_of-at.ensures)))
+    (write-40 a.v editions rows a.ring a.edition a.budget (length d) sounds ringed editioned (omega (arith, c.if-buffer-at.true, c.place_of-at.ensures)))
     (λ (e : ◌≡◌ {A = ℕ} 40 0). omega arith) in record { value = c.told-then-buffer-at.ensures ∙ p.0; buffer_after = p.1; }
 
 pub overflow_add-at-2 : goal.overflow_add-at-2
 overflow_add-at-2 c =
-    omega (arith, c.place_of-at.ensures, place-bound c.args.v (length c.args.rows.now) c.requires, few c.before.before.before.before.before.before.before.before.before.before.before.before.before.before.before.before.before)
+    let sounds = sym c.sound.ensures ∙ c.if-not-sound.false in
+    omega (arith, c.place_of-at.ensures, place-bound c.args.v (length c.args.rows.now) c.requires, rows-limit c.args.v.limit c.args.rows.now sounds, c.requires.most)
 
 pub returns : goal.returns
 returns c =
+    let sounds = sym c.sound.ensures ∙ c.if-not-sound.false in
+    let ringed = sym c.length_allowed.ensures ∙ c.if-not-length_allowed.false in
+    let editioned = sym c.allowed.ensures ∙ c.if-not-allowed.false in
     let a = c.args in
     let rows = a.rows.now in
     let d = a.buffer.now in
-    let p : c.before.before.before.before.before.before.before.before.before.before.before.before.before.before.before.before.place_of.result ≡ place_of a.v (length rows) = c.place_of-at.ensures in
+    let p : c.place_of-at.result ≡ place_of a.v (length rows) = c.place_of-at.ensures in
     let m : place_of a.v (length rows) + 19 ≤ length d = omega (arith, c.if-buffer-at.false, p) in
-    let g = write-given a.v editions rows a.ring a.edition a.budget d (write-0 a.v editions rows a.ring a.edition a.budget (length d) (sounds c.before.before.before.before.before.before.before.before.before.before.before.before.before.before.before.before.before.before.before.before.before.before) (ringed c.before.before.before.before.before.before.before.before.before.before.before.before.before.before.before.before.before.before.before.before) (editioned c.before.before.before.before.before.before.before.before.before.before.before.before.before.before.before.before.before.before) m) in record { value = c.told-2.ensures ∙ ap (λ (k : ℕ). stored 0 (k + 19)) p ∙ g.0; buffer_after = store-put a.v d _ _ _ rows c.place_of-at.result a.ring a.edition a.budget p m
+    let g = write-given a.v editions rows a.ring a.edition a.budget d (write-0 a.v editions rows a.ring a.edition a.budget (length d) sounds ringed editioned m) in record { value = c.told-2.ensures ∙ ap (λ (k : ℕ). stored 0 (k + 19)) p ∙ g.0; buffer_after = store-put a.v d _ _ _ rows c.place_of-at.result a.ring a.edition a.budget p m
           (c.put_entry.ensures ∙ ap (λ (b : List ℕ). put d 0 (entry_bytes 1 b)) c.le16-shown.ensures) c.put_rows.ensures c.put_last.ensures
           ∙ g.1; }
