@@ -21,7 +21,7 @@ help:
 	@echo "make deb       Debian packages, of this machine's or of a TARGET: target/deb"
 	@echo "make boards-test, live-kernels   other targets under an emulator; live rings of other kernels"
 	@echo "make soak      random and damaged rings beside the independent reader (MINUTES=5)"
-	@echo "make clean     remove target/, all that was proved and built"
+	@echo "make clean     remove target/ and crates/*/out, all that was proved and built"
 
 # the journal of a ring that a live kernel wrote: an entry a line, then why the drain stopped and at which tail
 run:
@@ -60,7 +60,7 @@ page-test: $(LIB) tool live-programs
 	@tests/page/run.sh
 
 clean:
-	rm -rf target
+	rm -rf target crates/*/out
 
 # what needs the library builds it first
 $(LIB):

@@ -237,7 +237,7 @@ boards() { # TARGET..
   done
   for target in "$@"; do needed_tools "$target" || bad=1; done
   [ $bad -eq 0 ] || exit 1
-  [ -d "$modules" ] || prove
+  [ -f "$modules/sum" ] || prove
   is_fresh || die "the modules are not those of the sources as they are: 'make lib' proves them anew"
   is_fresh_ringdump || prove_ringdump
   for target in "$@"; do board "$target"; done

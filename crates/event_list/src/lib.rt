@@ -41,8 +41,7 @@ pub fn event_at(events: &[Event], i: usize) -> Event
     events[i]
 }
 
-// What C calls: the index of the first event with this identifier; the count where there is none. The mark of an export
-// stands here, since a second function that passed the slice on would need a walk of its own.
+// What C calls, by crate event_list_c: the index of the first event with this identifier; the count where there is none.
 #[unsafe(no_mangle)]
 pub extern "C" fn ollskuvan_find_event(events: &[Event], identifier: u64) -> usize
     ensures { result ≡ index_of identifier (identifiers events.now) }
