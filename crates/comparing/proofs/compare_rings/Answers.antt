@@ -66,7 +66,7 @@ returns-then-not-both c =
     let r =
     here-ends (event_reads (known editions a.e) es) (asked_events a.limit editions a.e es) a.left.now a.right.now a.lhead a.rhead a.ltail a.rtail a.lscratch.now a.rscratch.now
     (small_of a.left.now c.type_inv.left) (small_of a.right.now c.type_inv.right) c.ranges.lhead.fits c.ranges.rhead.fits
-    l.n l.tl l.tr l.lscratch l.rscratch f.result g.result c.ended.result l.invariant p q c.if-not-both.true c.ended.ensures in record { value = r.result; lscratch_after = r.left; rscratch_after = r.right; }
+    l.n l.tl l.tr l.lscratch l.rscratch f.result g.result c.ended.result l.invariant p q c.if-not-both.true c.ended.ensures in record { value = r.result; lscratch_after = r.left; rscratch_after = r.right }
 
 -- a frame that goes on has a sound table, and its record is whole
 pub look-p-requires : goal.look-p-requires
@@ -94,7 +94,7 @@ pub loop-p-init : goal.loop-p-init
 loop-p-init c = c.look-p.ensures
 
 pub next-p-requires : goal.next-p-requires
-next-p-requires c = record { ready = c.loop-p.invariant.ready c.if-p.false; done_value = c.if-p.false; }
+next-p-requires c = record { ready = c.loop-p.invariant.ready c.if-p.false; done_value = c.if-p.false }
 
 pub loop-p-smaller : goal.loop-p-smaller
 loop-p-smaller c = c.next-p.ensures.result_bound
@@ -186,4 +186,4 @@ returns c =
     let s = ap₂ (λ (u v : List ℕ). alike (fields R u) (fields R v)) (sym x) (sym y) ∙ d.0 in
     let t = ap₂ (λ (u v : List ℕ). agree (fields R u) (fields R v)) (sym x) (sym y) ∙ d.1 in
     let r = ensured-same R (asked_events a.limit editions a.e es) a.left.now a.right.now a.lhead a.rhead a.ltail a.rtail a.lscratch.now a.rscratch.now c.tell.result _ _ _ _
-    (sym c.gather.ensures) (sym c.gather-in-records.ensures) (h.differ s _ t c.tell.result c.tell.ensures) in record { value = r.result; lscratch_after = r.left; rscratch_after = r.right; }
+    (sym c.gather.ensures) (sym c.gather-in-records.ensures) (h.differ s _ t c.tell.result c.tell.ensures) in record { value = r.result; lscratch_after = r.left; rscratch_after = r.right }

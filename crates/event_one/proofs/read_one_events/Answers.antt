@@ -71,11 +71,11 @@ returns c =
     let x = bytes s.limit s.e es s.ring.now s.head s.tail s.scratch.now f e go _ _ c.gather.ensures c.shown-r.ensures.result_value in
     record {
       value = c.taken.ensures
-        ∙ ap (λ (j : Judged). with_inspected (told_taken s.ring.now f s.tail j.answer) j.inspected)
+          ∙ ap (λ (j : Judged). with_inspected (told_taken s.ring.now f s.tail j.answer) j.inspected)
           (c.read_event-j.ensures.value ∙ ap (λ (l : List ℕ). judged (read_event_answer editions s.e es l s.words.now) (inspected (known editions s.e) es l)) x)
-        ∙ told-frame s.limit editions s.e es s.ring.now s.head s.tail s.scratch.now s.words.now f e true go;
+          ∙ told-frame s.limit editions s.e es s.ring.now s.head s.tail s.scratch.now s.words.now f e true go;
       scratch_after = c.gather.ensures ∙ scratch-frame s.limit editions s.e es s.ring.now s.head s.tail s.scratch.now s.words.now f e true go;
       words_after = c.read_event-j.ensures.words_after
-        ∙ ap (λ (l : List ℕ). read_event_words editions s.e es l s.words.now) x
-        ∙ words-frame s.limit editions s.e es s.ring.now s.head s.tail s.scratch.now s.words.now f e true go;
+          ∙ ap (λ (l : List ℕ). read_event_words editions s.e es l s.words.now) x
+          ∙ words-frame s.limit editions s.e es s.ring.now s.head s.tail s.scratch.now s.words.now f e true go;
     }

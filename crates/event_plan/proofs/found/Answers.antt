@@ -41,7 +41,7 @@ pub judge-requires : goal.judge-requires
 judge-requires c =
     let a = c.args in
     let m = c.mark_of-mark in
-    let e = same c.args.known (events_of c.args.rows.now) c.args.id c.args.slot.now c.attributes_at-a.result c.requires.slot_of c.requires.slot_value c.attributes_at-a.ensures in record { in_bounds = c.requires.in_bounds; r_len_bound = c.requires.r_len_bound; r_len = c.requires.r_len; kind_value = c.requires.kind_value; marked = subst (λ (x : Attributes). Marked a.known x a.kind m.result) (sym e) m.ensures; sums_value = c.unpacked-sums.ensures ∙ (c.requires.slot_of.planned c.requires.slot_value).sums ∙ ap sums_of (sym e); }
+    let e = same c.args.known (events_of c.args.rows.now) c.args.id c.args.slot.now c.attributes_at-a.result c.requires.slot_of c.requires.slot_value c.attributes_at-a.ensures in record { in_bounds = c.requires.in_bounds; r_len_bound = c.requires.r_len_bound; r_len = c.requires.r_len; kind_value = c.requires.kind_value; marked = subst (λ (x : Attributes). Marked a.known x a.kind m.result) (sym e) m.ensures; sums_value = c.unpacked-sums.ensures ∙ (c.requires.slot_of.planned c.requires.slot_value).sums ∙ ap sums_of (sym e) }
 
 pub returns : goal.returns
 returns c =

@@ -45,7 +45,7 @@ type_mark-requires c =
     let p = c.requires.slot_of.planned c.requires.slot_value in
     let e = same c.args.known (events_of c.args.rows.now) c.args.id c.args.slot.now c.attributes_at-a.result c.requires.slot_of c.requires.slot_value c.attributes_at-a.ensures in
     let k = c.args.known in
-    let l = trail-small _ _ p.sums in record { kinds_le_last_type = c.requires.kinds_le_last_type; why_value = p.why ∙ ap (λ (x : Attributes). unreadable k x 1 0) (sym e); trail_value = (sums-given _ _ p.sums).trail ∙ ap (λ (x : Attributes). room (trailer 1 x)) (sym e); trail_le_sum_most = omega (arith, l); le_kind = c.requires.le_kind; kind_le_kinds = c.requires.kind_le_kinds; fact = (c.if-kind-eq8.false, c.if-kind-eq9.false); }
+    let l = trail-small _ _ p.sums in record { kinds_le_last_type = c.requires.kinds_le_last_type; why_value = p.why ∙ ap (λ (x : Attributes). unreadable k x 1 0) (sym e); trail_value = (sums-given _ _ p.sums).trail ∙ ap (λ (x : Attributes). room (trailer 1 x)) (sym e); trail_le_sum_most = omega (arith, l); le_kind = c.requires.le_kind; kind_le_kinds = c.requires.kind_le_kinds; fact = (c.if-kind-eq8.false, c.if-kind-eq9.false) }
 
 pub returns : goal.returns
 returns c =

@@ -32,7 +32,7 @@ returns-then-state-ne2 c =
 
 pub found-requires : goal.found-requires
 found-requires c =
-    let l = c.requires.in_bounds in record { in_bounds = omega (arith, l); r_len_bound = c.requires.r_len_bound; r_len = c.requires.r_len; kind_value = c.requires.kind_value; kinds_le_last_type = c.requires.kinds_le_last_type; le_kind = c.requires.le_kind; kind_le_kinds = c.requires.kind_le_kinds; slot_of = c.requires.slot_of; slot_value = c.if-state-ne2.false; }
+    let l = c.requires.in_bounds in record { in_bounds = omega (arith, l); r_len_bound = c.requires.r_len_bound; r_len = c.requires.r_len; kind_value = c.requires.kind_value; kinds_le_last_type = c.requires.kinds_le_last_type; le_kind = c.requires.le_kind; kind_le_kinds = c.requires.kind_le_kinds; slot_of = c.requires.slot_of; slot_value = c.if-state-ne2.false }
 
 pub returns : goal.returns
 returns c =

@@ -21,7 +21,7 @@ returns-then-m-ne0 c =
     let a = c.args in
     let es = events_of a.rows.now in
     let m = c.match_event-m.ensures in
-    let w = read_none editions a.e es a.r.now c.match_event-m.result m c.if-m-ne0.true a.words.now in record { value = ap₂ judged w.0 (c.inspected-inspected.ensures ∙ inspected-by (known editions a.e) es a.r.now _ m _ (sym (rows-length a.rows.now))); words_after = w.1; }
+    let w = read_none editions a.e es a.r.now c.match_event-m.result m c.if-m-ne0.true a.words.now in record { value = ap₂ judged w.0 (c.inspected-inspected.ensures ∙ inspected-by (known editions a.e) es a.r.now _ m _ (sym (rows-length a.rows.now))); words_after = w.1 }
 
 pub attributes_at-a-requires : goal.attributes_at-a-requires
 attributes_at-a-requires c =
@@ -33,4 +33,4 @@ returns c =
     let a = c.args in
     let es = events_of a.rows.now in
     let m = c.match_event-m.ensures in
-    let w = read-own editions a.e es a.r.now c.match_event-m.result m c.if-m-ne0.false _ c.attributes_at-a.ensures a.words.now in record { value = ap₂ judged (c.read_into-answer.ensures.value ∙ w.0) (c.inspected-inspected.ensures ∙ inspected-by (known editions a.e) es a.r.now _ m _ (sym (rows-length a.rows.now))); words_after = c.read_into-answer.ensures.words_after ∙ w.1; }
+    let w = read-own editions a.e es a.r.now c.match_event-m.result m c.if-m-ne0.false _ c.attributes_at-a.ensures a.words.now in record { value = ap₂ judged (c.read_into-answer.ensures.value ∙ w.0) (c.inspected-inspected.ensures ∙ inspected-by (known editions a.e) es a.r.now _ m _ (sym (rows-length a.rows.now))); words_after = c.read_into-answer.ensures.words_after ∙ w.1 }

@@ -16,7 +16,7 @@ pub returns-then-early-ne0 : goal.returns-then-early-ne0
 returns-then-early-ne0 c =
     let a = c.args in
     let u = c.unasked-early.ensures in
-    let w = read-refused a.limit editions a.e (events_of a.rows.now) a.r.now (λ z. c.if-early-ne0.true (u ∙ z)) a.words.now in record { value = ap (λ (n : ℕ). judged n 0) u ∙ w.0; words_after = w.1; }
+    let w = read-refused a.limit editions a.e (events_of a.rows.now) a.r.now (λ z. c.if-early-ne0.true (u ∙ z)) a.words.now in record { value = ap (λ (n : ℕ). judged n 0) u ∙ w.0; words_after = w.1 }
 
 pub read_event-requires : goal.read_event-requires
 read_event-requires c =
@@ -29,4 +29,4 @@ read_event-requires c =
 pub returns : goal.returns
 returns c =
     let a = c.args in
-    let w = read_asked a.limit editions a.e (events_of a.rows.now) a.r.now (sym c.unasked-early.ensures ∙ c.if-early-ne0.false) a.words.now in record { value = c.read_event.ensures.value ∙ w.0; words_after = c.read_event.ensures.words_after ∙ w.1; }
+    let w = read_asked a.limit editions a.e (events_of a.rows.now) a.r.now (sym c.unasked-early.ensures ∙ c.if-early-ne0.false) a.words.now in record { value = c.read_event.ensures.value ∙ w.0; words_after = c.read_event.ensures.words_after ∙ w.1 }

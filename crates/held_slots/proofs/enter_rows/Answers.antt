@@ -12,7 +12,7 @@ use Rattle.slots.specs.Slots.{Memo, slot-inside, memo-entered}
 use Rattle.held_slots.proofs.enter_rows.Goals as goal
 
 pub returns-then-known-lt17 : goal.returns-then-known-lt17
-returns-then-known-lt17 c = record { memo_2 = c.requires.memo; memo_len_unchanged = refl; }
+returns-then-known-lt17 c = record { memo_2 = c.requires.memo; memo_len_unchanged = refl }
 
 pub loop-i-init : goal.loop-i-init
 loop-i-init c = ((λ k b w. w), refl, c.requires.in_bounds)
@@ -28,8 +28,7 @@ bounds-memo-h c = search (rules, slot-inside)
 
 pub loop-i-preserved : goal.loop-i-preserved
 loop-i-preserved c =
-    let l = c.loop-i in
-    (
+    let l = c.loop-i in (
       λ k b w. memo-entered k c.args.rows.now l.memo _ l.i _ (l.invariant.0 k b w) b c.requires.rows_value c.loop-i-test.true refl refl refl,
       length-set l.memo _ _ ∙ l.invariant.1,
       subst (λ (n : ℕ). 1 ≤ n) (sym (length-set l.memo _ _)) l.invariant.2,
@@ -40,4 +39,4 @@ shape_of-memo c = c.loop-i.invariant.1
 
 pub returns : goal.returns
 returns c =
-    let l = c.loop-i in record { memo_2 = l.invariant.0 c.args.known (omega (arith, c.if-known-lt17.false)) c.requires.memo; memo_len_unchanged = l.invariant.1; }
+    let l = c.loop-i in record { memo_2 = l.invariant.0 c.args.known (omega (arith, c.if-known-lt17.false)) c.requires.memo; memo_len_unchanged = l.invariant.1 }

@@ -15,7 +15,7 @@ returns-then-slot-ne1 c = c.slot_for-then-slot-ne1.ensures
 pub planned-requires : goal.planned-requires
 planned-requires c =
     let a = c.args in
-    let n = slot-noted a.known (events_of a.rows.now) a.id a.slot.now c.requires c.if-slot-id.false c.if-slot-ne1.false in record { lt_samples = n.known-there; i_value = n.index; i_in_bounds = omega (arith, n.index, n.inside, rows-length a.rows.now); }
+    let n = slot-noted a.known (events_of a.rows.now) a.id a.slot.now c.requires c.if-slot-id.false c.if-slot-ne1.false in record { lt_samples = n.known-there; i_value = n.index; i_in_bounds = omega (arith, n.index, n.inside, rows-length a.rows.now) }
 
 pub returns : goal.returns
 returns c = c.planned.ensures

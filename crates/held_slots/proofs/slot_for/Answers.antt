@@ -16,7 +16,7 @@ returns-then-rows-i c =
     filled-absent a.known (events_of a.rows.now) a.id c.if-known-le16.false c.find-i.result c.find-i.ensures _ (omega (arith, c.if-rows-i.true, rows-length a.rows.now)) refl refl
 
 pub planned-requires : goal.planned-requires
-planned-requires c = record { lt_samples = c.if-known-le16.false; i_value = c.find-i.ensures; i_in_bounds = c.if-rows-i.false; }
+planned-requires c = record { lt_samples = c.if-known-le16.false; i_value = c.find-i.ensures; i_in_bounds = c.if-rows-i.false }
 
 pub returns : goal.returns
 returns c = c.planned.ensures

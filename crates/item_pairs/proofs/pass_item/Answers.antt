@@ -12,15 +12,15 @@ returns-then-not-on c = let a = c.args in passed-off a.s.now a.t.now a.i a.w a.x
 pub of_shape-e-requires : goal.of_shape-e-requires
 of_shape-e-requires c =
     let a = c.args in
-    let e = shape-step a.s.now a.i a.c c.if-not-on.false c.requires.why_value.0 in record { at_in_bounds = c.requires.at_in_bounds.0; s_value = sym (ap (λ (z : Cursor). z.why) e) ∙ c.requires.c_value.0; end_value = ap (λ (z : Cursor). z.at) (c.step-c1.ensures ∙ e); }
+    let e = shape-step a.s.now a.i a.c c.if-not-on.false c.requires.why_value.0 in record { at_in_bounds = c.requires.at_in_bounds.0; s_value = sym (ap (λ (z : Cursor). z.why) e) ∙ c.requires.c_value.0; end_value = ap (λ (z : Cursor). z.at) (c.step-c1.ensures ∙ e) }
 
 pub of_shape-g-requires : goal.of_shape-g-requires
 of_shape-g-requires c =
     let a = c.args in
-    let e = shape-step a.t.now a.i a.d c.if-not-on.false c.requires.why_value.1 in record { at_in_bounds = c.requires.at_in_bounds.1; s_value = sym (ap (λ (z : Cursor). z.why) e) ∙ c.requires.c_value.1; end_value = ap (λ (z : Cursor). z.at) (c.step-d1.ensures ∙ e); }
+    let e = shape-step a.t.now a.i a.d c.if-not-on.false c.requires.why_value.1 in record { at_in_bounds = c.requires.at_in_bounds.1; s_value = sym (ap (λ (z : Cursor). z.why) e) ∙ c.requires.c_value.1; end_value = ap (λ (z : Cursor). z.at) (c.step-d1.ensures ∙ e) }
 
 pub same_fields-same-requires : goal.same_fields-same-requires
-same_fields-same-requires c = record { len_in_bounds = c.of_shape-e.ensures.inside; len_in_bounds_2 = c.of_shape-g.ensures.inside; }
+same_fields-same-requires c = record { len_in_bounds = c.of_shape-e.ensures.inside; len_in_bounds_2 = c.of_shape-g.ensures.inside }
 
 pub returns : goal.returns
 returns c =

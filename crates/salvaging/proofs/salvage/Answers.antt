@@ -30,7 +30,7 @@ returns-then-not-allowed c =
     let es = events_of a.rows.now in
     let b = table_unready a.limit editions a.e es in
     let u = unready-2 (allowed editions a.e) (sound a.limit es) (sym c.allowed.ensures ∙ c.if-not-allowed.true) in
-    let x = refused-result b (J a.e es) a.xs.now a.out.now a.list.now 2 (omega arith) (answer-before b (J a.e es) a.xs.now (length a.out.now) (length a.list.now) 2 (omega arith) u) in record { value = c.refused.ensures ∙ x.0; out_after = x.1; list_after = x.2; }
+    let x = refused-result b (J a.e es) a.xs.now a.out.now a.list.now 2 (omega arith) (answer-before b (J a.e es) a.xs.now (length a.out.now) (length a.list.now) 2 (omega arith) u) in record { value = c.refused.ensures ∙ x.0; out_after = x.1; list_after = x.2 }
 
 pub returns-then-not-sound : goal.returns-then-not-sound
 returns-then-not-sound c =
@@ -38,7 +38,7 @@ returns-then-not-sound c =
     let es = events_of a.rows.now in
     let b = table_unready a.limit editions a.e es in
     let u = unready-11 (allowed editions a.e) (sound a.limit es) (sym c.allowed.ensures ∙ c.if-not-allowed.false) (sym c.sound.ensures ∙ c.if-not-sound.true) in
-    let x = refused-result b (J a.e es) a.xs.now a.out.now a.list.now 11 (omega arith) (answer-before b (J a.e es) a.xs.now (length a.out.now) (length a.list.now) 11 (omega arith) u) in record { value = c.refused-then-not-sound.ensures ∙ x.0; out_after = x.1; list_after = x.2; }
+    let x = refused-result b (J a.e es) a.xs.now a.out.now a.list.now 11 (omega arith) (answer-before b (J a.e es) a.xs.now (length a.out.now) (length a.list.now) 11 (omega arith) u) in record { value = c.refused-then-not-sound.ensures ∙ x.0; out_after = x.1; list_after = x.2 }
 
 pub returns-then-out-t : goal.returns-then-out-t
 returns-then-out-t c =
@@ -46,7 +46,7 @@ returns-then-out-t c =
     let es = events_of a.rows.now in
     let b = table_unready a.limit editions a.e es in
     let x = refused-result b (J a.e es) a.xs.now a.out.now a.list.now 54 (omega arith)
-    (answer-54 b (J a.e es) a.xs.now (length a.out.now) (length a.list.now) (unready-0 (allowed editions a.e) (sound a.limit es) (sym c.allowed.ensures ∙ c.if-not-allowed.false) (sym c.sound.ensures ∙ c.if-not-sound.false)) (inl (omega (arith, c.if-out-t.true, c.measure-t.ensures.0)))) in record { value = c.refused-then-out-t.ensures ∙ x.0; out_after = x.1; list_after = x.2; }
+    (answer-54 b (J a.e es) a.xs.now (length a.out.now) (length a.list.now) (unready-0 (allowed editions a.e) (sound a.limit es) (sym c.allowed.ensures ∙ c.if-not-allowed.false) (sym c.sound.ensures ∙ c.if-not-sound.false)) (inl (omega (arith, c.if-out-t.true, c.measure-t.ensures.0)))) in record { value = c.refused-then-out-t.ensures ∙ x.0; out_after = x.1; list_after = x.2 }
 
 pub returns-then-list-t : goal.returns-then-list-t
 returns-then-list-t c =
@@ -54,7 +54,7 @@ returns-then-list-t c =
     let es = events_of a.rows.now in
     let b = table_unready a.limit editions a.e es in
     let x = refused-result b (J a.e es) a.xs.now a.out.now a.list.now 54 (omega arith)
-    (answer-54 b (J a.e es) a.xs.now (length a.out.now) (length a.list.now) (unready-0 (allowed editions a.e) (sound a.limit es) (sym c.allowed.ensures ∙ c.if-not-allowed.false) (sym c.sound.ensures ∙ c.if-not-sound.false)) (inr (omega (arith, c.if-list-t.true, entries a.e es a.xs.now _ c.measure-t.ensures.1)))) in record { value = c.refused-then-list-t.ensures ∙ x.0; out_after = x.1; list_after = x.2; }
+    (answer-54 b (J a.e es) a.xs.now (length a.out.now) (length a.list.now) (unready-0 (allowed editions a.e) (sound a.limit es) (sym c.allowed.ensures ∙ c.if-not-allowed.false) (sym c.sound.ensures ∙ c.if-not-sound.false)) (inr (omega (arith, c.if-list-t.true, entries a.e es a.xs.now _ c.measure-t.ensures.1)))) in record { value = c.refused-then-list-t.ensures ∙ x.0; out_after = x.1; list_after = x.2 }
 
 pub write_all-requires : goal.write_all-requires
 write_all-requires c =
@@ -80,4 +80,4 @@ returns c =
     let n = entries a.e es a.xs.now _ c.measure-t.ensures.1 in
     let d : length a.xs.now - c.measure-t.result.kept ≡ dropped (holes (J a.e es) a.xs.now) = omega (arith, m.0, kept-and-dropped (J a.e es) a.xs.now) in
     let x = accepted-result b (J a.e es) a.xs.now a.out.now a.list.now
-    (answer-0 b (J a.e es) a.xs.now (length a.out.now) (length a.list.now) (unready-0 (allowed editions a.e) (sound a.limit es) (sym c.allowed.ensures ∙ c.if-not-allowed.false) (sym c.sound.ensures ∙ c.if-not-sound.false)) (omega (arith, c.if-out-t.false, m.0)) (omega (arith, c.if-list-t.false, n))) in record { value = (λ i. tells (m.0 i) (d i) (sym n i) 0) ∙ x.0; out_after = c.write_all.ensures.out_after ∙ x.1; list_after = c.write_all.ensures.list_after ∙ x.2; }
+    (answer-0 b (J a.e es) a.xs.now (length a.out.now) (length a.list.now) (unready-0 (allowed editions a.e) (sound a.limit es) (sym c.allowed.ensures ∙ c.if-not-allowed.false) (sym c.sound.ensures ∙ c.if-not-sound.false)) (omega (arith, c.if-out-t.false, m.0)) (omega (arith, c.if-list-t.false, n))) in record { value = (λ i. tells (m.0 i) (d i) (sym n i) 0) ∙ x.0; out_after = c.write_all.ensures.out_after ∙ x.1; list_after = c.write_all.ensures.list_after ∙ x.2 }

@@ -42,13 +42,13 @@ shape_of-list-then-xs-at c =
 pub returns-then-xs-at : goal.returns-then-xs-at
 returns-then-xs-at c =
     let l = c.loop-list in
-    let e = write-end (table_judge editions c.args.e (events_of c.args.rows.now)) c.args.xs.now c.args.out.now c.args.list.now c.requires l.w l.out l.list l.invariant c.if-xs-at.true in record { out_after = e.0; list_after = c.write_closed.ensures ∙ e.1; }
+    let e = write-end (table_judge editions c.args.e (events_of c.args.rows.now)) c.args.xs.now c.args.out.now c.args.list.now c.requires l.w l.out l.list l.invariant c.if-xs-at.true in record { out_after = e.0; list_after = c.write_closed.ensures ∙ e.1 }
 
 pub write_step-requires : goal.write_step-requires
 write_step-requires c =
     let l = c.loop-list in
     let t = (sized (table_judge editions c.args.e (events_of c.args.rows.now)) c.args.xs.now c.loop-list.w c.loop-list.invariant.stands c.if-xs-at.false c.kept_size-size.result (size_is (table_judge editions c.args.e (events_of c.args.rows.now)) c.args.xs.now c.loop-list.w.at _ c.if-xs-at.false c.kept_size-size.ensures)) in
-    let n = (wrote-lengths (table_judge editions c.args.e (events_of c.args.rows.now)) c.args.xs.now c.args.out.now c.args.list.now l.w l.out l.list l.invariant).1 in record { size_in_bounds = t.inside; holes_in_bounds = λ p h. omega (arith, t.next-hole p h, changes-length (holes (table_judge editions c.args.e (events_of c.args.rows.now)) c.args.xs.now), c.requires.list-fits, n); }
+    let n = (wrote-lengths (table_judge editions c.args.e (events_of c.args.rows.now)) c.args.xs.now c.args.out.now c.args.list.now l.w l.out l.list l.invariant).1 in record { size_in_bounds = t.inside; holes_in_bounds = λ p h. omega (arith, t.next-hole p h, changes-length (holes (table_judge editions c.args.e (events_of c.args.rows.now)) c.args.xs.now), c.requires.list-fits, n) }
 
 pub advance-w-requires : goal.advance-w-requires
 advance-w-requires c =

@@ -14,7 +14,7 @@ use Rattle.slots.proofs.planned.Goals as goal
 pub read_mark-read-requires : goal.read_mark-read-requires
 read_mark-read-requires c =
     let x = c.sums-sums in
-    let l = trail-small _ x.result x.ensures in record { trail_value = (sums-given _ x.result x.ensures).trail; trail_le_sum_most = omega (arith, l); }
+    let l = trail-small _ x.result x.ensures in record { trail_value = (sums-given _ x.result x.ensures).trail; trail_le_sum_most = omega (arith, l) }
 
 pub packed-early-requires : goal.packed-early-requires
 packed-early-requires c =
