@@ -44,7 +44,7 @@ pub returns-then-a-ne0 : goal.returns-then-a-ne0
 returns-then-a-ne0 c =
     let a = c.args in
     let k = c.first_answer-a.result in
-    let p = read-refused versions editions a.bytes.now a.rows.now k (store-first versions editions a.bytes.now (length a.rows.now) k c.first_answer-a.ensures c.if-a-ne0.true) c.if-a-ne0.true in record { value = c.refuse.ensures ∙ p.0; rows_after = p.1; }
+    let p = read-refused versions editions a.bytes.now a.rows.now k (store-first versions editions a.bytes.now (length a.rows.now) k c.first_answer-a.ensures c.if-a-ne0.true) c.if-a-ne0.true in record { value = c.refuse.ensures ∙ p.0; rows_after = p.1 }
 
 pub u16_at-requires : goal.u16_at-requires
 u16_at-requires c =
@@ -73,7 +73,7 @@ returns-then-b-ne0 c =
     let v = c.version_of-v.result in
     let n = c.count_events-w.result.count in
     let k = c.last_answer-b.result in
-    let p = read-refused versions editions xs rows k (rest c.args.bytes.now c.version_of-v.result c.count_events-w.result.count (length c.args.rows.now) zero ver c.count_events-w.ensures.0 ∙ rest_end v editions xs n (length rows) k last c.if-b-ne0.true) c.if-b-ne0.true in record { value = c.refuse-then-b-ne0.ensures ∙ p.0; rows_after = p.1; }
+    let p = read-refused versions editions xs rows k (rest c.args.bytes.now c.version_of-v.result c.count_events-w.result.count (length c.args.rows.now) zero ver c.count_events-w.ensures.0 ∙ rest_end v editions xs n (length rows) k last c.if-b-ne0.true) c.if-b-ne0.true in record { value = c.refuse-then-b-ne0.ensures ∙ p.0; rows_after = p.1 }
 
 pub rows_sound-requires : goal.rows_sound-requires
 rows_sound-requires c =
@@ -96,7 +96,7 @@ returns-then-not-rows_sound c =
     let n = c.count_events-w.result.count in
     let p = read-refused versions editions xs rows 11
     (table c.args.bytes.now c.version_of-v.result c.count_events-w.result.count (length c.args.rows.now) before passed ∙ table-11 v.limit (rows_of v xs n) n (length rows) (sym c.rows_sound.ensures ∙ c.if-not-rows_sound.true))
-    (λ (e : ◌≡◌ {A = ℕ} 11 0). omega arith) in record { value = c.refuse-then-not-rows_sound.ensures ∙ p.0; rows_after = p.1; }
+    (λ (e : ◌≡◌ {A = ℕ} 11 0). omega arith) in record { value = c.refuse-then-not-rows_sound.ensures ∙ p.0; rows_after = p.1 }
 
 pub returns-then-rows-n : goal.returns-then-rows-n
 returns-then-rows-n c =
@@ -111,7 +111,7 @@ returns-then-rows-n c =
     let n = c.count_events-w.result.count in
     let p = read-refused versions editions xs rows 40
     (table c.args.bytes.now c.version_of-v.result c.count_events-w.result.count (length c.args.rows.now) before passed ∙ table-40 v.limit (rows_of v xs n) n (length rows) (sym c.rows_sound.ensures ∙ c.if-not-rows_sound.false) c.if-rows-n.true)
-    (λ (e : ◌≡◌ {A = ℕ} 40 0). omega arith) in record { value = c.refuse-then-rows-n.ensures ∙ p.0; rows_after = p.1; }
+    (λ (e : ◌≡◌ {A = ℕ} 40 0). omega arith) in record { value = c.refuse-then-rows-n.ensures ∙ p.0; rows_after = p.1 }
 
 pub fill_rows-requires : goal.fill_rows-requires
 fill_rows-requires c =
@@ -174,4 +174,4 @@ returns c =
     let z : c.u32_at.result ≡ number_at 4 xs (place_of v n + 15) = c.u32_at.ensures.0 ∙ ap (λ (k : ℕ). number_at 4 xs (k + 15)) p in
     let s : store_answer versions editions xs (length rows) ≡ 0 =
     table c.args.bytes.now c.version_of-v.result c.count_events-w.result.count (length c.args.rows.now) before passed ∙ table-0 v.limit (rows_of v xs n) n (length rows) (sym c.rows_sound.ensures ∙ c.if-not-rows_sound.false) c.if-rows-n.false in
-    let g = read-given versions editions xs rows v n s ver c.count_events-w.ensures.0 in record { value = (λ j. settings n (x j) (y j) (z j)) ∙ g.0; rows_after = c.fill_rows.ensures ∙ g.1; }
+    let g = read-given versions editions xs rows v n s ver c.count_events-w.ensures.0 in record { value = (λ j. settings n (x j) (y j) (z j)) ∙ g.0; rows_after = c.fill_rows.ensures ∙ g.1 }

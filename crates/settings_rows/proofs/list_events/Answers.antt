@@ -74,4 +74,4 @@ pub returns : goal.returns
 returns c =
     let a = c.args in
     let l = c.loop-i in
-    let e : l.i ≡ a.n = omega (arith, c.loop-i-test.false, l.invariant.3) in record { value = l.invariant.1 ∙ ap (λ (k : ℕ). all_marked (events_of (rows_of a.v a.bytes.now k))) e; ids_after = l.invariant.0 ∙ (λ j. identifiers (events_of (rows_of a.v a.bytes.now (e j))) ++ drop (e j) a.ids.now); }
+    let e : l.i ≡ a.n = omega (arith, c.loop-i-test.false, l.invariant.3) in record { value = l.invariant.1 ∙ ap (λ (k : ℕ). all_marked (events_of (rows_of a.v a.bytes.now k))) e; ids_after = l.invariant.0 ∙ (λ j. identifiers (events_of (rows_of a.v a.bytes.now (e j))) ++ drop (e j) a.ids.now) }

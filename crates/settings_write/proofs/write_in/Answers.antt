@@ -25,7 +25,7 @@ returns-then-not-sound c =
     let d = a.buffer.now in
     let p = write-refused a.v editions rows a.ring a.edition a.budget d 11
     (write-11 a.v editions rows a.ring a.edition a.budget (length d) (sym c.sound.ensures ∙ c.if-not-sound.true))
-    (λ (e : ◌≡◌ {A = ℕ} 11 0). omega arith) in record { value = c.told.ensures ∙ p.0; buffer_after = p.1; }
+    (λ (e : ◌≡◌ {A = ℕ} 11 0). omega arith) in record { value = c.told.ensures ∙ p.0; buffer_after = p.1 }
 
 pub returns-then-not-length_allowed : goal.returns-then-not-length_allowed
 returns-then-not-length_allowed c =
@@ -36,7 +36,7 @@ returns-then-not-length_allowed c =
     let p = write-refused a.v editions rows a.ring a.edition a.budget d 1
     (write-1 a.v editions rows a.ring a.edition a.budget (length d) sounds
     (sym c.length_allowed.ensures ∙ c.if-not-length_allowed.true))
-    (λ (e : ◌≡◌ {A = ℕ} 1 0). omega arith) in record { value = c.told-then-not-length_allowed.ensures ∙ p.0; buffer_after = p.1; }
+    (λ (e : ◌≡◌ {A = ℕ} 1 0). omega arith) in record { value = c.told-then-not-length_allowed.ensures ∙ p.0; buffer_after = p.1 }
 
 pub returns-then-not-allowed : goal.returns-then-not-allowed
 returns-then-not-allowed c =
@@ -48,7 +48,7 @@ returns-then-not-allowed c =
     let p = write-refused a.v editions rows a.ring a.edition a.budget d 2
     (write-2 a.v editions rows a.ring a.edition a.budget (length d) sounds ringed
     (sym c.allowed.ensures ∙ c.if-not-allowed.true))
-    (λ (e : ◌≡◌ {A = ℕ} 2 0). omega arith) in record { value = c.told-then-not-allowed.ensures ∙ p.0; buffer_after = p.1; }
+    (λ (e : ◌≡◌ {A = ℕ} 2 0). omega arith) in record { value = c.told-then-not-allowed.ensures ∙ p.0; buffer_after = p.1 }
 
 pub place_of-at-requires : goal.place_of-at-requires
 place_of-at-requires c =
@@ -70,7 +70,7 @@ returns-then-buffer-at c =
     let d = a.buffer.now in
     let p = write-refused a.v editions rows a.ring a.edition a.budget d 40
     (write-40 a.v editions rows a.ring a.edition a.budget (length d) sounds ringed editioned (omega (arith, c.if-buffer-at.true, c.place_of-at.ensures)))
-    (λ (e : ◌≡◌ {A = ℕ} 40 0). omega arith) in record { value = c.told-then-buffer-at.ensures ∙ p.0; buffer_after = p.1; }
+    (λ (e : ◌≡◌ {A = ℕ} 40 0). omega arith) in record { value = c.told-then-buffer-at.ensures ∙ p.0; buffer_after = p.1 }
 
 pub overflow_add-at-2 : goal.overflow_add-at-2
 overflow_add-at-2 c =
@@ -87,6 +87,9 @@ returns c =
     let d = a.buffer.now in
     let p : c.place_of-at.result ≡ place_of a.v (length rows) = c.place_of-at.ensures in
     let m : place_of a.v (length rows) + 19 ≤ length d = omega (arith, c.if-buffer-at.false, p) in
-    let g = write-given a.v editions rows a.ring a.edition a.budget d (write-0 a.v editions rows a.ring a.edition a.budget (length d) sounds ringed editioned m) in record { value = c.told-2.ensures ∙ ap (λ (k : ℕ). stored 0 (k + 19)) p ∙ g.0; buffer_after = store-put a.v d _ _ _ rows c.place_of-at.result a.ring a.edition a.budget p m
+    let g = write-given a.v editions rows a.ring a.edition a.budget d (write-0 a.v editions rows a.ring a.edition a.budget (length d) sounds ringed editioned m) in record {
+      value = c.told-2.ensures ∙ ap (λ (k : ℕ). stored 0 (k + 19)) p ∙ g.0;
+      buffer_after = store-put a.v d _ _ _ rows c.place_of-at.result a.ring a.edition a.budget p m
           (c.put_entry.ensures ∙ ap (λ (b : List ℕ). put d 0 (entry_bytes 1 b)) c.le16-shown.ensures) c.put_rows.ensures c.put_last.ensures
-          ∙ g.1; }
+          ∙ g.1;
+    }
