@@ -140,6 +140,7 @@ join_archives() {
   (mkdir "$work/joined" && cd "$work/joined" && for crate in $exports; do ar x "../archives/lib$crate.a"; done &&
     ar rcD ../libollskuvan.a $(for crate in ollskuvan_c $exports; do ar t "../archives/lib$crate.a"; done | awk '!seen[$0]++')) >"$work/said" 2>&1 ||
     { cat "$work/said" >&2; exit 1; }
+  nm=nm check_names x86_64-linux-gnu "$work/libollskuvan.a"
   mkdir -p $archives
   mv "$work/libollskuvan.a" $archives/libollskuvan.a
 }
