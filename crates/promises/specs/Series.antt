@@ -151,8 +151,8 @@ each-premise = (examples.every-case, examples.every-case-before, examples.every-
 
 -- "the same .. table, edition" and "each starting at the last one's tail": two drains under two judges, and two from one tail, that ended with 0
 pub one-judge-one-way :
-    (examples.agree examples.mixed (drain_at examples.known examples.judge 0 (examples.step examples.ring-4 16 9 64)) ≡ false)
-    × (examples.agree examples.again (drain_at examples.known examples.judge 0 (examples.step examples.ring-4 16 9 64)) ≡ false)
+    (examples.agree examples.mixed (drain_at examples.known examples.judge 0 (examples.step examples.ring_4 16 9 64)) ≡ false)
+    × (examples.agree examples.again (drain_at examples.known examples.judge 0 (examples.step examples.ring_4 16 9 64)) ≡ false)
 one-judge-one-way = ((examples.other-judge).1, (examples.other-tail).1)
 
 -- with the record's length as the judge's answer, one drain gives what the seven gave

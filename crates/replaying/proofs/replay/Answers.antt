@@ -32,7 +32,7 @@ returns-then-refused-ne0 c =
     let a = c.args in
     let z =
     call-refused (asked_events a.limit editions a.e (events_of a.rows.now)) (judge_events (known editions a.e) (events_of a.rows.now)) a.trace.now a.count
-    a.rooms.now a.journal.now c.ranges.count.fits c.call_refusal-refused.result (rows_are c.before.before.before) c.if-refused-ne0.true in let old : _ × _ × _ = (c.begin.ensures ∙ z.0, z.1) in record { value = old.0; rooms_after = old.1.0; journal_after = old.1.1; }
+    a.rooms.now a.journal.now c.ranges.count.fits c.call_refusal-refused.result (rows_are c.before.before.before) c.if-refused-ne0.true in record { value = c.begin.ensures ∙ z.0; rooms_after = z.1.0; journal_after = z.1.1; }
 
 pub play-requires : goal.play-requires
 play-requires c =
