@@ -1,21 +1,22 @@
 -- M-113, "Drains cut anywhere", over any judge and whatever the rows ask beside the ring: one attribute set or a table of events. Assumes nothing.
 use Rattle.std.specs.Prelude.{◌≡◌, refl, List, [], ◌∷◌, ◌++◌, true, ℕ, suc, ◌+◌, ◌-◌, ◌*◌, ◌%◌, ◌^◌, ◌<◌, ◌≤◌, length, take, drop}
-use Rattle.std.proofs.Common.{sym, ap, ◌∙◌, subst, append-nil, mod-lt, arith, length-append, length-drop}
+use Rattle.std.proofs.Common.{sym, ap, ◌∙◌, append-nil, mod-lt, arith, length-drop}
 use Rattle.std.proofs.Math.Seq.{take-append_seam}
 use Rattle.meaning.specs.declared.Frame.{Frame}
 use Rattle.meaning.specs.Editions.{is_in}
 use Rattle.meaning.specs.Ring.{Asked, stop_at, frame}
 use Rattle.meaning.specs.Drain.{State, End, start, frame_at}
 use Rattle.laws.specs.Rings.{frame-stop, scratch-length}
-use Rattle.runs.specs.Cutting.{Cut, Cuts, begin, halt, entries, Chained}
-use Rattle.runs.proofs.Runs.{cut-stop, entries-append}
+use Rattle.runs.specs.Cutting.{Cuts, begin, halt, entries}
+use Rattle.runs.proofs.Runs.{cut-stop}
 use Rattle.runs.proofs.Forward.{frame-paid}
 use Rattle.runs.proofs.Enough.{run_ends}
 use Rattle.series.specs.Series.{Step, Given, drain_at, entries_of, from, series, series_to, reach, Steady, one_drain, Same, GoesOn}
 use Rattle.series.proofs.Goings.{reach-most}
 use Rattle.series.proofs.Stops.{lasting, stop-eight, stop-again, nothing-again, staying, stop-later}
-use Rattle.series.proofs.Chains.{step_cuts, drain-reads, chain-cuts}
+use Rattle.series.proofs.Chains.{step_cuts, drain-reads}
 use Rattle.series.proofs.Steps.{Along, along-step, along-series, along-from, along-to, bytes-later}
+use Rattle.series.proofs.GoesOn.{along-goes-on}
 
 -- a drain that stops at once
 pub at_once : (asked : Asked) (judge : List ℕ → ℕ) (tail : ℕ) (s : Step) (k : ℕ)
@@ -56,31 +57,6 @@ module _ (asked : Asked) (judge : List ℕ → ℕ) (tail : ℕ) (tl : tail < 2 
   abbrev one : ℕ → List ℕ → List ℕ → End
   one budget journal scratch = drain_at asked judge tail (one_drain z budget journal scratch)
 
-  -- the one drain takes what the series took, and goes on from there
-  along-goes-on : (eight : z.head % 8 ≡ 0) (g : Given) (far : ℕ) → Along asked tail tl z eight judge g far
-      → (budget : ℕ) (journal scratch journal' scratch' : List ℕ) → length scratch ≡ length z.scratch → length scratch' ≡ length z.scratch
-      → g.taken ≤ budget → 16 * g.taken + length journal' ≡ length journal
-      → GoesOn g (one budget journal scratch) (drain_at asked judge g.tail (one_drain z (budget - g.taken) journal' scratch'))
-  along-goes-on eight g far a budget journal scratch journal' scratch' s s' b j =
-      let d = drain-reads asked judge tail (one_drain z budget journal scratch) in
-      let v = drain-reads asked judge g.tail (one_drain z (budget - g.taken) journal' scratch') in
-      let cs : List Cut = a.records in
-      let ds : List Cut = (step_cuts asked g.tail (one_drain z (budget - g.taken) journal' scratch')).records in
-      let e : (tail + 0) % 2 ^ 64 ≡ tail = omega arith in
-      let k = a.taken in
-      let t = chain-cuts asked z.ring z.head (length z.scratch) cs g.tail (begin tail (length journal) scratch) (begin g.tail (length journal') scratch')
-      budget (budget - g.taken) (subst (λ (x : ℕ). Chained x cs g.tail) e a.way.tails) a.way.links refl s s' (omega arith) (omega arith) in
-      record {
-        taken = omega (arith, d.taken, v.taken, ap (λ (x : List Cut). length x) t.records, length-append cs ds);
-        entries = d.entries-are
-            ∙ ap (entries judge) t.records
-            ∙ entries-append judge cs ds
-            ∙ ap (λ (x : List ℕ). x ++ entries judge ds) (sym a.entries-are)
-            ∙ ap (λ (x : List ℕ). g.entries ++ x) (sym v.entries-are);
-        tail = d.tail ∙ t.tail ∙ sym v.tail;
-        stop = d.stop ∙ t.stop ∙ sym v.stop;
-      }
-
   -- where the one drain, come so far, stops as the series did, it gave what the series gave
   same_end : (eight : z.head % 8 ≡ 0) (g : Given) (far : ℕ) → Along asked tail tl z eight judge g far
       → (budget : ℕ) (journal scratch : List ℕ) → length scratch ≡ length z.scratch → g.taken ≤ budget → 16 * g.taken ≤ length journal
@@ -88,7 +64,7 @@ module _ (asked : Asked) (judge : List ℕ → ℕ) (tail : ℕ) (tl : tail < 2 
       → Same g (one budget journal scratch)
   same_end eight g far a budget journal scratch s b j f =
       let l : length (drop (16 * g.taken) journal) ≡ length journal - 16 * g.taken = length-drop (16 * g.taken) journal in
-      let w = along-goes-on eight g far a budget journal scratch (drop (16 * g.taken) journal) scratch s s b (omega arith) in
+      let w = along-goes-on asked judge tail tl z eight g far a budget journal scratch (drop (16 * g.taken) journal) scratch s s b (omega arith) in
       let q = at_once asked judge g.tail (one_drain z (budget - g.taken) (drop (16 * g.taken) journal) scratch) g.stop
       (ap (λ (x : ℕ). frame asked z.ring z.head g.tail (budget - g.taken) x (length scratch)) l
       ∙ ap (frame asked z.ring z.head g.tail (budget - g.taken) (length journal - 16 * g.taken)) s
@@ -109,7 +85,7 @@ module _ (asked : Asked) (judge : List ℕ → ℕ) (tail : ℕ) (tl : tail < 2 
       → GoesOn (series asked judge (from tail) ss) (one budget journal scratch)
       (drain_at asked judge (series asked judge (from tail) ss).tail (one_drain z (budget - (series asked judge (from tail) ss).taken) journal' scratch'))
   agrees-before ss steady eight =
-      along-goes-on eight (series asked judge (from tail) ss) (reach tail z)
+      along-goes-on asked judge tail tl z eight (series asked judge (from tail) ss) (reach tail z)
       (along-series asked tail tl z eight judge ss (from tail) 0 (along-from asked tail tl z eight judge) steady)
 
   -- the entries themselves: the one drain's begin with the series'

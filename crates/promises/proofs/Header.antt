@@ -33,15 +33,15 @@ use Rattle.laws.specs.Rows.{or-false, every, in-more, gives, Passed, passed-by, 
 use Rattle.laws.proofs.Framing.{header-whole}
 use Rattle.editions.specs.Numbers.{record_numbers, check_numbers, record_check_numbers, stop_numbers, table_stop_numbers, walk_numbers, table_walk_numbers, event_numbers, write_numbers, name_numbers}
 use Rattle.editions.proofs.InTable.{not_in}
-use Rattle.promises.specs.Demand1.{check-numbers, read-numbers, write-numbers, one-stop-numbers, one-numbers, drain-stop-numbers, drain-entry-numbers}
-use Rattle.promises.specs.Backward.{walk-numbers, walk-entry-numbers, walk-events-numbers, walk-events-entry-numbers}
-use Rattle.promises.specs.Lent.{read_numbers, lent-numbers}
-use Rattle.promises.specs.Names.{name-numbers}
-use Rattle.promises.specs.Events.{event-numbers, drain-events-numbers, one-events-stop-numbers}
-use Rattle.promises.specs.Inspected.{event_check_numbers, record-check-events-in, read-events-in}
-use Rattle.promises.specs.Settings.{read-answers, write-answers}
-use Rattle.promises.specs.Called.{one_stop_numbers, table_one_stop_numbers, told-stops, told-numbers, event-told-stops, event-told-numbers}
-use Rattle.promises.specs.Answers.{tail_numbers, replay_numbers, salvage_numbers, drain-events-answers, words-answers, publish-answers, compare-stops, replay-answers, replay-journal-answers, salvage-answers}
+use Rattle.promises.proofs.Demand1.{check-numbers, read-numbers, write-numbers, one-stop-numbers, one-numbers, drain-stop-numbers, drain-entry-numbers}
+use Rattle.promises.proofs.Backward.{walk-numbers, walk-entry-numbers, walk-events-numbers, walk-events-entry-numbers}
+use Rattle.promises.proofs.Lent.{read_numbers, lent-numbers}
+use Rattle.promises.proofs.Names.{name-numbers}
+use Rattle.promises.proofs.Events.{event-numbers, drain-events-numbers, one-events-stop-numbers}
+use Rattle.promises.proofs.Inspected.{event_check_numbers, record-check-events-in, read-events-in}
+use Rattle.promises.proofs.Settings.{read-answers, write-answers}
+use Rattle.promises.proofs.Called.{one_stop_numbers, table_one_stop_numbers, told-stops, told-numbers, event-told-stops, event-told-numbers}
+use Rattle.promises.proofs.Answers.{tail_numbers, replay_numbers, salvage_numbers, drain-events-answers, words-answers, publish-answers, compare-stops, replay-answers, replay-journal-answers, salvage-answers}
 
 -- ---- "Once 1 and 5 pass, the eight header bytes can't cross the end": they lie inside a ring of n bytes, whatever the other rows say
 

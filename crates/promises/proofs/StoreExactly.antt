@@ -10,8 +10,8 @@ use Rattle.settings.specs.Reading.{read_store}
 use Rattle.settings.specs.Writing.{writes, store_bytes, write_rows, write_answer, write_store}
 use Rattle.settings.proofs.Turns.{Words}
 use Rattle.settings.proofs.Promises as store
-use Rattle.promises.specs.Checked.{foremost, first-exactly}
-use Rattle.promises.specs.Exactly.{numbers_of}
+use Rattle.promises.proofs.Checked.{foremost, first-exactly}
+use Rattle.promises.proofs.Exactly.{numbers_of}
 
 -- ---- any rows that have no number 0: none holds exactly when the answer is 0
 

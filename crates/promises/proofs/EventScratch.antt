@@ -20,7 +20,7 @@ use Rattle.runs.specs.Scratches.{scratch-whole, scratch-crosses, put_holds, show
 use Rattle.editions.specs.Numbers.{event_numbers}
 use Rattle.editions.proofs.EventRecord.{event-in}
 use Rattle.editions.proofs.EventDrains.{drain-events-counted}
-use Rattle.promises.specs.Scratch.{going-room, lies_whole, drain-all-whole, drain-copied}
+use Rattle.promises.proofs.Scratch.{going-room, lies_whole, drain-all-whole, drain-copied}
 
 -- ---- the drain
 module _ (limit e : ℕ) (es : List Event) (ring : List ℕ) (head tail budget : ℕ) (journal scratch : List ℕ) (hd : head < 2 ^ 64) where

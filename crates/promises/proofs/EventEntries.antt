@@ -44,13 +44,13 @@ use Rattle.replay.specs.declared.Replayed.{Replayed}
 use Rattle.replay.specs.Replay.{Happened, went_in, was_dropped, drained, Bench, bench, records_in, records_out, free, goes_in, goes_by, offer, drain_of, bench_cuts, drains_off, body_of, is_offer, fault_at, effect, Played, played, play, before, half, of_store, replay_told, replay_events}
 use Rattle.replay.specs.Drains.{bytes_of}
 use Rattle.replay.proofs.Along.{in-append, no-fault}
-use Rattle.promises.specs.Checked.{record_rows, judge-rows, foremost, first-exactly, lead, hit, other}
-use Rattle.promises.specs.Inspected.{before-20, before-21, check-events-44}
-use Rattle.promises.specs.EventReads.{framed-asked}
-use Rattle.promises.specs.Events.{drain-events-counts, drain-events-entry}
-use Rattle.promises.specs.EventDrains.{drain-events-stop-leaves}
-use Rattle.promises.specs.Replay.{refused-told, after-all, every-point, one-journal, asked-passed}
-use Rattle.promises.specs.Backward.{walk-stop-leaves, walk-events-promised}
+use Rattle.promises.proofs.Checked.{record_rows, judge-rows, foremost, first-exactly, lead, hit, other}
+use Rattle.promises.proofs.Inspected.{before-20, before-21, check-events-44}
+use Rattle.promises.proofs.EventReads.{framed-asked}
+use Rattle.promises.proofs.Events.{drain-events-counts, drain-events-entry}
+use Rattle.promises.proofs.EventDrains.{drain-events-stop-leaves}
+use Rattle.promises.proofs.Replay.{refused-told, after-all, every-point, one-journal, asked-passed}
+use Rattle.promises.proofs.Backward.{walk-stop-leaves, walk-events-promised}
 
 -- ---- the rows in the order checked
 

@@ -37,10 +37,10 @@ use Rattle.editions.proofs.InTable.{judge-in}
 use Rattle.editions.proofs.OneRecord.{check-framed}
 use Rattle.editions.proofs.Stops.{one-frame}
 use Rattle.editions.proofs.EventRecord.{event-in}
-use Rattle.promises.specs.Lent.{lent-refused, lent-accepted}
-use Rattle.promises.specs.Exported.{read-accepted, read-accepts, read-means, writes_again}
-use Rattle.promises.specs.Inspected.{told-found, same_number, told-most, read-26, words-unchanged}
-use Rattle.promises.specs.EventReads.{framed-asked, read_alike, read-events-means, read-events-rest}
+use Rattle.promises.proofs.Lent.{lent-refused, lent-accepted}
+use Rattle.promises.proofs.Exported.{read-accepted, read-accepts, read-means, writes_again}
+use Rattle.promises.proofs.Inspected.{told-found, same_number, told-most, read-26, words-unchanged}
+use Rattle.promises.proofs.EventReads.{framed-asked, read_alike, read-events-means, read-events-rest}
 
 -- the slice that holds the record, the scratch where in_scratch says so and else the ring; its part begins at place and has size bytes
 abbrev pub holder : List ℕ → List ℕ → OneTold → List ℕ

@@ -11,9 +11,9 @@ use Rattle.laws.specs.Rows.{Passed, first-in}
 use Rattle.readers.specs.declared.Published.{Published}
 use Rattle.readers.specs.Readers.{readers_at, tail_rows, tail_answer, further_tail, published}
 use Rattle.readers.proofs.Laws.{published-first, published-second, published-tail, published-zero, no-tail}
-use Rattle.promises.specs.Checked.{foremost}
-use Rattle.promises.specs.Exactly.{numbers_of}
-use Rattle.promises.specs.StoreExactly.{told-exactly, told-zero-exactly}
+use Rattle.promises.proofs.Checked.{foremost}
+use Rattle.promises.proofs.Exactly.{numbers_of}
+use Rattle.promises.proofs.StoreExactly.{told-exactly, told-zero-exactly}
 
 -- ---- one reader's tail
 module _ (n head tail : ℕ) where

@@ -27,8 +27,8 @@ use Rattle.laws.specs.Rings.{stop_rows, frame-stop, frame-reason}
 use Rattle.editions.proofs.Drains.{drain-counted, drain-cutting, drain-entry, drain_rest, drain-checked}
 use Rattle.editions.proofs.Demand3.{answer-in}
 use Rattle.editions.proofs.Stops.{drain-stop, drain-go, drain-in, one-stop, one-stop-tail, one-taken, one-taken-tail, one-stop-in, one_in, one-refused}
-use Rattle.promises.specs.AnyDrain.{ended-leaves, rests-there, stop-0, stop-8, stop-9}
-use Rattle.promises.specs.Scratch.{going-room, lies_whole, drain-all-whole, drain-copied}
+use Rattle.promises.proofs.AnyDrain.{ended-leaves, rests-there, stop-0, stop-8, stop-9}
+use Rattle.promises.proofs.Scratch.{going-room, lies_whole, drain-all-whole, drain-copied}
 
 -- ---- "Bad input is refused by the numbers in document 01": record check, the reader of a record's bytes, the writer
 

@@ -33,8 +33,8 @@ use Rattle.editions.proofs.EventDrains.{one-event-alike}
 use Rattle.editions.specs.EventPromise.{EventWords}
 use Rattle.editions.proofs.EventRecord.{event-in, event-fair}
 use Rattle.event_laws.specs.Match.{matched-has}
-use Rattle.promises.specs.Demand3.{last-fair, known_of}
-use Rattle.promises.specs.Checked.{record_rows, foremost, first-exactly, judge-rows}
+use Rattle.promises.proofs.Demand3.{last-fair, known_of}
+use Rattle.promises.proofs.Checked.{record_rows, foremost, first-exactly, judge-rows}
 
 -- ---- the number inspected, of a record that is looked at
 

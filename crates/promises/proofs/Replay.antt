@@ -21,7 +21,7 @@ use Rattle.runs.proofs.Forward.{Counted, run-counted, frame-roomy}
 use Rattle.entries.specs.declared.Entry.{Entry}
 use Rattle.settings.specs.Versions.{versions}
 use Rattle.settings.specs.Reading.{is_event_of, fits}
-use Rattle.promises.specs.Scratch.{lies_whole, drain-all-whole, drain-copied, put_holds}
+use Rattle.promises.proofs.Scratch.{lies_whole, drain-all-whole, drain-copied, put_holds}
 use Rattle.replay.specs.Replay.{Bench, bench, sum, records_in, records_out, held, put_round, free, goes_in, goes_by, offer, journal_left, drain_of, bench_cuts, drains_off, fault_at, Played, played, play, before, replay, half, of_store, standing, replay_told, rooms_of, replay_events}
 use Rattle.replay.specs.Drains.{bytes_of}
 use Rattle.replay.proofs.Along.{BenchHolds, holds-start, holds-play}

@@ -29,7 +29,7 @@ use Rattle.compare.proofs.Pairs.{same_id}
 use Rattle.compare.proofs.Sides.{framed-side, side-whole}
 use Rattle.compare.proofs.Facts.{flag-of, ignored-alike}
 use Rattle.comparing.specs.Table.{left_side, right_side, event-sound}
-use Rattle.promises.specs.Compared.{alike-all-equal}
+use Rattle.promises.proofs.Compared.{alike-all-equal}
 
 -- ---- one record
 

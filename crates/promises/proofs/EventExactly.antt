@@ -29,11 +29,11 @@ use Rattle.event_laws.specs.Match.{matched-has}
 use Rattle.editions.specs.Numbers.{record_numbers}
 use Rattle.editions.proofs.InTable.{not_in, judge-in}
 use Rattle.editions.proofs.OneRecord.{check-framed}
-use Rattle.promises.specs.Checked.{answers-20}
-use Rattle.promises.specs.Demand2.{decoded-exactly}
-use Rattle.promises.specs.EventReads.{framed-asked}
-use Rattle.promises.specs.Inspected.{event_check_numbers, check-events-in, inspected-none, before-20, before-21, last-other}
-use Rattle.promises.specs.Called.{part, one-events-called, event-told-reads}
+use Rattle.promises.proofs.Checked.{answers-20}
+use Rattle.promises.proofs.Demand2.{decoded-exactly}
+use Rattle.promises.proofs.EventReads.{framed-asked}
+use Rattle.promises.proofs.Inspected.{event_check_numbers, check-events-in, inspected-none, before-20, before-21, last-other}
+use Rattle.promises.proofs.Called.{part, one-events-called, event-told-reads}
 
 -- ---- M-100: "A table is refused with 11 .. if its length is outside that range, if two identifiers are equal, or if an event lacks sample bit 16 or
 -- sample_id_all"; "1 to 32 of them", with M-112 to 1,024: the limit

@@ -24,7 +24,7 @@ use Rattle.laws.specs.Walks.{step-off, step-on, step-taken}
 use Rattle.laws.specs.Answers.{fields-zero, check-zero}
 use Rattle.laws.specs.Answer42.{check-of}
 use Rattle.laws.specs.Whole.{nameless-clean}
-use Rattle.promises.specs.Demand2.{check-flagged, check-44}
+use Rattle.promises.proofs.Demand2.{check-flagged, check-44}
 
 -- ---- the types
 

@@ -19,7 +19,7 @@ use Rattle.runs.proofs.Forward.{Kept, Shaped, frame-steps, frame-lies}
 use Rattle.compare.specs.declared.Compared.{Compared}
 use Rattle.compare.specs.Compared.{compared, pairs, scratch_then, event_reads, Side, side_of, side_cuts}
 use Rattle.comparing.specs.Table.{left_side, right_side}
-use Rattle.promises.specs.Scratch.{lies_whole, drain-all-whole, drain-copied, put_holds}
+use Rattle.promises.proofs.Scratch.{lies_whole, drain-all-whole, drain-copied, put_holds}
 
 module _ (asked : Asked) (ring : List ℕ) (head : ℕ) where
   -- of budget and journal room a frame asks whether there is a record's

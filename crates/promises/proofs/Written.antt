@@ -20,8 +20,8 @@ use Rattle.laws.specs.Bytes.{apart, and-true}
 use Rattle.laws.specs.Rows.{gives, before, Passed, stopped-reason, first-passed, first_stops}
 use Rattle.laws.specs.Answer42.{bytes_of, passes, accepted, buffer-holds, buffer-kept, flagged-43}
 use Rattle.editions.proofs.OneRecord.{first_else}
-use Rattle.promises.specs.Checked.{foremost, first-exactly}
-use Rattle.promises.specs.Exported.{few, few-buffer, write-accepted, holds-record}
+use Rattle.promises.proofs.Checked.{foremost, first-exactly}
+use Rattle.promises.proofs.Exported.{few, few-buffer, write-accepted, holds-record}
 
 -- ---- the buffer
 

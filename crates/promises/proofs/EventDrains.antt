@@ -13,9 +13,9 @@ use Rattle.meaning.specs.Events.{asked_events, judge_events, drain_events}
 use Rattle.laws.specs.Rings.{run-go, run-stop}
 use Rattle.runs.specs.Cutting.{cutting_by}
 use Rattle.runs.proofs.Forward.{Counted}
-use Rattle.promises.specs.AnyDrain.{ended-leaves, rests-there, stop-0, stop-8, stop-9}
-use Rattle.promises.specs.Events.{drain-events-counts}
-use Rattle.promises.specs.Header.{frame_with, crossing-never-answers}
+use Rattle.promises.proofs.AnyDrain.{ended-leaves, rests-there, stop-0, stop-8, stop-9}
+use Rattle.promises.proofs.Events.{drain-events-counts}
+use Rattle.promises.proofs.Header.{frame_with, crossing-never-answers}
 
 -- "a record refused for its body is passed over": one that is taken moves the tail by its size, whatever its answer is, and the drain goes on behind it
 -- with one less of the budget

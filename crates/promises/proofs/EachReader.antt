@@ -14,7 +14,7 @@ use Rattle.one.specs.Told.{one_told, one_words}
 use Rattle.event_one.specs.Told.{one_events_told, one_events_words}
 use Rattle.readers.specs.declared.Readers.{Readers}
 use Rattle.readers.specs.Turns.{Lent}
-use Rattle.promises.specs.Called.{part, WrittenAgain, told-means, told-writes-again, event-told-means, event-told-writes-again}
+use Rattle.promises.proofs.Called.{part, WrittenAgain, told-means, told-writes-again, event-told-means, event-told-writes-again}
 
 -- of a record and its words, under an edition and attributes: record check accepts it, the first 56 words mean its value, and it is written again
 pub record Demand2 (e : ℕ) (a : Attributes) (r words buffer : List ℕ) : Type 0 where

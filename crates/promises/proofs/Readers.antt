@@ -15,8 +15,8 @@ use Rattle.readers.specs.Readers.{readers_at, first_moved, second_moved, tail_an
 use Rattle.readers.proofs.Laws as laws
 use Rattle.readers.specs.Turns.{Lent, Turn, table-replaced, turns, first_alone, second_alone, first-as-alone, second-as-alone, both-see-it, one_set_drain, table_drain}
 use Rattle.readers.proofs.Turns.{first-by-itself, second-by-itself}
-use Rattle.promises.specs.Demand3.{older-drain}
-use Rattle.promises.specs.Events.{older-events}
+use Rattle.promises.proofs.Demand3.{older-drain}
+use Rattle.promises.proofs.Events.{older-events}
 
 -- ---- "The tail handed to the kernel is the one at the greater distance from head"
 module _ (n head : ℕ) (r : Readers) where

@@ -43,12 +43,12 @@ use Rattle.replay.proofs.Promises.{read-to-end}
 use Rattle.replay.specs.Replay.{Bench, bench, Played, played, records_out, entry_rows, fault_at, effect, play, before_rows, before, replay, half, of_store, replay_told, replay_events}
 use Rattle.salvage.specs.Salvage.{output, holes, changes, salvage_answer, table_unready, table_judge, salvage_told}
 use Rattle.salvage.proofs.Promises.{told-answer}
-use Rattle.promises.specs.Checked.{foremost, first-exactly}
-use Rattle.promises.specs.Demand1.{write-numbers}
-use Rattle.promises.specs.Events.{drain-events-entry}
-use Rattle.promises.specs.Called.{table_one_stop_numbers, table-one-frame-stops}
-use Rattle.promises.specs.Compared.{left-to-its-end, right-to-its-end}
-use Rattle.promises.specs.Replay.{refused-told, after-all, every-point, one-journal}
+use Rattle.promises.proofs.Checked.{foremost, first-exactly}
+use Rattle.promises.proofs.Demand1.{write-numbers}
+use Rattle.promises.proofs.Events.{drain-events-entry}
+use Rattle.promises.proofs.Called.{table_one_stop_numbers, table-one-frame-stops}
+use Rattle.promises.proofs.Compared.{left-to-its-end, right-to-its-end}
+use Rattle.promises.proofs.Replay.{refused-told, after-all, every-point, one-journal}
 
 -- ---- a drain with a table (`ollskuvan_drain_events`): the answers in its journal
 

@@ -31,7 +31,7 @@ use Rattle.editions.proofs.OneRecord.{check-framed}
 use Rattle.runs.proofs.Forward.{frame-going, going-framed}
 use Rattle.editions.proofs.Stops.{one-taken}
 use Rattle.runs.specs.Scratches.{put_holds}
-use Rattle.promises.specs.Demand1.{one-taken-moves, one-shows}
+use Rattle.promises.proofs.Demand1.{one-taken-moves, one-shows}
 
 -- the third of the first 56 words is the third word: the size
 third : (ws : List ℕ) → get_or (take 56 ws) 2 0 ≡ get_or ws 2 0

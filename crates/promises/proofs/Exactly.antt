@@ -27,7 +27,7 @@ use Rattle.editions.proofs.EventDrains.{drain-events-counted}
 use Rattle.backward.specs.Promise.{walk_cuts, Walks}
 use Rattle.backward.specs.Frames.{back_rows, back-rows, back-reason}
 use Rattle.backward.proofs.Walks.{walk-walks}
-use Rattle.promises.specs.Called.{Called, one-called, one-events-called}
+use Rattle.promises.proofs.Called.{Called, one-called, one-events-called}
 
 -- ---- any rows
 

@@ -28,7 +28,7 @@ use Rattle.runs.specs.Scratches.{distance_self}
 use Rattle.editions.proofs.InTable.{judge-small}
 use Rattle.editions.proofs.EventRecord.{event-small}
 use Rattle.editions.proofs.Demand3.{answer-in}
-use Rattle.promises.specs.Called.{part, Called, one-called, one-events-called, told-answers, event-told-answers}
+use Rattle.promises.proofs.Called.{part, Called, one-called, one-events-called, told-answers, event-told-answers}
 
 -- ---- a record of a drain, at its own tail
 

@@ -24,7 +24,7 @@ use Rattle.replay.specs.Replay.{Happened, went_in, was_dropped, drained, Bench, 
 use Rattle.replay.proofs.Along.{no-fault}
 use Rattle.replay.specs.Steps.{count_in, count_by, lent, offered}
 use Rattle.replay.proofs.Shows.{shows-offer}
-use Rattle.promises.specs.Replay.{after-all}
+use Rattle.promises.proofs.Replay.{after-all}
 
 -- ---- the trace
 

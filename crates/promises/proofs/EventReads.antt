@@ -29,7 +29,7 @@ use Rattle.laws.specs.Inspected.{asked-own, looked}
 use Rattle.runs.specs.Cutting.{framed}
 use Rattle.runs.specs.Scratches.{put_holds}
 use Rattle.event_laws.specs.Match.{matched-has}
-use Rattle.promises.specs.Inspected.{words-unchanged}
+use Rattle.promises.proofs.Inspected.{words-unchanged}
 
 -- the first refusal of three
 nested : (m n k : ℕ) → or_else m (or_else n k) ≡ or_else (or_else m n) k

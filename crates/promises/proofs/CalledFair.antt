@@ -27,10 +27,10 @@ use Rattle.editions.specs.Fairness.{rising, Words, depends_of, Fair}
 use Rattle.editions.specs.Promise.{one_outside}
 use Rattle.editions.proofs.OneRecord.{fair-free, editions-rise}
 use Rattle.editions.specs.EventPromise.{EventWords, one_events_outside}
-use Rattle.promises.specs.Inspected.{inspected-alike}
-use Rattle.promises.specs.EventReads.{framed-asked, read_alike}
-use Rattle.promises.specs.Demand3.{fair-read-into}
-use Rattle.promises.specs.Inspected.{read-events-fair, read-events-alike, read-events-unknown}
+use Rattle.promises.proofs.Inspected.{inspected-alike}
+use Rattle.promises.proofs.EventReads.{framed-asked, read_alike}
+use Rattle.promises.proofs.Demand3.{fair-read-into}
+use Rattle.promises.proofs.Inspected.{read-events-fair, read-events-alike, read-events-unknown}
 
 -- ---- what is promised of two answers and the words they leave
 pub record FairWords (words : List ℕ) (out : Bool) (answer₁ answer₂ : ℕ) (words₁ words₂ : List ℕ) : Type 0 where

@@ -9,9 +9,9 @@ use Rattle.meaning.specs.Editions.{editions}
 use Rattle.meaning.specs.Records.{record_check}
 use Rattle.meaning.specs.Events.{check_events, record_check_events, read_events}
 use Rattle.record.specs.Into.{read_into_answer}
-use Rattle.promises.specs.Header.{NoOthers, NoOthersBeside, no-others, no-others-beside}
-use Rattle.promises.specs.Inspected.{check-events-44}
-use Rattle.promises.specs.Recorded.{record-check-44, read-0}
+use Rattle.promises.proofs.Header.{NoOthers, NoOthersBeside, no-others, no-others-beside}
+use Rattle.promises.proofs.Inspected.{check-events-44}
+use Rattle.promises.proofs.Recorded.{record-check-44, read-0}
 
 -- "and nothing else": each stop and each answer of each other call
 pub nothing-else-44 : (e : ℕ) (a : Attributes) → NoOthers 44 e a

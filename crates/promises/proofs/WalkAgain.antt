@@ -33,7 +33,7 @@ use Rattle.backward.specs.Promise.{walk_cuts}
 use Rattle.backward.specs.Frames.{back-goes, back-roomy}
 use Rattle.backward.proofs.Walks.{BackStands, stands-first, stands_on, walk-walks}
 use Rattle.backward.proofs.Twin.{round_from, twin-there, twin-back}
-use Rattle.promises.specs.Reread.{Reread, entry-reread, event-entry-reread}
+use Rattle.promises.proofs.Reread.{Reread, entry-reread, event-entry-reread}
 
 -- ---- two ways of cutting, alike: the same records, and the same spot at the end
 abbrev pub Alike : Cuts → Cuts → Type 0
