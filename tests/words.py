@@ -53,7 +53,7 @@ def header():
 
 
 def spelled(word):
-    return re.sub(r"([A-Z])", lambda m: " " + m.group(1).lower(), word)
+    return word.replace("_", " ")
 
 
 def defined(numbers):
@@ -67,13 +67,13 @@ def defined(numbers):
             out += lists[token] if token in lists else [spelled(token)]
         return out
 
-    for name, body in re.findall(r"^(\w+Names) =(.*?)(?=\n\n|\Z)", source, re.M | re.S):
-        lists[name] = [names(line) for line in body.strip("\n").split("\n")] if name == "wordNames" \
+    for name, body in re.findall(r"^(\w+_names) =(.*?)(?=\n\n|\Z)", source, re.M | re.S):
+        lists[name] = [names(line) for line in body.strip("\n").split("\n")] if name == "word_names" \
             else [word for line in body.split("\n") for word in names(line)]
-    out = {("", k): name for k, name in enumerate(lists["headerNames"])}
-    out.update({("", TRAILER + k): name for k, name in enumerate(lists["trailerNames"])})
+    out = {("", k): name for k, name in enumerate(lists["header_names"])}
+    out.update({("", TRAILER + k): name for k, name in enumerate(lists["trailer_names"])})
     types = {number: name[5:] for name, number in numbers.items() if name.startswith("TYPE_")}
-    for number, row in enumerate(lists["wordNames"]):
+    for number, row in enumerate(lists["word_names"]):
         for k, name in enumerate(row):
             out[types[number], BODY + k] = name
     # in a SAMPLE the second id is that of the read values
