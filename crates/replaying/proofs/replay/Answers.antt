@@ -32,7 +32,7 @@ returns-then-refused-ne0 c =
     let a = c.args in
     let z =
     call-refused (asked_events a.limit editions a.e (events_of a.rows.now)) (judge_events (known editions a.e) (events_of a.rows.now)) a.trace.now a.count
-    a.rooms.now a.journal.now c.ranges.count.fits c.call_refusal-refused.result (rows_are c.before.before.before) c.if-refused-ne0.true in record { value = c.begin.ensures ∙ z.0; rooms_after = z.1.0; journal_after = z.1.1; }
+    a.rooms.now a.journal.now c.ranges.count.fits c.call_refusal-refused.result (rows_are c.before.before.before) c.if-refused-ne0.true in record { value = c.begin.ensures ∙ z.0; rooms_after = z.1.0; journal_after = z.1.1 }
 
 pub play-requires : goal.play-requires
 play-requires c =
@@ -40,7 +40,7 @@ play-requires c =
     let n = sym c.half_of-h.ensures in
     let z =
     call_passes (asked_events a.limit editions a.e (events_of a.rows.now)) (judge_events (known editions a.e) (events_of a.rows.now)) a.trace.now a.count
-    a.rooms.now a.journal.now c.ranges.count.fits (sym (rows_are c.before.before.before.before) ∙ c.if-refused-ne0.false) in record { h_value = subst (λ (k : ℕ). length_allowed k ≡ true) n z.0; rooms_len = z.1.0 ∙ ap (λ (k : ℕ). k + k) n; count_value = z.1.1; }
+    a.rooms.now a.journal.now c.ranges.count.fits (sym (rows_are c.before.before.before.before) ∙ c.if-refused-ne0.false) in record { h_value = subst (λ (k : ℕ). length_allowed k ≡ true) n z.0; rooms_len = z.1.0 ∙ ap (λ (k : ℕ). k + k) n; count_value = z.1.1 }
 
 pub returns : goal.returns
 returns c =
@@ -49,4 +49,4 @@ returns c =
     let z =
     ap (λ (k : ℕ). whole judge a.trace.now k a.count a.rooms.now a.journal.now) c.half_of-h.ensures
     ∙ call_played (asked_events a.limit editions a.e (events_of a.rows.now)) judge a.trace.now a.count
-    a.rooms.now a.journal.now c.ranges.count.fits (sym (rows_are c.before.before.before.before.before.before.before.before.before) ∙ c.if-refused-ne0.false) in record { value = c.play.ensures.value ∙ ap replay_told z; rooms_after = c.play.ensures.rooms_after ∙ ap rooms_of z; journal_after = c.play.ensures.journal_after ∙ ap (λ (p : Played). p.now.journal) z; }
+    a.rooms.now a.journal.now c.ranges.count.fits (sym (rows_are c.before.before.before.before.before.before.before.before.before) ∙ c.if-refused-ne0.false) in record { value = c.play.ensures.value ∙ ap replay_told z; rooms_after = c.play.ensures.rooms_after ∙ ap rooms_of z; journal_after = c.play.ensures.journal_after ∙ ap (λ (p : Played). p.now.journal) z }

@@ -9,7 +9,7 @@ use Rattle.rooms.proofs.drain_within.Goals as goal
 pub returns-then-not-f : goal.returns-then-not-f
 returns-then-not-f c =
     let e = together-end _ _ _ _ _ _ _ _ _ _ _ _ _ c.loop-taken.invariant _ c.next_frame-f.ensures (not-true _ c.if-not-f.true) in
-    record { value = sym (ap told e.0); journal_after = sym (ap (λ (x : End). x.state.journal) e.0); rooms_after = e.1; }
+    record { value = sym (ap told e.0); journal_after = sym (ap (λ (x : End). x.state.journal) e.0); rooms_after = e.1 }
 
 pub take_within-requires : goal.take_within-requires
 take_within-requires c =
@@ -17,7 +17,7 @@ take_within-requires c =
     let g = not-false c.next_frame-f.result.go c.if-not-f.false in
     let i = together-inside _ _ _ _ _ _ _ _ _ _ _ _ _ l _ c.next_frame-f.ensures g in
     let q = together-going _ _ _ _ _ _ _ _ _ _ _ _ _ l _ c.next_frame-f.ensures g in
-    record { go_value = g; place_le_h = i.0; size_le_h = i.1; le_size = q.size_low; rooms_len = l.long; }
+    record { go_value = g; place_le_h = i.0; size_le_h = i.1; le_size = q.size_low; rooms_len = l.long }
 
 pub overflow_add-bytes : goal.overflow_add-bytes
 overflow_add-bytes c =
