@@ -1,7 +1,7 @@
 -- The backward ring (M-109): demand 1 for the walk (its numbers, each for its own reason; what it counts, and what journal and scratch then hold), and demand 3,
 -- which "reads 'end at the same place' for this walk"; with one attribute set and with a table of events. Demand 2 is the record's: a walk judges by the
 -- drain's judge. That no tail moves is in what is told, which has none. Assumes nothing.
-use Rattle.std.specs.Prelude.{◌≡◌, refl, List, Bool, true, false, ℕ, ◌+◌, ◌-◌, ◌*◌, ◌^◌, ◌<◌, ◌≤◌, length, get_or, take, drop}
+use Rattle.std.specs.Prelude.{◌≡◌, refl, List, Bool, true, false, ℕ, ◌+◌, ◌-◌, ◌*◌, ◌^◌, ◌<◌, ◌≤◌, length, get_or}
 use Rattle.std.proofs.Common.{sym, ap, ◌∙◌, arith}
 use Rattle.meaning.specs.declared.Attributes.{Attributes}
 use Rattle.meaning.specs.declared.Drained.{Drained}
@@ -12,14 +12,12 @@ use Rattle.meaning.specs.Bytes.{number_at}
 use Rattle.meaning.specs.Editions.{editions, allowed, known, outside, is_in}
 use Rattle.meaning.specs.Records.{layout, judge, check}
 use Rattle.meaning.specs.Ring.{Asked, asked_of, asking}
-use Rattle.meaning.specs.Drain.{End, start, ended, entry_for, told, drain}
+use Rattle.meaning.specs.Drain.{End, start, ended, told, drain}
 use Rattle.meaning.specs.Events.{sound, asked_events, judge_events, event_depends, drain_events}
 use Rattle.meaning.specs.Backward.{back_frame, walk_by, walk_back, walk_events}
 use Rattle.laws.specs.Bytes.{apart}
-use Rattle.laws.specs.Rows.{gives}
-use Rattle.runs.specs.Cutting.{Cut, All, nothing_cut, record_of}
+use Rattle.runs.specs.Cutting.{Cut, nothing_cut, record_of}
 use Rattle.runs.proofs.Entries.{all-at}
-use Rattle.runs.proofs.Crossing.{lies_whole, OneCrosses}
 use Rattle.editions.specs.Fairness.{rising, Words, depends_of}
 use Rattle.editions.specs.Numbers.{record_numbers, event_numbers, walk_numbers, table_walk_numbers}
 use Rattle.editions.proofs.InTable.{judge-in, judge-small, not_in}
@@ -28,13 +26,15 @@ use Rattle.editions.specs.Promise.{EntryFair}
 use Rattle.editions.proofs.Demand3.{answer-in}
 use Rattle.editions.specs.EventPromise.{EventWords, asks_table}
 use Rattle.editions.proofs.EventRecord.{event-in, event-small}
-use Rattle.backward.specs.Promise.{walk_cuts, Walks, Ended, FairWalks}
-use Rattle.backward.specs.Frames.{back_rows, back-goes}
-use Rattle.backward.proofs.Walks.{walk-walks, walk-entry, walk-stop, table-walk-in, walk-in, walk-crosses-once, walk-scratch-kept, walk-scratch-copied}
+use Rattle.backward.specs.Promise.{walk_cuts, FairWalks}
+use Rattle.backward.specs.Frames.{back-goes}
+use Rattle.backward.proofs.Walks.{walk-walks, walk-entry, walk-stop, walk-crosses-once, walk-scratch-kept, walk-scratch-copied}
 use Rattle.backward.proofs.Reasons.{walk-reason, walk-ended}
 use Rattle.backward.proofs.Enough.{walk-eights, enough-budget, enough-journal, enough-scratch}
 use Rattle.backward.proofs.Twin.{round_from, walk-as-drain}
 use Rattle.backward.proofs.Demand3.{demand3-back, demand3-back-entry, demand3-walk-events, demand3-walk-events-entry}
+use Rattle.promises.specs.Backward.{Promised}
+use Rattle.promises.proofs.WalkNumbers.{walk-numbers, walk-events-numbers}
 
 -- ---- what is promised of a walk, under any judge and whatever the rows ask beside the ring
 module _ (asked : Asked) (judge : List ℕ → ℕ) (ring : List ℕ) (head budget : ℕ) (journal scratch : List ℕ) where
@@ -45,27 +45,7 @@ module _ (asked : Asked) (judge : List ℕ → ℕ) (ring : List ℕ) (head budg
   abbrev records : List Cut
   records = (walk_cuts asked ring head budget (length journal) scratch).records
 
-  pub record Promised : Type 0 where
-    -- records taken are entries written; bytes walked are the sum of the sizes, at most one ring length; where each record starts; the journal
-    pub counted : Walks asked judge ring head budget journal scratch (walk_cuts asked ring head budget (length journal) scratch) end
-    pub entry : (i : ℕ) → i < end.state.taken
-        → take 16 (drop (16 * i) end.state.journal) ≡ entry_for judge (get_or records i nothing_cut).record-bytes (get_or records i nothing_cut).tail
-    -- why it ended: a row with its number holds there; and what each of 0, 6, 13, 8, 9 and 3 says
-    pub reason : gives end.stop (back_rows asked ring head end.state.tail (budget - end.state.taken) (length journal - 16 * end.state.taken) (length scratch)) ≡ true
-    pub ended_so : Ended ring budget journal scratch end
-    -- the scratch: at most one record crosses the ring's end; it is what the scratch then begins with, the other bytes unchanged; where none does, all are
-    pub crosses-once : OneCrosses ring records
-    pub scratch-copied : (i : ℕ) → i < end.state.taken → lies_whole ring (get_or records i nothing_cut) ≡ false
-        → (take (length (get_or records i nothing_cut).record-bytes) end.state.scratch ≡ (get_or records i nothing_cut).record-bytes)
-        × (drop (length (get_or records i nothing_cut).record-bytes) end.state.scratch ≡ drop (length (get_or records i nothing_cut).record-bytes) scratch)
-    pub scratch-kept : All (λ (c : Cut). lies_whole ring c ≡ true) records → end.state.scratch ≡ scratch
-    -- what always suffices: one record for every 8 bytes of the ring, twice its length for the journal, its length for the scratch
-    pub eights : 8 * end.state.taken ≤ end.state.bytes
-    pub budget-enough : length ring ≤ 8 * budget → end.stop ≡ 8 → ⊥
-    pub journal-enough : 2 * length ring ≤ length journal → end.stop ≡ 9 → ⊥
-    pub scratch-enough : length ring ≤ length scratch → end.stop ≡ 3 → ⊥
-
-  pub walk-promised : head < 2 ^ 64 → Promised
+  pub walk-promised : head < 2 ^ 64 → Promised asked judge ring head budget journal scratch
   walk-promised hd =
       record {
         counted = walk-walks asked judge ring head budget journal scratch hd;
@@ -100,12 +80,8 @@ module _ (e : ℕ) (a : Attributes) (ring : List ℕ) (head budget : ℕ) (journ
   abbrev record-at : ℕ → Cut
   record-at i = get_or (walk_cuts (asked_of editions e) ring head budget (length journal) scratch).records i nothing_cut
 
-  -- "1, 2, 5 (head alone), .. 0, 6, 13, 8, 9, 3 ..; 4 and 7 don't occur"; without a table 11 does not either
-  pub walk-numbers : is_in walked.stop walk_numbers ≡ true
-  walk-numbers = walk-in (allowed editions e) (judge (layout (known editions e) a)) ring head budget journal scratch
-
   pub walk-others : (k : ℕ) → is_in k walk_numbers ≡ false → walked.stop ≡ k → ⊥
-  walk-others k out = not_in walk_numbers k walked.stop out walk-numbers
+  walk-others k out = not_in walk_numbers k walked.stop out (walk-numbers e a ring head budget journal scratch)
 
   pub walk-back-promised : head < 2 ^ 64 → Promised (asked_of editions e) (judge (layout (known editions e) a)) ring head budget journal scratch
   walk-back-promised = walk-promised (asked_of editions e) (judge (layout (known editions e) a)) ring head budget journal scratch
@@ -139,11 +115,8 @@ module _ (limit e : ℕ) (es : List Event) (ring : List ℕ) (head budget : ℕ)
   abbrev event_record_at : ℕ → Cut
   event_record_at i = get_or (walk_cuts (asked_events limit editions e es) ring head budget (length journal) scratch).records i nothing_cut
 
-  pub walk-events-numbers : is_in walked_events.stop table_walk_numbers ≡ true
-  walk-events-numbers = table-walk-in (asked_events limit editions e es) (judge_events (known editions e) es) ring head budget journal scratch
-
   pub walk-events-others : (k : ℕ) → is_in k table_walk_numbers ≡ false → walked_events.stop ≡ k → ⊥
-  walk-events-others k out = not_in table_walk_numbers k walked_events.stop out walk-events-numbers
+  walk-events-others k out = not_in table_walk_numbers k walked_events.stop out (walk-events-numbers limit e es ring head budget journal scratch)
 
   pub walk-events-promised : head < 2 ^ 64 → Promised (asked_events limit editions e es) (judge_events (known editions e) es) ring head budget journal scratch
   walk-events-promised = walk-promised (asked_events limit editions e es) (judge_events (known editions e) es) ring head budget journal scratch

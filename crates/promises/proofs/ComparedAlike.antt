@@ -30,6 +30,7 @@ use Rattle.compare.proofs.Sides.{framed-side, side-whole}
 use Rattle.compare.proofs.Facts.{flag-of, ignored-alike}
 use Rattle.comparing.specs.Table.{left_side, right_side, event-sound}
 use Rattle.promises.proofs.Compared.{alike-all-equal}
+use Rattle.promises.specs.ComparedAlike.{Cleaned, SameButIgnored}
 
 -- ---- one record
 
@@ -75,17 +76,6 @@ cleaned-identifier k a xs s h m o = by (eqb (kind_of xs) 9) refl
         ap top (sym p ∙ ap (λ (v : Value). drop 7 v.tail) d.2 ∙ q)
 
 -- ---- two records
-
--- accepted, each under the event that its identifier selects, the same but for the ignored bytes, with the same flag
-pub record Cleaned (R : Reads) (xs ys : List ℕ) : Type 0 where
-  pub left-accepted : R.judge xs ≡ 0
-  pub right-accepted : R.judge ys ≡ 0
-  pub bytes-alike : cleaned_record (layout_of R xs) xs ≡ cleaned_record (layout_of R ys) ys
-  pub flags-alike : flag_of (layout_of R xs) xs ≡ flag_of (layout_of R ys) ys
-
--- or the same bytes: "Records refused alike compare by their bytes"
-abbrev pub SameButIgnored : Reads → List ℕ → List ℕ → Type 0
-SameButIgnored R xs ys = Cleaned R xs ys ⊎ (xs ≡ ys)
 
 module _ (R : Reads) (good : SoundReads R) (xs ys : List ℕ) (wx : Whole xs) (wy : Whole ys) where
   abbrev lay : ℕ → Layout

@@ -34,6 +34,7 @@ use Rattle.promises.proofs.Demand2.{decoded-exactly}
 use Rattle.promises.proofs.EventReads.{framed-asked}
 use Rattle.promises.proofs.Inspected.{event_check_numbers, check-events-in, inspected-none, before-20, before-21, last-other}
 use Rattle.promises.proofs.Called.{part, one-events-called, event-told-reads}
+use Rattle.promises.specs.EventExactly.{Unlooked}
 
 -- ---- M-100: "A table is refused with 11 .. if its length is outside that range, if two identifiers are equal, or if an event lacks sample bit 16 or
 -- sample_id_all"; "1 to 32 of them", with M-112 to 1,024: the limit
@@ -138,10 +139,6 @@ module _ (limit e : ℕ) (es : List Event) (xs : List ℕ) where
 
 -- ---- M-112: "the number inspected is reported with the answer and equals .. 0 without a lookup". 20, what edition 1 answers to everything, and 27 come before
 -- the lookup. `ollskuvan_check_events`, `ollskuvan_read_events`, `ollskuvan_read_one_events`
-
--- what is told where nothing was looked up
-abbrev pub Unlooked : ℕ → ℕ → ℕ → Type 0
-Unlooked e answer inspected = (answer ≡ 20 → inspected ≡ 0) × (e ≡ 1 → inspected ≡ 0) × (answer ≡ 27 → inspected ≡ 0)
 
 module _ (limit e : ℕ) (es : List Event) (xs : List ℕ) where
   abbrev k : Known

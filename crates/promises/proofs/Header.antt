@@ -1,9 +1,8 @@
 -- M-104: "Refusal 10 never happens. Once 1 and 5 pass, the eight header bytes can't cross the end. Show that, drop the case and document 01's row, and
 -- never reuse the number." What no call but record check answers is said of any number outside a list: of 10 here, of 44 in Nobody44. Assumes nothing.
-use Rattle.std.specs.Prelude.{◌≡◌, refl, List, [], ◌∷◌, ◌++◌, true, false, not, ℕ, ◌+◌, ◌*◌, ◌%◌, ◌^◌, ◌<◌, ◌≤◌, ltb, eqb, length}
-use Rattle.std.proofs.Common.{ap, le-ltb, eqb-true}
+use Rattle.std.specs.Prelude.{◌≡◌, refl, List, [], ◌∷◌, ◌++◌, true, false, ℕ, ◌+◌, ◌*◌, ◌%◌, ◌^◌, ◌<◌, ltb, length}
+use Rattle.std.proofs.Common.{ap, le-ltb}
 use Rattle.std.proofs.Math.Path.{fun_ext}
-use Rattle.std.proofs.lemmas.Bool.{not-false}
 use Rattle.meaning.specs.declared.Attributes.{Attributes}
 use Rattle.meaning.specs.declared.Frame.{Frame}
 use Rattle.meaning.specs.Bytes.{number_at}
@@ -11,7 +10,7 @@ use Rattle.meaning.specs.Refusals.{Refusal, refusal}
 use Rattle.meaning.specs.Editions.{editions, known, is_in}
 use Rattle.meaning.specs.Records.{layout, judge, record_check}
 use Rattle.meaning.specs.Values.{read, write_answer}
-use Rattle.meaning.specs.Ring.{Asked, asked_of, length_allowed, distance, stopped, sized, call_rows, left_rows, frame, read_one}
+use Rattle.meaning.specs.Ring.{Asked, asked_of, distance, stopped, sized, call_rows, left_rows, frame, read_one}
 use Rattle.meaning.specs.Drain.{start, run, drain}
 use Rattle.meaning.specs.Names.{name_answer}
 use Rattle.meaning.specs.declared.Event.{Event}
@@ -29,12 +28,12 @@ use Rattle.salvage.specs.Salvage.{salvage_told}
 use Rattle.settings.specs.Versions.{versions}
 use Rattle.settings.specs.Reading.{read_store}
 use Rattle.settings.specs.Writing.{writes, write_store}
-use Rattle.laws.specs.Rows.{or-false, every, in-more, gives, Passed, passed-by, stopped-after}
-use Rattle.laws.proofs.Framing.{header-whole}
+use Rattle.laws.specs.Rows.{every, in-more, Passed, passed-by, stopped-after}
 use Rattle.editions.specs.Numbers.{record_numbers, check_numbers, record_check_numbers, stop_numbers, table_stop_numbers, walk_numbers, table_walk_numbers, event_numbers, write_numbers, name_numbers}
 use Rattle.editions.proofs.InTable.{not_in}
 use Rattle.promises.proofs.Demand1.{check-numbers, read-numbers, write-numbers, one-stop-numbers, one-numbers, drain-stop-numbers, drain-entry-numbers}
-use Rattle.promises.proofs.Backward.{walk-numbers, walk-entry-numbers, walk-events-numbers, walk-events-entry-numbers}
+use Rattle.promises.proofs.WalkNumbers.{walk-numbers, walk-events-numbers}
+use Rattle.promises.proofs.Backward.{walk-entry-numbers, walk-events-entry-numbers}
 use Rattle.promises.proofs.Lent.{read_numbers, lent-numbers}
 use Rattle.promises.proofs.Names.{name-numbers}
 use Rattle.promises.proofs.Events.{event-numbers, drain-events-numbers, one-events-stop-numbers}
@@ -42,14 +41,7 @@ use Rattle.promises.proofs.Inspected.{event_check_numbers, record-check-events-i
 use Rattle.promises.proofs.Settings.{read-answers, write-answers}
 use Rattle.promises.proofs.Called.{one_stop_numbers, table_one_stop_numbers, told-stops, told-numbers, event-told-stops, event-told-numbers}
 use Rattle.promises.proofs.Answers.{tail_numbers, replay_numbers, salvage_numbers, drain-events-answers, words-answers, publish-answers, compare-stops, replay-answers, replay-journal-answers, salvage-answers}
-
--- ---- "Once 1 and 5 pass, the eight header bytes can't cross the end": they lie inside a ring of n bytes, whatever the other rows say
-
-pub header-never-crosses : (asked : Asked) (n head tail : ℕ) → gives 1 (call_rows asked n head tail) ≡ false → gives 5 (call_rows asked n head tail) ≡ false
-    → tail % n + 8 ≤ n
-header-never-crosses asked n head tail one five =
-    let t = (or-false (not (eqb (head % 8) 0)) (not (eqb (tail % 8) 0)) five).1 in
-    header-whole tail n (not-false (length_allowed n) one) (eqb-true (tail % 8) 0 (not-false (eqb (tail % 8) 0) t))
+use Rattle.promises.proofs.HeaderInside.{header-never-crosses}
 
 -- ---- "drop the case and document 01's row": nothing is answered otherwise without it
 

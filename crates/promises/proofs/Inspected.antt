@@ -34,7 +34,8 @@ use Rattle.editions.specs.EventPromise.{EventWords}
 use Rattle.editions.proofs.EventRecord.{event-in, event-fair}
 use Rattle.event_laws.specs.Match.{matched-has}
 use Rattle.promises.proofs.Demand3.{last-fair, known_of}
-use Rattle.promises.proofs.Checked.{record_rows, foremost, first-exactly, judge-rows}
+use Rattle.promises.specs.Checked.{record_rows}
+use Rattle.promises.proofs.Checked.{foremost, first-exactly, judge-rows}
 
 -- ---- the number inspected, of a record that is looked at
 

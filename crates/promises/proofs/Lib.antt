@@ -6,7 +6,9 @@ pub mod Demand1
 pub mod Names
 pub mod FlagInWords
 pub mod Lent
+pub mod WalkNumbers
 pub mod Backward
+pub mod HeaderInside
 pub mod Header
 pub mod Demand2
 pub mod Exported
@@ -37,9 +39,11 @@ pub mod SalvageExamples
 pub mod Compared
 pub mod ComparedAlike
 pub mod CompareScratch
+pub mod WriterRows
 pub mod Written
 pub mod Recorded
 pub mod Nobody44
 pub mod EventDrains
+pub mod EventAnswers
 pub mod EventEntries
 pub mod EventExactly

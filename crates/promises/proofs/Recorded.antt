@@ -12,7 +12,8 @@ use Rattle.laws.specs.Answers.{or-zero, tested}
 use Rattle.laws.specs.Exactly.{LaidOut}
 use Rattle.editions.specs.Numbers.{check_numbers}
 use Rattle.editions.proofs.InTable.{not_in, check-in}
-use Rattle.promises.proofs.Checked.{check_rows, foremost, check-exactly}
+use Rattle.promises.specs.Checked.{check_rows}
+use Rattle.promises.proofs.Checked.{foremost, check-exactly}
 use Rattle.promises.proofs.Demand2.{decoded-exactly, check-clean, check-flagged, check-44}
 use Rattle.promises.proofs.Exported.{read-accepted, read-accepts}
 use Rattle.promises.proofs.Inspected.{last-own, last-other}

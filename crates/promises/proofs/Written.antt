@@ -10,18 +10,19 @@ use borrow.Author.Tests.{leb-true, not-false}
 use Rattle.std.proofs.Math.Dec.{leb}
 use Rattle.std.proofs.Math.ListN.{length}
 use Rattle.meaning.specs.declared.Attributes.{Attributes}
-use Rattle.meaning.specs.Refusals.{Refusal, refusal, first}
+use Rattle.meaning.specs.Refusals.{Refusal, first}
 use Rattle.meaning.specs.Editions.{editions, allowed, known, has_branches, strange_branch, unknowns, clashes, unreadable}
 use Rattle.meaning.specs.Records.{Layout, layout}
-use Rattle.meaning.specs.Values.{flagged, writable, write_by, write_answer, write_buffer}
+use Rattle.meaning.specs.Values.{flagged, write_by, write_answer, write_buffer}
 use Rattle.meaning.specs.Ring.{go_at, stop_at}
 use Rattle.writer.specs.Writer.{write_words_answer, write_words_buffer}
 use Rattle.laws.specs.Bytes.{apart, and-true}
 use Rattle.laws.specs.Rows.{gives, before, Passed, stopped-reason, first-passed, first_stops}
-use Rattle.laws.specs.Answer42.{bytes_of, passes, accepted, buffer-holds, buffer-kept, flagged-43}
+use Rattle.laws.specs.Answer42.{bytes_of, accepted, buffer-holds, buffer-kept, flagged-43}
 use Rattle.editions.proofs.OneRecord.{first_else}
 use Rattle.promises.proofs.Checked.{foremost, first-exactly}
 use Rattle.promises.proofs.Exported.{few, few-buffer, write-accepted, holds-record}
+use Rattle.promises.proofs.WriterRows.{write_rows, last-rows}
 
 -- ---- the buffer
 
@@ -98,41 +99,13 @@ module _ (e : ℕ) (a : Attributes) (src ws : List ℕ) (space : ℕ) where
   abbrev answer : ℕ
   answer = write_words_answer e a src ws space
 
-  -- past 20 to 25: 43, "a value with the flag set"; 41, "if a selected list or name .. passes the lent source's end"; 42, "no record decodes .. to the same
-  -- numbers and listed bytes", which is what `writable` decides: Exported, `exactly-42`; 40, "if the record doesn't fit the buffer"
-  abbrev pub last_rows : List Refusal
-  last_rows =
-      refusal (flagged lay vs) 43
-      ∷ refusal (passes editions e a src vs) 41
-      ∷ refusal (not (writable lay src vs)) 42
-      ∷ refusal (not (leb (length (bytes_of editions e a src vs)) space)) 40
-      ∷ []
-
-  abbrev pub write_rows : List Refusal
-  write_rows =
-      refusal (not (allowed editions e)) 2
-      ∷ refusal (not (leb 56 (length ws))) 42
-      ∷ (unknowns (known editions e) kind_word misc_word a ++ (clashes kind_word a ++ last_rows))
-
-  last-rows : cond (flagged lay vs) 43 (cond (passes editions e a src vs) 41 (cond (writable lay src vs) (cond (leb (length (bytes_of editions e a src vs)) space) 0 40) 42))
-      ≡ first last_rows 0
-  unfolding first
-  last-rows = by (flagged lay vs) (passes editions e a src vs) (writable lay src vs) (leb (length (bytes_of editions e a src vs)) space)
-    where
-      by : (f p w l : Bool) → ◌≡◌ {A = ℕ} (cond f 43 (cond p 41 (cond w (cond l 0 40) 42))) (cond f 43 (cond p 41 (cond (not w) 42 (cond (not l) 40 0))))
-      by true p w l = refl
-      by false true w l = refl
-      by false false true true = refl
-      by false false true false = refl
-      by false false false l = refl
-
   -- the answer is the number of the first row that holds, and 0 where none does
-  pub words-rows : answer ≡ first write_rows 0
+  pub words-rows : answer ≡ first (write_rows e a src ws space) 0
   unfolding write_words_answer write_answer write_by unreadable first layout
   words-rows =
       two (allowed editions e) (leb 56 (length ws)) _ _
       (first_else (unknowns (known editions e) kind_word misc_word a ++ clashes kind_word a) 0 _ refl
-      ∙ ap (first (unknowns (known editions e) kind_word misc_word a ++ clashes kind_word a)) last-rows)
+      ∙ ap (first (unknowns (known editions e) kind_word misc_word a ++ clashes kind_word a)) (last-rows e a src ws space))
     where
       two : (p q : Bool) (x y : ℕ) → x ≡ y → cond p (cond q (cond p x 2) 42) 2 ≡ cond (not p) 2 (cond (not q) 42 y)
       two false q x y h = refl
@@ -140,19 +113,19 @@ module _ (e : ℕ) (a : Attributes) (src ws : List ℕ) (space : ℕ) where
       two true true x y h = h
 
   -- so a number is given exactly when its row holds and no row before it does; 0 exactly when none holds
-  pub words-exactly : (k : ℕ) → 0 < k → (answer ≡ k → foremost k write_rows ≡ true) × (foremost k write_rows ≡ true → answer ≡ k)
+  pub words-exactly : (k : ℕ) → 0 < k → (answer ≡ k → foremost k (write_rows e a src ws space) ≡ true) × (foremost k (write_rows e a src ws space) ≡ true → answer ≡ k)
   words-exactly k p =
-      let x = first-exactly k p write_rows in
+      let x = first-exactly k p (write_rows e a src ws space) in
       (λ h. x.0 (sym words-rows ∙ h), λ h. words-rows ∙ x.1 h)
 
-  pub words-0 : (answer ≡ 0 → Passed write_rows) × (Passed write_rows → answer ≡ 0)
-  words-0 = (λ h. first-passed write_rows refl (sym words-rows ∙ h), λ p. words-rows ∙ none_first write_rows p)
+  pub words-0 : (answer ≡ 0 → Passed (write_rows e a src ws space)) × (Passed (write_rows e a src ws space) → answer ≡ 0)
+  words-0 = (λ h. first-passed (write_rows e a src ws space) refl (sym words-rows ∙ h), λ p. words-rows ∙ none_first (write_rows e a src ws space) p)
 
   -- and in two parts, by the number: a row that has it holds, and none before the first that has it
-  pub words-reason : (k : ℕ) → 0 < k → answer ≡ k → (gives k write_rows ≡ true) × Passed (before k write_rows)
+  pub words-reason : (k : ℕ) → 0 < k → answer ≡ k → (gives k (write_rows e a src ws space) ≡ true) × Passed (before k (write_rows e a src ws space))
   words-reason k p h =
-      let q : first write_rows 0 ≡ k = sym words-rows ∙ h in
-      stopped-reason write_rows (go_at 0 0) refl k (first_stops write_rows [] (go_at 0 0) (λ z. omega (arith, p, q, z)) ∙ ap stop_at q)
+      let q : first (write_rows e a src ws space) 0 ≡ k = sym words-rows ∙ h in
+      stopped-reason (write_rows e a src ws space) (go_at 0 0) refl k (first_stops (write_rows e a src ws space) [] (go_at 0 0) (λ z. omega (arith, p, q, z)) ∙ ap stop_at q)
 
   -- M-102: "any record but a SAMPLE with sample bit 11 never is" 25, "by reader and writer": whatever the other words hold
   pub words-never-25 : has_branches (get_or ws 0 0) a ≡ false → answer ≡ 25 → ⊥

@@ -1,0 +1,4 @@
+pub mod Checked
+pub mod Backward
+pub mod ComparedAlike
+pub mod EventExactly

@@ -1,4 +1,4 @@
-// The promises of version four, as theorems in specs/. There is no code here.
+// The promises of version four, as theorems in proofs/. There is no code here.
 #![tactic(auto)]
 
 pub fn nothing() {}
