@@ -1,7 +1,7 @@
 #!/usr/bin/env bash
 # Public functions without a theorem of uniqueness: none. A function is public if another crate can call it: `pub fn` in a crate's lib.rt, or in a
 # module that lib.rt declares `pub mod`; none can call a static library. For its result, and for each slice that it is lent for writing, there must be a theorem in
-# crates/uniqueness/specs/Unique.antt over its own contract (`ALIAS.PATH.Reads.Learnt`, or `ALIAS.PATH.ended` for a method that is proved by a walk).
+# crates/uniqueness/specs/Unique.antt over its own contract (`ALIAS.PATH.Reads.Learnt`).
 # What is left open stands in docs/UNIQUENESS.md, between two marks there, a name to a line, and between two others what has a theorem over a part of its
 # result and not over the whole; a name there that has its theorems, or that no crate has, is wrong too.
 set -u
@@ -33,7 +33,7 @@ functions() { # FILE PREFIX
 theorems() { # CALL
   awk -v call=" $1." '
     function theorem() {
-      if (!index(text, call "Reads.Learnt") && !index(text, call "ended")) return
+      if (!index(text, call "Reads.Learnt")) return
       all++
       if (text ~ /: Result / || text ~ /\(λ κs x s\. s[.0-9]*\.now\)/ || text ~ /\(λ κs x\. x\)/) whole++
     }

@@ -7,14 +7,7 @@ use Rattle.std.specs.Prelude.{◌≡◌, refl, Bool, true, false, cond, List, []
 use Rattle.std.proofs.Common.{sym, ap, ◌∙◌, add-zero}
 use Rattle.std.proofs.Math.Seq.{slice}
 use contract.Lifetimes.{Lfts}
-use base.Logic.{SProp, ent}
-use contract.Monad.{Fun, fact, fact_i, fact_use}
-use denote.Triple.Clauses.{Ended, Clauses, AtExit}
-use denote.Triple.Entry.{Args, Res}
-use types.Logic.{Logic}
-use seplogic.Ra.Ura.{Ura}
-use prog.Memory.{Memory}
-use prog.Routine.{Routine}
+use denote.Triple.Clauses.{AtExit}
 use borrow.Fn.Kinds.{ParamKind, ResultKind, Out, Dens, res_t, ended_of}
 use Rattle.meaning.specs.declared.Attributes.{Attributes}
 use Rattle.meaning.specs.declared.Cursor.{Cursor}
@@ -684,63 +677,54 @@ reader-place-after κs a x y s t p q = same p q
 pub reader-read-header : Result reader.read_header.Kinds.ps reader.read_header.Kinds.r reader.read_header.Reads.Learnt
 reader-read-header κs a x y s t p q = same p q
 
--- ---- reader::Reader: the methods of a struct that holds a reference. Their proofs are walks by hand, so the claim is taken out of the contract's
--- clause itself: whatever entails what the contract says of two results entails that they are equal
-module _ {M : Type 1} {𝓤 : Ura M} (𝓛 : Logic 𝓤) (mem : Memory → SProp 𝓤) (run : Routine → Fun 𝓤) where
-  abbrev pub Walked : (T : Ended) → Clauses 𝓤 T → {S : Type 0} → ((κs : Lfts T.signature.lifetimes) → Res T.signature κs → S) → Type 2
-  Walked T c see =
-      (κs : Lfts T.signature.lifetimes) (a : Args T.signature κs) (g : (c κs a).ghost) (x y : Res T.signature κs) (s t : AtExit T κs) (P : SProp 𝓤)
-      → ent 𝓤 P ((c κs a).ensures g x s) → ent 𝓤 P ((c κs a).ensures g y t) → ent 𝓤 P (fact 𝓤 (see κs x ≡ see κs y))
+-- ---- reader::Reader: the methods of a struct that holds a reference
 
-  both : (P : SProp 𝓤) {φ ψ χ : Type 0} → ent 𝓤 P (fact 𝓤 φ) → ent 𝓤 P (fact 𝓤 ψ) → (φ → ψ → χ) → ent 𝓤 P (fact 𝓤 χ)
-  both P p q h = fact_use 𝓤 _ p (λ e. fact_use 𝓤 _ q (λ f. fact_i 𝓤 _ P (h e f)))
+pub reader-start : Result reader.Reader.start.Kinds.ps reader.Reader.start.Kinds.r reader.Reader.start.Reads.Learnt
+reader-start κs a x y s t p q = λ i. record { «record» = same p.0 q.0 i; at = same p.1 q.1 i }
 
-  pub reader-start : Walked reader.Reader.start.ended (reader.Reader.start.clauses 𝓛 mem run) (λ κs x. x)
-  reader-start κs a g x y s t P p q = both P p q (λ e f i. record { «record» = same e.0 f.0 i; at = same e.1 f.1 i })
+pub reader-next : Result reader.Reader.next.Kinds.ps reader.Reader.next.Kinds.r reader.Reader.next.Reads.Learnt
+reader-next κs a x y s t p q = same p q
 
-  pub reader-next : Walked reader.Reader.next.ended (reader.Reader.next.clauses 𝓛 mem run) (λ κs x. x)
-  reader-next κs a g x y s t P p q = both P p q same
+pub reader-part : Seen reader.Reader.part.Kinds.ps reader.Reader.part.Kinds.r reader.Reader.part.Reads.Learnt (λ κs x s. x.now)
+reader-part κs a x y s t p q = same p q
 
-  pub reader-part : Walked reader.Reader.part.ended (reader.Reader.part.clauses 𝓛 mem run) (λ κs x. x.now)
-  reader-part κs a g x y s t P p q = both P p q same
+pub reader-left : Result reader.Reader.left.Kinds.ps reader.Reader.left.Kinds.r reader.Reader.left.Reads.Learnt
+reader-left κs a x y s t p q = same p q
 
-  pub reader-left : Walked reader.Reader.left.ended (reader.Reader.left.clauses 𝓛 mem run) (λ κs x. x)
-  reader-left κs a g x y s t P p q = both P p q same
+pub reader-place : Result reader.Reader.place.Kinds.ps reader.Reader.place.Kinds.r reader.Reader.place.Reads.Learnt
+reader-place κs a x y s t p q = same p q
 
-  pub reader-place : Walked reader.Reader.place.ended (reader.Reader.place.clauses 𝓛 mem run) (λ κs x. x)
-  reader-place κs a g x y s t P p q = both P p q same
+pub reader-moved : Result reader.Reader.moved.Kinds.ps reader.Reader.moved.Kinds.r reader.Reader.moved.Reads.Learnt
+reader-moved κs a x y s t p q = λ i. record { «record» = same p.0 q.0 i; at = same p.1 q.1 i }
 
-  pub reader-moved : Walked reader.Reader.moved.ended (reader.Reader.moved.clauses 𝓛 mem run) (λ κs x. x)
-  reader-moved κs a g x y s t P p q = both P p q (λ e f i. record { «record» = same e.0 f.0 i; at = same e.1 f.1 i })
+pub reader-forward : Result reader.Reader.forward.Kinds.ps reader.Reader.forward.Kinds.r reader.Reader.forward.Reads.Learnt
+reader-forward κs a x y s t p q = λ i. record { «record» = same p.0 q.0 i; at = same p.1 q.1 i }
 
-  pub reader-forward : Walked reader.Reader.forward.ended (reader.Reader.forward.clauses 𝓛 mem run) (λ κs x. x)
-  reader-forward κs a g x y s t P p q = both P p q (λ e f i. record { «record» = same e.0 f.0 i; at = same e.1 f.1 i })
+-- shown: of the struct that holds the part shown, the part's bytes, where it begins, and the status
+pub shown-show : Seen shown.show.Kinds.ps shown.show.Kinds.r shown.show.Reads.Learnt (λ κs x s. x.part.now)
+shown-show κs a x y s t p q = same p.0 q.0
 
-  -- shown: of the struct that holds the part shown, the part's bytes, where it begins, and the status
-  pub shown-show : Walked shown.show.ended (shown.show.clauses 𝓛 mem run) (λ κs x. x.part.now)
-  shown-show κs a g x y s t P p q = both P p q (λ e f. same e.0 f.0)
+pub shown-show-from : Seen shown.show.Kinds.ps shown.show.Kinds.r shown.show.Reads.Learnt (λ κs x s. x.part.ref_ptr)
+shown-show-from κs a x y s t p q = same p.1.0 q.1.0
 
-  pub shown-show-from : Walked shown.show.ended (shown.show.clauses 𝓛 mem run) (λ κs x. x.part.ref_ptr)
-  shown-show-from κs a g x y s t P p q = both P p q (λ e f. same e.1.0 f.1.0)
+pub shown-show-go : Seen shown.show.Kinds.ps shown.show.Kinds.r shown.show.Reads.Learnt (λ κs x s. x.go)
+shown-show-go κs a x y s t p q = same p.1.1.0 q.1.1.0
 
-  pub shown-show-go : Walked shown.show.ended (shown.show.clauses 𝓛 mem run) (λ κs x. x.go)
-  shown-show-go κs a g x y s t P p q = both P p q (λ e f. same e.1.1.0 f.1.1.0)
+pub shown-show-stop : Seen shown.show.Kinds.ps shown.show.Kinds.r shown.show.Reads.Learnt (λ κs x s. x.stop)
+shown-show-stop κs a x y s t p q = same p.1.1.1 q.1.1.1
 
-  pub shown-show-stop : Walked shown.show.ended (shown.show.clauses 𝓛 mem run) (λ κs x. x.stop)
-  shown-show-stop κs a g x y s t P p q = both P p q (λ e f. same e.1.1.1 f.1.1.1)
+-- events as a slice of structs
+pub list_count : Result list.count.Kinds.ps list.count.Kinds.r list.count.Reads.Learnt
+list_count κs a x y s t p q = same p q
 
-  -- events as a slice of structs
-  pub list_count : Walked list.count.ended (list.count.clauses 𝓛 mem run) (λ κs x. x)
-  list_count κs a g x y s t P p q = both P p q same
+pub list-identifier-of : Result list.identifier_of.Kinds.ps list.identifier_of.Kinds.r list.identifier_of.Reads.Learnt
+list-identifier-of κs a x y s t p q = same p q
 
-  pub list-identifier-of : Walked list.identifier_of.ended (list.identifier_of.clauses 𝓛 mem run) (λ κs x. x)
-  list-identifier-of κs a g x y s t P p q = both P p q same
+pub list-event-at : Result list.event_at.Kinds.ps list.event_at.Kinds.r list.event_at.Reads.Learnt
+list-event-at κs a x y s t p q = same p q
 
-  pub list-event-at : Walked list.event_at.ended (list.event_at.clauses 𝓛 mem run) (λ κs x. x)
-  list-event-at κs a g x y s t P p q = both P p q same
-
-  pub list-find-event : Walked list.ollskuvan_find_event.ended (list.ollskuvan_find_event.clauses 𝓛 mem run) (λ κs x. x)
-  list-find-event κs a g x y s t P p q = both P p q same
+pub list-find-event : Result list.ollskuvan_find_event.Kinds.ps list.ollskuvan_find_event.Kinds.r list.ollskuvan_find_event.Reads.Learnt
+list-find-event κs a x y s t p q = same p q
 
 -- ---- drain: the drain: what is told, and the journal and the scratch at exit
 
