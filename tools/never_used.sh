@@ -10,7 +10,7 @@ bad=0
 meanings() { # TREE
   cd "$1" || return 2
   # rows of refusals, and the lists of numbers that stops and answers are in
-  grep -rnE --exclude-dir=out '\brefusal .* 10( |\)|$)|stop_at 10\b' crates --include='*.antt' | grep -vE '^crates/promises/specs/Header\.antt:[0-9]*:crossing n tail = '
+  grep -rnE --exclude-dir=out '\brefusal .* 10( |\)|$)|stop_at 10\b' crates --include='*.antt' | grep -vE '^crates/promises/proofs/Header\.antt:[0-9]*:crossing n tail = '
   grep -rnE --exclude-dir=out '(_numbers|measured) = .*\b10 ∷|\bis_in .*\b10 ∷' crates --include='*.antt'
   # a choice of which 10 is one side
   grep -rnE --exclude-dir=out '\bcond\b.* (10 [0-9(]|[0-9]+ 10\b)|\bcond\b.*\) 10\b' crates --include='*.antt'
@@ -68,7 +68,7 @@ crates/salvage/specs/Salvage.antt|s/54 0\)/10 0)/
 crates/meaning/specs/Records.antt|s/0 44\)/0 10)/
 crates/meaning/specs/Records.antt|s/^(check rows e a xs = .*\)) 2$/\1 10/
 crates/meaning/specs/Events.antt|s/0 40\)/0 10)/
-crates/promises/specs/Settings.antt|s/\(0 ∷ 11 ∷ 1 ∷ 2 ∷ 40 ∷/(0 ∷ 10 ∷ 1 ∷ 2 ∷ 40 ∷/
+crates/promises/proofs/Settings.antt|s/\(0 ∷ 11 ∷ 1 ∷ 2 ∷ 40 ∷/(0 ∷ 10 ∷ 1 ∷ 2 ∷ 40 ∷/
 crates/salvaging/src/lib.rt|s/refused\(54\)/refused(10)/
 crates/settings_read/src/lib.rt|s/refuse\(11\)/refuse(10)/
 crates/settings_write/src/lib.rt|s/told\(40, 0\)/told(10, 0)/
