@@ -1,6 +1,7 @@
 #!/usr/bin/env bash
-# The gate. `rt ci` proves every listed crate from nothing, tries each must-fail edit and runs the programs; then the tests from outside run
-# on what it built. The last line is 'N passed, M failed': rt ci's own where everything else passed too, else one that counts the failure.
+# The gate. `rt ci` proves every listed crate, tries each must-fail edit and runs the programs (what an earlier run on this machine passed over the
+# same files stands as kept); then the library and ringdump are compiled from what it proved, and the tests from outside run on them. The last line is
+# 'N passed, M failed': rt ci's own where everything else passed too, else one that counts the failure.
 set -u
 cd "$(dirname "$0")/.." || exit 2
 log=$(mktemp) || exit 2
@@ -63,6 +64,7 @@ both_done() {
   [ "$status" -eq 0 ] || exit 1
 }
 part 'each wrong reader where it is wrong' python3 tools/refused.py
+part 'the program ringdump' env TMPDIR="$there" bash tools/library.sh ringdump
 beside 'the tree itself' env TMPDIR="$there" bash tools/selfcheck.sh
 part 'the library for C' env TMPDIR="$there" bash tools/library.sh
 both_done
