@@ -10,12 +10,14 @@ LIB = target/staticlib/libollskuvan.a
 help:
 	@echo "make run       prove and build ringdump, and drain a shipped ring (RING=$(RING))"
 	@echo "make test      prove every crate, try every must-fail edit, run all tests (the gate)"
-	@echo "make lib       build $(LIB) for C"
+	@echo "make lib       build $(LIB) for C; with TARGET=aarch64-linux-gnu and others, target/boards/TARGET"
+	@echo "make boards    the library and the programs for every target: target/boards"
 	@echo "make tool      build the program: target/tool/ollskuvan"
 	@echo "make examples  build the examples: target/examples"
 	@echo "make report    the report of the shipped kiln rings, and its picture"
 	@echo "make bench     speed beside careful C"
 	@echo "make install   program, header, both libraries, pkg-config file, manual pages (PREFIX=$(PREFIX))"
+	@echo "make boards-test   other targets under an emulator"
 	@echo "make soak      random and damaged rings beside the independent reader (MINUTES=5)"
 	@echo "make clean     remove target/ and crates/*/out, all that was proved and built"
 
@@ -34,9 +36,17 @@ test:
 	@tools/needs.sh test
 	@bash tools/gate.sh
 
+# TARGET names another processor: tools/library.sh targets
 lib:
 	@tools/needs.sh run
-	@tools/library.sh && echo "$(LIB)"
+	@$(if $(TARGET),tools/library.sh $(TARGET),tools/library.sh && echo "$(LIB)")
+
+.PHONY: boards boards-test
+boards:
+	@tools/needs.sh run
+	@tools/library.sh all
+boards-test:
+	@tests/boards/run.sh
 
 clean:
 	rm -rf target crates/*/out

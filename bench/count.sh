@@ -5,9 +5,10 @@
 #   bench/count.sh FUNCTION PROGRAM [WORD]..
 #
 # As bench/run.sh builds them: bench/count.sh ollskuvan_drain target/bench/bench once ours side-band, and divide by the
-# records that it prints. Needs this machine's own C compiler (NATIVE_CC, or /usr/bin/cc) and qemu-x86_64 with plugins.
+# records that it prints. Needs this machine's own C compiler (NATIVE_CC, or /usr/bin/cc) and qemu-x86_64 with plugins;
+# EMULATOR names that of another target, as qemu-aarch64 (bench/boards.sh). EACH=FILE: the count of each call too.
 set -u
-[ $# -ge 2 ] || { sed -n '2,8p' "$0" | sed 's/^# \{0,1\}//' >&2; exit 2; }
+[ $# -ge 2 ] || { sed -n '2,9p' "$0" | sed 's/^# \{0,1\}//' >&2; exit 2; }
 here=$(dirname "$0")
 out=$here/../target/bench
 name=$1
@@ -16,9 +17,9 @@ mkdir -p "$out" || exit 2
 if [ ! -f "$out/libcount.so" ] || [ "$here/count.c" -nt "$out/libcount.so" ]; then
   "${NATIVE_CC:-/usr/bin/cc}" -std=gnu11 -Wall -Wextra -Werror -O2 -shared -fPIC -o "$out/libcount.so" "$here/count.c" || exit 2
 fi
-for emulator in qemu-x86_64 qemu-x86_64-static; do
+for emulator in ${EMULATOR:-qemu-x86_64 qemu-x86_64-static}; do
   command -v "$emulator" >/dev/null && "$emulator" -h | grep -q '^-plugin' || continue
-  exec "$emulator" -plugin "$out/libcount.so,name=$name" "$@"
+  exec "$emulator" -plugin "$out/libcount.so,name=$name${EACH:+,each=$EACH}" "$@"
 done
-echo "bench/count.sh: no qemu-x86_64 that takes plugins (Debian: apt-get install qemu-user)" >&2
+echo "bench/count.sh: no ${EMULATOR:-qemu-x86_64} that takes plugins (Debian: apt-get install qemu-user)" >&2
 exit 2

@@ -4,7 +4,8 @@
  * Link with libollskuvan.a (and libollskuvan_words.a for the texts at the end);
  * pkg-config --cflags --libs ollskuvan tells both. C99; the header may also be
  * included from C++. All numbers in rings, records and journals are
- * little-endian. The library is for x86-64.
+ * little-endian. The library is for x86-64, aarch64, riscv64 and 32-bit ARM with
+ * hard float (docs/BOARDS.md).
  *
  * What the library does not do: it opens no event, maps no memory, issues no
  * memory barrier, allocates nothing, keeps nothing between two calls and reads
@@ -21,8 +22,10 @@
  * bytes, any other at most 11,264, but for ollskuvan_read_store (16,640), and
  * ollskuvan_drain_events and ollskuvan_walk_back_events (90,112, whatever the
  * table's length): a call's return address and what it calls included (measured on
- * a painted stack). Besides its own code a call needs the C library's memcpy and
- * memset alone. No function calls itself, so no input makes it more.
+ * a painted stack, on x86-64). Besides its own code a call needs the C library's
+ * memcpy and memset alone; elsewhere than on x86-64 it may take memmove too, and on
+ * 32-bit ARM it needs the compiler's division of 64-bit numbers. No function calls
+ * itself, so no input makes it more.
  *
  * What the caller owes:
  *
@@ -40,7 +43,8 @@
  *    that store.
  *  - ring is the data area alone (data_offset, data_size), not the metadata
  *    page before it. head and tail are the 64-bit counts as the kernel and the
- *    caller keep them, not reduced by the ring's length.
+ *    caller keep them, not reduced by the ring's length. A kernel of 32 bits keeps
+ *    32 of head's: widen it first (docs/BOARDS.md).
  *  - One attribute set serves a whole ring: sample_type, read_format,
  *    sample_id_all, user_mask (sample_regs_user), interrupt_mask
  *    (sample_regs_intr) and branch_sample_type are those the event was opened

@@ -32,6 +32,10 @@ refuses "SEED: a number is wanted, not 'x'" tests/fuzz/run.sh 10 x
 refuses "a seed is the last word, not 'x'" tests/fuzz/run.sh 10 1 x
 refuses "MAX_LEN: a number is wanted, not '1k'" env MAX_LEN=1k tests/fuzz/run.sh 10
 refuses 'no such file: none' tests/fuzz/run.sh again none
+refuses "COUNT and SEED are numbers, not 'x' and '1'" env COUNT=x tests/boards/run.sh
+refuses 'no such target: vax' tests/boards/run.sh vax
+refuses 'use: tests/boards/run.sh teeth TARGET' tests/boards/run.sh teeth
+refuses 'no such target: vax' bench/boards.sh vax
 refuses 'no such page: none.md' tests/snippets.sh none.md
 refuses 'no such word: --tooth' tests/snippets.sh --tooth
 refuses 'no such word: each' bash tools/slips.sh each

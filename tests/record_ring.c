@@ -14,7 +14,7 @@
  * 0, and its tail is 0.
  *
  * Needs the right to open perf events (root, or a low perf_event_paranoid).
- * Only software events are used. What the records hold comes from small
+ * Only software events and a tracepoint are used. What the records hold comes from small
  * workloads of this program alone; where stacks are recorded it runs on one of
  * its own. The cpu-wide plans record process numbers of others and nothing else
  * of them.
@@ -43,9 +43,19 @@
 /* Names in the images: neutral folders alone. */
 #define FOLDER "/tmp/kiln"
 
+#if defined(__aarch64__)
+/* x0 to x30, sp, pc */
+#define REGISTERS UINT64_C(0x1ffffffff)
+#define FEW_REGISTERS UINT64_C(0x1e0000000)
+#elif defined(__arm__)
+/* r0 to r10, fp, ip, sp, lr, pc */
+#define REGISTERS UINT64_C(0xffff)
+#define FEW_REGISTERS UINT64_C(0xe800)
+#else
 /* rax rbx rcx rdx rsi rdi rbp rsp rip flags cs ss, r8 to r15 (x86) */
 #define REGISTERS UINT64_C(0xff0fff)
 #define FEW_REGISTERS UINT64_C(0x1c0)
+#endif
 
 #define VALUE_FORMAT (PERF_FORMAT_ID | PERF_FORMAT_TOTAL_TIME_ENABLED | PERF_FORMAT_TOTAL_TIME_RUNNING)
 #define GROUP_FORMAT (PERF_FORMAT_GROUP | VALUE_FORMAT)
@@ -54,6 +64,12 @@ static void die(const char *what)
 {
     fprintf(stderr, "record_ring: %s: %s\n", what, strerror(errno));
     exit(1);
+}
+
+/* As the system tells it: on ARM pages may have 16 or 64 KiB. */
+static size_t page_size(void)
+{
+    return (size_t)sysconf(_SC_PAGESIZE);
 }
 
 /* One open event and its ring. */
@@ -71,6 +87,7 @@ static int open_event(struct perf_event_attr *attr, pid_t pid, int cpu, int grou
     return (int)syscall(SYS_perf_event_open, attr, pid, cpu, group, PERF_FLAG_FD_CLOEXEC);
 }
 
+/* Pages of 4096 bytes, or one of the system's where that is longer. */
 static void open_ring(struct recording *r, pid_t pid, int cpu, size_t pages)
 {
     uint8_t *base;
@@ -78,18 +95,20 @@ static void open_ring(struct recording *r, pid_t pid, int cpu, size_t pages)
     r->fd = open_event(&r->attr, pid, cpu, -1);
     if (r->fd < 0)
         die("perf_event_open");
-    r->length = pages * 4096;
+    r->length = pages * 4096 < page_size() ? page_size() : pages * 4096;
     /* mapped for reading alone a ring is written over its oldest records */
-    base = mmap(NULL, r->length + 4096, r->attr.write_backward ? PROT_READ : PROT_READ | PROT_WRITE, MAP_SHARED, r->fd, 0);
+    base = mmap(NULL, r->length + page_size(), r->attr.write_backward ? PROT_READ : PROT_READ | PROT_WRITE, MAP_SHARED, r->fd, 0);
     if (base == MAP_FAILED)
         die("mmap of the ring");
     r->page = (struct perf_event_mmap_page *)base;
-    r->ring = base + 4096;
+    r->ring = base + page_size();
 }
 
+/* A kernel of 32 bits counts in 32 bits, and data_head's upper half is 0: a backward ring's head, which falls from 0, is widened. */
 static uint64_t head_of(struct recording *r)
 {
-    return __atomic_load_n(&r->page->data_head, __ATOMIC_ACQUIRE);
+    uint64_t head = __atomic_load_n(&r->page->data_head, __ATOMIC_ACQUIRE);
+    return r->attr.write_backward && head >> 31 == 1 ? head | UINT64_C(0xffffffff) << 32 : head;
 }
 
 static void set_tail(struct recording *r, uint64_t tail)
@@ -162,13 +181,13 @@ static __attribute__((noinline)) void deeper(unsigned depth, unsigned rounds)
 /* Pages touched for the first time, each a page fault. */
 static void touch_pages(size_t pages)
 {
-    size_t i;
-    uint8_t *area = mmap(NULL, pages * 4096, PROT_READ | PROT_WRITE, MAP_PRIVATE | MAP_ANONYMOUS, -1, 0);
+    size_t i, page = page_size();
+    uint8_t *area = mmap(NULL, pages * page, PROT_READ | PROT_WRITE, MAP_PRIVATE | MAP_ANONYMOUS, -1, 0);
     if (area == MAP_FAILED)
         die("mmap");
     for (i = 0; i < pages; i++)
-        area[i * 4096] = 1;
-    munmap(area, pages * 4096);
+        area[i * page] = 1;
+    munmap(area, pages * page);
 }
 
 /* Runs a function on a stack of its own, which holds zeros and nothing else. */
@@ -216,7 +235,7 @@ static void naps(int count)
 /* A file with a build id, under a name of this many letters. */
 static const char *library(size_t letters, char *path)
 {
-    static const char *from[] = {"/lib/x86_64-linux-gnu/libm.so.6", "/usr/lib64/libm.so.6", "/lib/libm.so.6"};
+    static const char *from[] = {"/lib/x86_64-linux-gnu/libm.so.6", "/usr/lib64/libm.so.6", "/lib/libm.so.6", "/proc/self/exe"};
     size_t i, n;
     char bytes[4096];
     int in = -1, out;
@@ -226,7 +245,7 @@ static const char *library(size_t letters, char *path)
     for (i = 0; i < letters; i++)
         path[n + i] = (char)('a' + i % 26);
     strcpy(path + n + letters, ".so");
-    for (i = 0; in < 0 && i < 3; i++)
+    for (i = 0; in < 0 && i < sizeof from / sizeof *from; i++)
         in = open(from[i], O_RDONLY);
     out = open(path, O_WRONLY | O_CREAT | O_TRUNC, 0755);
     if (in < 0 || out < 0)
@@ -244,20 +263,20 @@ static void map_libraries(void)
 {
     static const size_t letters[] = {1, 2, 3, 4, 5, 6, 7, 8, 40, 100, 180, 230};
     char path[400];
-    size_t i;
+    size_t i, page = page_size();
     for (i = 0; i < sizeof letters / sizeof *letters; i++) {
         int fd = open(library(letters[i], path), O_RDONLY);
-        void *text = mmap(NULL, 8192, PROT_READ | PROT_EXEC, MAP_PRIVATE, fd, 4096 * (off_t)(i % 3));
-        void *data = mmap(NULL, 4096, PROT_READ | PROT_WRITE, MAP_PRIVATE, fd, 0);
+        void *text = mmap(NULL, 2 * page, PROT_READ | PROT_EXEC, MAP_PRIVATE, fd, (off_t)page * (off_t)(i % 3));
+        void *data = mmap(NULL, page, PROT_READ | PROT_WRITE, MAP_PRIVATE, fd, 0);
         if (text == MAP_FAILED || data == MAP_FAILED)
             die(path);
-        munmap(text, 8192);
-        munmap(data, 4096);
+        munmap(text, 2 * page);
+        munmap(data, page);
         close(fd);
         unlink(path);
     }
     /* memory with no file: "//anon" */
-    munmap(mmap(NULL, 4096, PROT_READ | PROT_EXEC, MAP_PRIVATE | MAP_ANONYMOUS, -1, 0), 4096);
+    munmap(mmap(NULL, page, PROT_READ | PROT_EXEC, MAP_PRIVATE | MAP_ANONYMOUS, -1, 0), page);
     rmdir(FOLDER);
 }
 
@@ -602,6 +621,44 @@ static void plan_kernel(const char *out)
     save(&r, out);
 }
 
+/* The number of a tracepoint, by the kernel's own list; 0 where that cannot be read. */
+static uint64_t tracepoint(const char *name)
+{
+    static const char *folders[] = {"/sys/kernel/tracing/events", "/sys/kernel/debug/tracing/events"};
+    char path[200];
+    unsigned long long number = 0;
+    size_t i;
+    FILE *file = NULL;
+    for (i = 0; !file && i < 2; i++) {
+        snprintf(path, sizeof path, "%s/%s/id", folders[i], name);
+        file = fopen(path, "r");
+    }
+    if (!file || fscanf(file, "%llu", &number) != 1)
+        number = 0;
+    if (file)
+        fclose(file);
+    return number;
+}
+
+/* Samples with the raw data of a tracepoint: each switch of one thread. */
+static void plan_tracepoint(const char *out)
+{
+    struct recording r;
+    uint64_t number = tracepoint("sched/sched_switch");
+    if (number == 0) {
+        fprintf(stderr, "record_ring: tracefs is not mounted, or may not be read: no %s\n", out);
+        return;
+    }
+    software(&r.attr, number, PERF_SAMPLE_IP | IDENTITY | PERF_SAMPLE_PERIOD | PERF_SAMPLE_RAW, 1);
+    r.attr.type = PERF_TYPE_TRACEPOINT;
+    r.attr.sample_period = 1;
+    open_ring(&r, 0, -1, 1);
+    start(&r);
+    naps(20);
+    stop(&r);
+    save(&r, out);
+}
+
 /* ---- several events in one ring ---- */
 
 enum { EVENTS = 4 };
@@ -700,7 +757,7 @@ static void several_part(void)
         if (i % 8 == 0)
             prctl(PR_SET_NAME, i % 16 ? "kiln-1" : "kiln");
         if (i == 25)
-            munmap(mmap(NULL, 4096, PROT_READ | PROT_EXEC, MAP_PRIVATE | MAP_ANONYMOUS, -1, 0), 4096);
+            munmap(mmap(NULL, page_size(), PROT_READ | PROT_EXEC, MAP_PRIVATE | MAP_ANONYMOUS, -1, 0), page_size());
         read_on(&several.r, several.r.length - 900);
     }
 }
@@ -861,6 +918,7 @@ static const struct {
     {"backward/whole", plan_backward_whole, "one whose oldest record is whole"},
     {"backward/tasks", plan_backward_tasks, "names, forks, execs, exits and mappings, several times round"},
     {"backward/events", plan_backward_events, "four events with their table, several times round"},
+    {"tracepoint", plan_tracepoint, "samples of a tracepoint with its raw data; needs tracefs"},
 };
 
 int main(int argc, char **argv)

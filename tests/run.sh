@@ -145,6 +145,12 @@ part "what misc means" "$out/reader" meanings --count "$values" --seed "$seed"
 part "real rings" "$out/reader" rings rings
 part "real rings of several events" "$out/reader" table-rings rings/events --seed "$seed"
 part "real backward rings" "$out/reader" back-rings rings/backward --seed "$seed"
+for kernel in rings/kernels/*/; do
+    name=$(basename "$kernel")
+    part "real rings of another kernel: $name" "$out/reader" rings "$kernel"
+    [ ! -d "$kernel/events" ] || part "its rings of several events: $name" "$out/reader" table-rings "$kernel/events" --seed "$seed" --count 500
+    [ ! -d "$kernel/backward" ] || part "its backward rings: $name" "$out/reader" back-rings "$kernel/backward" --seed "$seed" --count 200
+done
 part "each sample bit, read format, type and trailer bit" "$out/reader" bits
 part "values: $values records, seed $seed" "$out/reader" values --count "$values" --seed "$seed"
 # each ring is lent anew for each of its records

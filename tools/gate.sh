@@ -52,7 +52,9 @@ part() {
 }
 # a part that runs beside the next one, where neither writes what the other reads; its words are shown when both are done
 said=$(mktemp) || exit 2
-trap 'rm -rf "$log" "$said" "$folder"' EXIT
+SKIPPED_TO=$(mktemp) || exit 2 # what is left out of the boards is said once more in the last lines
+export SKIPPED_TO
+trap 'rm -rf "$log" "$said" "$SKIPPED_TO" "$folder"' EXIT
 beside() {
   part "$@" >"$said" 2>&1 &
   other=$!
@@ -84,9 +86,11 @@ both_done
 part 'the program for people' make -s tool-test
 part 'examples' make -s examples-test
 part 'the page for controllers' make -s snippets-test
+part 'other boards' bash tests/boards/run.sh
 part 'live rings' make -s live-test
 part 'the package' make -s install-test
 echo "all in $(($(date +%s) - began)) s"
+cat "$SKIPPED_TO"
 case "$last" in
   *' passed, 0 failed') echo "$last" ;;
   *) echo '0 passed, 1 failed'; exit 1 ;;

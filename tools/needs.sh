@@ -4,6 +4,7 @@
 #   tools/needs.sh run     the toolchain
 #   tools/needs.sh test    the toolchain and Debian's packages for the tests
 #   tools/needs.sh line    prints the line that installs these packages
+#   tools/needs.sh boards  prints the line that installs what the tests of other boards take; with CI=true `test` does it
 #
 # A package that is missing is installed where this may be done (root, apt-get); elsewhere the line is printed and the
 # status is 1. On a machine that is not x86-64 tools/x86.sh adds cross compilers and an emulator for the tests. valgrind
@@ -12,6 +13,9 @@
 set -u
 cd "$(dirname "$0")/.." || exit 2
 line='apt-get install -y gcc libc6-dev make python3 rustc pkg-config valgrind'
+# what the tests of other boards take: without it they are skipped with a word
+boards='gcc-aarch64-linux-gnu libc6-dev-arm64-cross gcc-riscv64-linux-gnu libc6-dev-riscv64-cross gcc-arm-linux-gnueabihf libc6-dev-armhf-cross'
+boards_line="apt-get install -y --no-install-recommends $boards qemu-user"
 cc=${CC:-cc}
 rustc=${RUSTC:-rustc}
 
@@ -64,13 +68,26 @@ packages() {
   [ -z "$(wanted)" ] || say "valgrind is missing: its part of the tests will be skipped"
 }
 
+# Cross compilers and emulators, where a machine is there for tests alone.
+boards() {
+  [ "${CI:-}" = true ] && [ "$(id -u)" -eq 0 ] && have apt-get && sh tools/x86.sh native || return 0
+  for tool in aarch64-linux-gnu-gcc riscv64-linux-gnu-gcc arm-linux-gnueabihf-gcc qemu-aarch64 qemu-riscv64 qemu-arm; do
+    have $tool && continue
+    export DEBIAN_FRONTEND=noninteractive
+    # shellcheck disable=SC2086
+    $boards_line >&2 || { apt-get update >&2 && $boards_line >&2; } || say "other boards: not everything could be installed"
+    return 0
+  done
+}
+
 case ${1:-} in
   run) toolchain ;;
   test)
-    toolchain && packages
+    toolchain && packages && boards
     # where it is not ready the gate says what it left out
     sh tools/x86.sh native || sh tools/x86.sh ready || true
     ;;
   line) echo "$line" ;;
-  *) say "use: tools/needs.sh run|test|line"; exit 2 ;;
+  boards) echo "$boards_line" ;;
+  *) say "use: tools/needs.sh run|test|line|boards"; exit 2 ;;
 esac

@@ -24,7 +24,12 @@
 /* Where slices lie in the player; those from WRITABLE on may be written. */
 enum slot { RING, RIGHT, RECORD, TABLE, VALUE, SCRATCH, RIGHT_SCRATCH, JOURNAL, ROOMS, OUT, WORDS, ROWS, SLOTS,
     WRITABLE = SCRATCH };
-enum { SIDES = 2, AREA = 1 << 18, GUARD = 64, NUMBERS = 20, LONGEST_INPUT = 1 << 17, PLAYERS_MAX = 8 };
+#ifdef OF_READER
+enum { AREA = 1 << 23 }; /* the independent reader lends longer ones */
+#else
+enum { AREA = 1 << 18 };
+#endif
+enum { SIDES = 2, GUARD = 64, NUMBERS = 20, LONGEST_INPUT = 1 << 17, PLAYERS_MAX = 8 };
 #define FILLED UINT32_C(0x80000000)
 
 /* What each export is lent, in the order of its parameters: R(element, slot, name) is a slice that is read, W one that is
@@ -61,11 +66,12 @@ enum { SIDES = 2, AREA = 1 << 18, GUARD = 64, NUMBERS = 20, LONGEST_INPUT = 1 <<
 #define LENT_compare(R, W, N, U) R(uint8_t, RING, left) N(left_head) N(left_tail) W(uint8_t, SCRATCH, left_scratch) \
     R(uint8_t, RIGHT, right) N(right_head) N(right_tail) W(uint8_t, RIGHT_SCRATCH, right_scratch) A_TABLE(R, U)
 
-/* The exports: name, what comes back, and how many bytes of that are told; what is behind them is padding. */
+/* The exports: name, what comes back (a size_t in 64 bits), and how many bytes of that are told; what is behind them is
+ * padding. */
 #define EXPORTS(X) \
     X(drain, struct ollskuvan_drained, 28) \
     X(drain_events, struct ollskuvan_drained, 28) \
-    X(find_event, size_t, 8) \
+    X(find_event, uint64_t, 8) \
     X(check, uint32_t, 4) \
     X(check_events, struct ollskuvan_judged, 8) \
     X(misc_meaning, uint32_t, 4) \

@@ -1,6 +1,8 @@
 /*
  * Linked into the fuzz target with --wrap: each call of an export, with what came back, goes to the stream CARRY_TO,
  * for played.c (see carried.h). Nothing is waited for. Without CARRY_TO the calls go straight through.
+ *
+ * With OF_READER it is linked into the independent reader's program (tests/boards): an execution is a call.
  */
 #define _GNU_SOURCE
 #include <errno.h>
@@ -12,6 +14,7 @@
 
 #include "carried.h"
 
+#ifndef OF_READER
 int __real_LLVMFuzzerTestOneInput(const uint8_t *, size_t);
 int __wrap_LLVMFuzzerTestOneInput(const uint8_t *, size_t);
 int __real_ringdump_main(void);
@@ -20,8 +23,9 @@ ssize_t __real_ringdump_read(int, void *, size_t);
 ssize_t __wrap_ringdump_read(int, void *, size_t);
 ssize_t __real_ringdump_write(int, const void *, size_t);
 ssize_t __wrap_ringdump_write(int, const void *, size_t);
+#endif
 
-enum { BLOCK = 1 << 20, ROOM = 8 << 20 }; /* a message fits what is behind a block */
+enum { BLOCK = 1 << 20, ROOM = AREA > 1 << 18 ? 2 * AREA : 8 << 20 }; /* a message fits what is behind a block */
 
 /* A player's stream, and what stands in that player at each slot's place: its bytes, and the length of the slice there. */
 struct stream {
@@ -90,13 +94,6 @@ static void put(const void *bytes, size_t count)
 
 static void put_number(uint64_t number) { put(&number, sizeof number); }
 
-static void put_numbers(uint64_t first, uint64_t second, uint64_t third)
-{
-    put_number(first);
-    put_number(second);
-    put_number(third);
-}
-
 static void begin(uint32_t number)
 {
     to->begun = to->filled;
@@ -112,6 +109,23 @@ static void finish(void)
     if (to->filled >= BLOCK)
         flush();
 }
+
+/* The next execution, by its input, and whose stream it goes to. */
+static void begin_execution(const void *input, size_t count)
+{
+    executions++;
+    to = &streams[block_of(executions) % players];
+    begin(EXECUTION);
+    put_number(executions);
+    put(input, count);
+    finish();
+}
+
+#ifdef OF_READER
+static void each_call(void) { begin_execution("", 0); }
+#else
+static void each_call(void) {}
+#endif
 
 /* Own loops, in words: the program's memcmp is libFuzzer's, which looks at what is compared. */
 static int same_block(const uint8_t *a, const uint8_t *b)
@@ -211,6 +225,7 @@ static void put_back(enum slot slot, const void *slice, size_t count)
         type made; \
         if (!players) \
             return __real_ollskuvan_##call(ARGUMENTS(call)); \
+        each_call(); \
         begin(CALL_##call); \
         LENT_##call(PUT_LENGTH, PUT_LENGTH, PUT_NUMBER, PUT_NUMBER) \
         LENT_##call(PUT_LENT, PUT_LENT, NO_NUMBER, NO_NUMBER) \
@@ -221,6 +236,14 @@ static void put_back(enum slot slot, const void *slice, size_t count)
         return made; \
     }
 EXPORTS(WRAPPED)
+
+#ifndef OF_READER
+static void put_numbers(uint64_t first, uint64_t second, uint64_t third)
+{
+    put_number(first);
+    put_number(second);
+    put_number(third);
+}
 
 int __wrap_ringdump_main(void)
 {
@@ -262,16 +285,11 @@ ssize_t __wrap_ringdump_write(int file, const void *bytes, size_t count)
 
 int __wrap_LLVMFuzzerTestOneInput(const uint8_t *data, size_t size)
 {
-    if (players) {
-        executions++;
-        to = &streams[block_of(executions) % players];
-        begin(EXECUTION);
-        put_number(executions);
-        put(data, size);
-        finish();
-    }
+    if (players)
+        begin_execution(data, size);
     return __real_LLVMFuzzerTestOneInput(data, size);
 }
+#endif
 
 /* Reached by exit alone: a target that found a difference leaves the streams without their end. */
 __attribute__((destructor)) static void end_streams(void)

@@ -1,6 +1,7 @@
 /*
  * The player: makes each call that carry.c wrote (see carried.h) once more, on libollskuvan.a for x86-64, and compares
- * what comes back and every lent slice. It reads the stream from its standard input. Built and run by tests/fuzz/run.sh.
+ * what comes back and every lent slice. It reads the stream from its standard input. Built and run by tests/fuzz/run.sh;
+ * with OF_READER, for other targets and without ringdump, by tests/boards/run.sh.
  *
  * A slice lies against a page that cannot be touched, with guard bytes on its other side. One that is only read is lent
  * by pages that cannot be written, which the player fills by other pages of the same memory: a write ends in a signal.
@@ -20,7 +21,7 @@
 
 #include "carried.h"
 
-enum { HEX_MAX = 4096, BUFFER = 16 << 20, NONE = 9999 };
+enum { HEX_MAX = 4096, BUFFER = 32 << 20, NONE = 9999 };
 #define NAMED(call, type, told) #call,
 static const char *const call_names[] = { EXPORTS(NAMED) "ringdump", "none" };
 static const char *const slot_names[SLOTS] = { "ring", "right ring", "record", "table", "value", "scratch", "right scratch",
@@ -90,8 +91,11 @@ static void differs(const char *words)
     _exit(1);
 }
 
-/* The emulator calls a handler with a stack that is not aligned as the calling convention has it. */
-__attribute__((force_align_arg_pointer)) static void touched(int number)
+/* The emulator calls a handler with a stack that is not aligned as x86-64's calling convention has it. */
+#ifdef __x86_64__
+__attribute__((force_align_arg_pointer))
+#endif
+static void touched(int number)
 {
     (void)number;
     differs("a byte was touched that is not lent, or not lent for writing");
@@ -275,6 +279,7 @@ static void check_made(uint8_t *made, size_t count)
     }
 EXPORTS(PLAYED)
 
+#ifndef OF_READER
 /* ---- The program ringdump: it asks for the same bytes, is given the same, and prints the same. ---- */
 
 static void is_next(const char *words, const void *due, size_t count)
@@ -316,6 +321,9 @@ static void play_program(void)
     end[1] = (uint64_t)ringdump_main();
     is_next("how ringdump ends", end, sizeof end);
 }
+#else
+static void play_program(void) { stop("ringdump is not played here"); }
+#endif
 
 /* ---- The stream, played. ---- */
 
