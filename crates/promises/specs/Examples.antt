@@ -49,7 +49,7 @@ round = (drop 8 lost ++ zeros 40) ++ take 8 lost
 abbrev switch_out : List ℕ
 switch_out = 14 ∷ 0 ∷ 0 ∷ 0 ∷ 0 ∷ 32 ∷ 8 ∷ 0 ∷ []
 
-pub cases : List Case
+unfoldable pub cases : List Case
 cases =
     -- P1 ring 64, head = tail = 0: answer 0
     stops (zeros 64) 0 0 [] 0
@@ -109,12 +109,12 @@ is_stop o after scratch tail number = not o.frame.go && (eqb o.frame.stop number
 abbrev is_taken : One → List ℕ → ℕ → ℕ → List ℕ → Bool
 is_taken o after answer next scratch = o.frame.go && (eqb o.answer answer && (eqb o.tail next && same after scratch))
 
-pub passes : Case → Bool
+unfoldable pub passes : Case → Bool
 passes (checked e a xs answer) = eqb (record_check editions e a xs) answer
 passes (stops xs head tail scratch number) = is_stop (one xs head tail scratch) (scratch_then xs head tail scratch) scratch tail number
 passes (takes xs head tail scratch answer next after) = is_taken (one xs head tail scratch) (scratch_then xs head tail scratch) answer next after
 passes (switches_out e xs) = eqb (record_check editions e (attributes 0) xs) 0 && eqb (misc_meaning (kind_of xs) (misc_of xs)) (number13 SwitchedOut)
 
-pub all : List Case → Bool
+unfoldable pub all : List Case → Bool
 all [] = true
 all (c ∷ cs) = passes c && all cs
