@@ -1,7 +1,7 @@
 -- The writer's rows as C calls it, in the order checked: "2; 20 to 24; 41 ..; 42 ..; 40 ..", with M-102's 25 "after 23 and before 24" and M-107's 43 "after 24
 -- and before 41". What its last tests give by them is in proofs/WriterRows, that its answer is the number of the first row that holds in proofs/Written.
 -- Assumes nothing: these are definitions.
-use Rattle.std.specs.Prelude.{List, [], ◌∷◌, ◌++◌, cond, not, take, get_or}
+use Rattle.std.specs.Prelude.{List, [], ◌∷◌, ◌++◌, cond, false, not, take, get_or}
 use Prim.Native.Nat.{ℕ}
 use Rattle.std.proofs.Math.Dec.{leb}
 use Rattle.std.proofs.Math.ListN.{length}
