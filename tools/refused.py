@@ -271,7 +271,7 @@ def make_logs(edits):
     if lacking:
         print('refused: trying %d edits of %d crates' % (sum(map(len, lacking.values())), len(lacking)), flush=True)
     longest_first = sorted(lacking, key=lambda name: -len(lacking[name]) * (400 + tries.crates[name].count(rb'\n')))
-    with concurrent.futures.ThreadPoolExecutor(max(1, min(4, len(os.sched_getaffinity(0)) // 2))) as pool:
+    with concurrent.futures.ThreadPoolExecutor(min(4, len(os.sched_getaffinity(0)))) as pool:
         return [why for bad in pool.map(lambda name: tries.write_logs(name, lacking[name]), longest_first) for why in bad]
 
 
