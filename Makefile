@@ -14,12 +14,10 @@ help:
 	@echo "make boards    the library and the programs for every target: target/boards"
 	@echo "make tool      build the program: target/tool/ollskuvan"
 	@echo "make examples  build the examples: target/examples"
-	@echo "make page      build the page, one file for any browser: target/page/ollskuvan.html"
 	@echo "make report    the report of the shipped kiln rings, and its picture"
 	@echo "make bench     speed beside careful C"
 	@echo "make install   program, header, both libraries, pkg-config file, manual pages (PREFIX=$(PREFIX))"
-	@echo "make deb       Debian packages, of this machine's or of a TARGET: target/deb"
-	@echo "make boards-test, live-kernels   other targets under an emulator; live rings of other kernels"
+	@echo "make boards-test   other targets under an emulator"
 	@echo "make soak      random and damaged rings beside the independent reader (MINUTES=5)"
 	@echo "make clean     remove target/ and crates/*/out, all that was proved and built"
 
@@ -43,21 +41,12 @@ lib:
 	@tools/needs.sh run
 	@$(if $(TARGET),tools/library.sh $(TARGET),tools/library.sh && echo "$(LIB)")
 
-.PHONY: boards boards-test live-kernels
+.PHONY: boards boards-test
 boards:
 	@tools/needs.sh run
 	@tools/library.sh all
 boards-test:
 	@tests/boards/run.sh
-live-kernels:
-	@tests/kernels/run.sh
-
-# the page, and its test in a real browser; where what they need is missing, that is said
-.PHONY: page page-test
-page: $(LIB)
-	@tools/page.sh
-page-test: $(LIB) tool live-programs
-	@tests/page/run.sh
 
 clean:
 	rm -rf target crates/*/out
@@ -66,12 +55,12 @@ clean:
 $(LIB):
 	@$(MAKE) -s lib
 
-examples live-programs bench bench-short bench-instructions install outside-tests snippets-test: $(LIB)
+examples bench bench-short bench-instructions install outside-tests snippets-test: $(LIB)
 
 MINUTES ?= 5
 .PHONY: soak
 soak: $(LIB)
 	tests/run.sh soak $(MINUTES)
 
-# the tool's first: others name its archive among what they need
-include tool/Makefile.inc tests/Makefile.inc examples/Makefile.inc bench/Makefile.inc packaging/Makefile.inc
+include tests/Makefile.inc examples/Makefile.inc bench/Makefile.inc packaging/Makefile.inc
+include tool/Makefile.inc

@@ -3,8 +3,8 @@
 # (bench/count.sh). For people to read; not part of the gate.
 #
 #   bench/boards.sh [TARGET..]      aarch64-linux-gnu and riscv64-linux-gnu, unless some are named; needs make lib TARGET=..
-#   bench/boards.sh kinds [TARGET..]   of the drain, a record more on every kind of ring: the slowest against careful C; status 1 above 1.1 times it
-#                                      (aarch64-linux-gnu, unless some are named)
+#   bench/boards.sh kinds [TARGET..]   of the drain, a record more on every kind of ring: the slowest against careful C; status 1 above 1.1 times it,
+#                                      with a table above 1.25 (aarch64-linux-gnu, unless some are named)
 set -eu
 cd "$(dirname "$0")/.."
 out=target/bench
@@ -29,7 +29,7 @@ for target in "$@"; do
     EMULATOR=$emulator sh bench/count.sh "$name" "$program" "$@" >$out/count.log 2>&1 || { cat $out/count.log >&2; die "it failed: $*"; }
     awk '/^records/ { n = $2 } /^Collected/ { c = $NF } END { print (n > 0 ? c / n : c) }' $out/count.log
   }
-  kinds() { # kinds|table-kinds
+  kinds() { # kinds|table-kinds MOST
     local drain name folder=$out/kinds-$target
     rm -rf "$folder" && mkdir "$folder"
     for drain in careful ours; do
@@ -38,13 +38,13 @@ for target in "$@"; do
       [ "$1" = kinds ] || name=${name}_events
       EACH=$folder/kinds.$drain.counts EMULATOR=$emulator sh bench/count.sh $name "$program" "$1" $drain >"$folder/kinds.$drain.names" 2>"$folder/log" || { cat "$folder/log" >&2; die "it failed: $1 $drain"; }
     done
-    python3 bench/kinds.py "$folder" 1.1 || slow=1
+    python3 bench/kinds.py "$folder" "$2" || slow=1
   }
   if [ -n "$kinds" ]; then
     echo "$target"
-    kinds kinds
+    kinds kinds 1.1
     echo "with a table of eleven events"
-    kinds table-kinds
+    kinds table-kinds 1.25
     continue
   fi
   row() { awk -v name="$1" -v ours="$2" -v careful="$3" 'BEGIN { printf "%-24s%12.1f%12.1f%12.2f\n", name, ours, careful, ours / careful }'; }

@@ -23,9 +23,9 @@
  * ollskuvan_drain_events and ollskuvan_walk_back_events (90,112, whatever the
  * table's length): a call's return address and what it calls included (measured on
  * a painted stack, on x86-64). Besides its own code a call needs the C library's
- * memcpy and memset alone; elsewhere than on x86-64 memmove too, and on 32-bit ARM
- * the compiler's division of 64-bit numbers. No function calls itself, so no input
- * makes it more.
+ * memcpy and memset alone; elsewhere than on x86-64 it may take memmove too, and on
+ * 32-bit ARM it needs the compiler's division of 64-bit numbers. No function calls
+ * itself, so no input makes it more.
  *
  * What the caller owes:
  *

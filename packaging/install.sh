@@ -28,7 +28,6 @@ put "$words_source" "$words"
 put "$made" "$pc"
 put "$program_source" "$program" 755
 put "$here/ollskuvan.1" "$program_page"
-[ ! -f "${PAGE:-$root/target/page/ollskuvan.html}" ] || put "${PAGE:-$root/target/page/ollskuvan.html}" "$web_page"
 put "$here/ollskuvan.3" "$library_page"
 echo '.so man3/ollskuvan.3' >"$made"
 for function in $functions; do

@@ -22,8 +22,6 @@ pc=$destdir$prefix/$libdir/pkgconfig/ollskuvan.pc
 program=$destdir$prefix/bin/ollskuvan
 program_page=$destdir$prefix/share/man/man1/ollskuvan.1
 library_page=$destdir$prefix/share/man/man3/ollskuvan.3
-# the page for browsers, where it was built (make page)
-web_page=$destdir$prefix/share/ollskuvan/ollskuvan.html
 # every function of the header has a page by its own name, which leads to the library's
 functions=$(grep -oE '\bollskuvan_[a-z_]+\(' "$here/../include/ollskuvan.h" | tr -d '(' | sort -u)
 page_of() { echo "$destdir$prefix/share/man/man3/$1.3"; }

@@ -10,7 +10,7 @@ take_away() {
     echo "removed $1"
   fi
 }
-for file in "$header" "$archive" "$words" "$pc" "$program" "$program_page" "$library_page" "$web_page"; do
+for file in "$header" "$archive" "$words" "$pc" "$program" "$program_page" "$library_page"; do
   take_away "$file"
 done
 for function in $functions; do

@@ -35,13 +35,7 @@ refuses 'no such file: none' tests/fuzz/run.sh again none
 refuses "COUNT and SEED are numbers, not 'x' and '1'" env COUNT=x tests/boards/run.sh
 refuses 'no such target: vax' tests/boards/run.sh vax
 refuses 'use: tests/boards/run.sh teeth TARGET' tests/boards/run.sh teeth
-refuses 'no such kernel: 2.4' tests/kernels/run.sh 2.4
 refuses 'no such target: vax' bench/boards.sh vax
-refuses "COUNT and SEED: numbers are wanted, not 'many'" tests/live/checker_test.sh many
-refuses "COUNT and SEED: numbers from 1 on are wanted, not '0'" python3 tests/live/made_recordings.py 0
-refuses 'no such file: none' python3 tests/live/check_report.py --list none
-refuses 'no such file: none.img' python3 tests/live/check_report.py none.img
-refuses 'no such fault: none' python3 tests/live/planted_faults.py README.md none
 refuses 'no such page: none.md' tests/snippets.sh none.md
 refuses 'no such word: --tooth' tests/snippets.sh --tooth
 refuses 'no such word: each' bash tools/slips.sh each

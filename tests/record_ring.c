@@ -621,7 +621,7 @@ static void plan_kernel(const char *out)
     save(&r, out);
 }
 
-/* The number of a tracepoint, by the kernel's own list. */
+/* The number of a tracepoint, by the kernel's own list; 0 where that cannot be read. */
 static uint64_t tracepoint(const char *name)
 {
     static const char *folders[] = {"/sys/kernel/tracing/events", "/sys/kernel/debug/tracing/events"};
@@ -634,8 +634,9 @@ static uint64_t tracepoint(const char *name)
         file = fopen(path, "r");
     }
     if (!file || fscanf(file, "%llu", &number) != 1)
-        die("a tracepoint's number");
-    fclose(file);
+        number = 0;
+    if (file)
+        fclose(file);
     return number;
 }
 
@@ -643,7 +644,12 @@ static uint64_t tracepoint(const char *name)
 static void plan_tracepoint(const char *out)
 {
     struct recording r;
-    software(&r.attr, tracepoint("sched/sched_switch"), PERF_SAMPLE_IP | IDENTITY | PERF_SAMPLE_PERIOD | PERF_SAMPLE_RAW, 1);
+    uint64_t number = tracepoint("sched/sched_switch");
+    if (number == 0) {
+        fprintf(stderr, "record_ring: tracefs is not mounted, or may not be read: no %s\n", out);
+        return;
+    }
+    software(&r.attr, number, PERF_SAMPLE_IP | IDENTITY | PERF_SAMPLE_PERIOD | PERF_SAMPLE_RAW, 1);
     r.attr.type = PERF_TYPE_TRACEPOINT;
     r.attr.sample_period = 1;
     open_ring(&r, 0, -1, 1);

@@ -10,7 +10,6 @@ tool=target/tool/ollskuvan
 out=target/tool/test
 header=include/ollskuvan.h
 archives='target/staticlib/libollskuvan_words.a target/staticlib/libollskuvan.a'
-folders='-Itool/commands -Itool/live -Itool/report -Itool/ring -Itool/shared'
 failures=0
 tried=0
 wrong() { echo "WRONG: $*"; failures=$((failures + 1)); }
@@ -22,31 +21,29 @@ build() { # NAME FLAGS.. FILES..: C99 with the tool's own files
   local name=$1
   shift
   # shellcheck disable=SC2086 # words are wanted
-  ${CC:-cc} -std=c99 -pedantic -Wall -Wextra -Werror -g -Iinclude -Iwords $folders -o "$out/$name" "$@" \
+  ${CC:-cc} -std=c99 -pedantic -Wall -Wextra -Werror -g -Iinclude -Iwords -Iexamples -Itool -o "$out/$name" "$@" \
     $archives || { echo "tool/test.sh: $name does not build"; exit 1; }
 }
-shared='tool/ring/image.c tool/ring/kinds.c tool/ring/perf_data.c tool/commands/command.c tool/ring/events.c tool/shared/file.c tool/ring/flight.c tool/shared/memory.c tool/shared/messages.c tool/shared/text.c'
+shared='tool/image.c tool/command.c examples/events.c examples/file.c examples/flight.c examples/memory.c examples/messages.c examples/text.c'
 # what a writing of a store is made of, so that it can end or fail at each step
 steps='-Wl,--wrap=write,--wrap=fsync,--wrap=rename,--wrap=fchmod,--wrap=close'
 # shellcheck disable=SC2086
 {
-  build stores -O1 $steps tool/tests/stores.c tool/live/settings.c tool/shared/file.c
-  build values -O1 tool/tests/values.c tool/ring/show.c $shared
-  build fields -O1 tool/tests/fields.c tool/ring/show.c $shared
+  build stores -O1 $steps tool/tests/stores.c examples/settings.c examples/file.c
+  build values -O1 tool/tests/values.c tool/show.c $shared
+  build fields -O1 tool/tests/fields.c tool/show.c $shared
   build stack -O1 -fno-optimize-sibling-calls -Wl,-z,now tool/tests/stack.c $shared
   # under an emulator the sanitizers do not run
   sanitizers='-fsanitize=address,undefined -fno-sanitize-recover=all'
   [ -z "${OLLSKUVAN_EMULATED:-}" ] || sanitizers=
-  build damage -O1 $sanitizers tool/tests/damage.c tool/commands/dump.c \
-    tool/commands/journal.c tool/ring/show.c words/ollskuvan_words.c $shared
+  build damage -O1 $sanitizers tool/tests/damage.c tool/dump.c \
+    tool/journal.c tool/show.c words/ollskuvan_words.c $shared
   # the controller's own file in the test, with what else the command is made of
-  commands=$(ls target/tool/objects/*/*.o | grep -v -e '/record_command\.o$' -e '/main\.o$')
-  ${CC:-cc} -std=c11 -Wall -Wextra -Werror -g -O1 -Iinclude -Iwords $folders -o $out/gaps tool/tests/gaps.c $commands $archives -lm ||
+  commands=$(ls target/tool/commands/*.o | grep -v '/record_command\.o$')
+  ${CC:-cc} -std=c11 -Wall -Wextra -Werror -g -O1 -Iinclude -Iexamples -o $out/gaps tool/tests/gaps.c $commands $archives -lm ||
     { echo "tool/test.sh: gaps does not build"; exit 1; }
-  build tracepoints -O1 $sanitizers tool/tests/tracepoints.c tool/ring/tracepoint.c tool/ring/about.c tool/shared/file.c \
-    tool/shared/memory.c tool/shared/messages.c tool/shared/text.c
   build stores-checked -O1 $sanitizers $steps tool/tests/stores.c \
-    tool/live/settings.c tool/shared/file.c
+    examples/settings.c examples/file.c
 }
 
 # ---- the header's constants and the one table of words
@@ -85,7 +82,7 @@ mkdir -p $out/indexed && $out/values indexed $out/indexed || wrong "the images w
 $out/values dirty $out/made || wrong "the image of dirty names"
 $out/values check >$out/values.txt || { wrong "the header's sentences on values"; head $out/values.txt; }
 tail -n 1 $out/values.txt
-$out/stack rings/*.img rings/events/*.img rings/backward/*.img rings/kiln/*.img $out/made/*.img $out/indexed/*.img ||
+$out/stack rings/*.img rings/events/*.img rings/backward/*.img examples/rings/*.img $out/made/*.img $out/indexed/*.img ||
   wrong "a call uses more stack than the header says"
 
 # ---- every ring: dump beside ringdump, from a file and from standard input
@@ -99,7 +96,7 @@ entries() { # the same of ringdump: bytes 4 and 5, 6 and 7 of each entry
        function two(at) { return digit(at) * 16 + digit(at + 1) + 256 * (digit(at + 2) * 16 + digit(at + 3)) }
        /^1/ { print two(9), two(13) }'
 }
-for image in rings/*.img rings/kiln/*.img $out/made/*.img; do
+for image in rings/*.img examples/rings/*.img $out/made/*.img; do
   name=$(basename "$image" .img)
   target/bin/ringdump <"$image" >$out/ringdump.txt
   $tool journal "$image" >$out/journal.txt || wrong "journal $image failed"
@@ -751,25 +748,13 @@ told=$($tool explain --all | sed -n 's/^[a-z]* \([0-9]*\):.*/\1/p' | sort -un | 
 $tool explain 43 | grep -q "^refusal 43: the value has a name's flag set" || wrong "explain 43"
 $tool explain 44 | grep -q '^answer 44: accepted, with stale bytes after the name' || wrong "explain 44 as no refusal"
 
-# ---- report and record; tests/live has the reports
-$tool report rings/kiln/kiln-cpu0.img rings/kiln/kiln-cpu1.img >$out/report.txt || wrong "report failed"
-cmp -s tests/live/expected/kiln.txt $out/report.txt || wrong "the report of the kiln rings is another one"
-$tool late rings/kiln/kiln-cpu0.img rings/kiln/kiln-cpu1.img | cmp -s - $out/report.txt || wrong "late is not report"
+# ---- report and record are the examples' own
+[ ! -x target/examples/late ] || {
+  $tool report examples/rings/kiln-cpu0.img examples/rings/kiln-cpu1.img >$out/report.txt || wrong "report failed"
+  target/examples/late examples/rings/kiln-cpu0.img examples/rings/kiln-cpu1.img | cmp -s - $out/report.txt ||
+    wrong "report is not what late prints"
+}
 $tool report $out/49.img >/dev/null 2>&1 && wrong "report of no image"
-kiln='rings/kiln/kiln-cpu0.img rings/kiln/kiln-cpu1.img'
-$tool report --json $kiln >$out/account.json || wrong "report --json failed"
-$tool report --json-to $out/beside.json $kiln | cmp -s - $out/report.txt || wrong "report --json-to prints another report"
-cmp -s $out/account.json $out/beside.json || wrong "report --json-to writes something else than --json prints"
-$tool report --short --json $kiln >$out/brief.json || wrong "report --short --json failed"
-python3 - $out/account.json $out/brief.json <<'BRIEF' || wrong "report --short --json: not the account without pieces and states"
-import json, sys
-whole, brief = (json.load(open(name)) for name in sys.argv[1:])
-del whole['cpus']
-whole['threads'] = [{k: v for k, v in t.items() if k != 'states'} for t in whole['threads'] if t['states']]
-sys.exit(whole != brief or not brief['threads'])
-BRIEF
-$tool report --json-to $out/none/account.json $kiln >$out/none.txt 2>$out/none.err && wrong "report --json-to into no folder"
-[ ! -s $out/none.txt ] && grep -q 'none/account.json: ' $out/none.err || wrong "report --json-to into no folder: not said before the report"
 $tool record --seconds 0.2 --save $out/live >$out/record.txt 2>&1
 case $? in
   0)
@@ -796,18 +781,13 @@ case $? in
   0)
     for image in $out/several-cpu*.img; do
       $tool dump "$image" >$out/live.txt || wrong "dump of $image, taken live"
-      grep -q -E 'a table of (3|6) events$' $out/live.txt || wrong "dump of $image, taken live: without its table"
+      grep -q 'a table of 3 events$' $out/live.txt || wrong "dump of $image, taken live: without its table"
       grep -q ' bytes, 0 refused$' $out/live.txt || wrong "dump of $image, taken live: records are refused"
     done
     ;;
   3) ;;
   *) wrong "record --events failed: $(tail -n 1 $out/record.txt)" ;;
 esac
-
-# ---- formats of tracepoints, and what is noted beside an image
-mkdir -p $out/noted && $out/tracepoints $out/noted >$out/tracepoints.txt 2>&1 ||
-  { wrong "formats of tracepoints, or what is noted beside an image"; head $out/tracepoints.txt; }
-tail -n 1 $out/tracepoints.txt
 
 # ---- settings that are kept: written at a start, started from, and replaced by nothing that is none
 kept=$stores/live
@@ -846,8 +826,34 @@ other sampled 72 '\011'
 starts $stores/sampled 'event 1, number 9, is none that this program opens'
 refuses 2 "--settings: a file is wanted, not '-'" record --settings -
 
+# ---- examples/decode.c on this kernel: a program that starts on cpu 0 is named, mapped and switched to. A busy machine may take
+# longer than the second that it looks: three tries
+decodes() {
+  timeout 1 target/examples/decode 0 >$out/decode.txt 2>$out/decode.err &
+  for _ in 1 2 3 4 5; do sleep 0.1; taskset -c 0 /bin/true; done
+  wait $!
+  ended=$?
+  missing=
+  if [ $ended -eq 124 ]; then
+    for words in ' is called true$' ' maps .*/true$' ' in$' ' out$'; do
+      grep -q -- "$words" $out/decode.txt || missing="$missing '$words'"
+    done
+    [ -z "$missing" ]
+  fi
+}
+if [ -x target/examples/decode ]; then
+  decodes || decodes || decodes
+  if [ $ended -eq 1 ] && grep -qE 'ermi|not implemented|No such file' $out/decode.err; then
+    echo "decode: not tried live: $(cat $out/decode.err)"
+  elif [ $ended -ne 124 ]; then
+    wrong "decode ended with $ended: $(cat $out/decode.err)"
+  elif [ -n "$missing" ]; then
+    wrong "decode does not print$missing"
+  fi
+fi
+
 # ---- damaged images under the sanitizers
-$out/damage ${DAMAGED:-1000} $out/damaged.img rings/*.img rings/backward/*.img rings/kiln/*.img $out/made/*.img $out/indexed/*.img 2>$out/damage.txt ||
+$out/damage ${DAMAGED:-1000} $out/damaged.img rings/*.img rings/backward/*.img examples/rings/*.img $out/made/*.img $out/indexed/*.img 2>$out/damage.txt ||
   { wrong "dump or journal of a damaged image: $(head -n 20 $out/damage.txt)"; }
 said=$(grep -E 'runtime error|Sanitizer' $out/damage.txt | head -n 3)
 [ -z "$said" ] || wrong "the sanitizers: $said"

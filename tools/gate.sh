@@ -1,6 +1,7 @@
 #!/usr/bin/env bash
-# The gate. `rt ci` proves every listed crate from nothing, tries each must-fail edit and runs the programs; then the tests from outside run
-# on what it built. The last line is 'N passed, M failed': rt ci's own where everything else passed too, else one that counts the failure.
+# The gate. `rt ci` proves every listed crate, tries each must-fail edit and runs the programs (what an earlier run on this machine passed over the
+# same files stands as kept); then the library and ringdump are compiled from what it proved, and the tests from outside run on them. The last line is
+# 'N passed, M failed': rt ci's own where everything else passed too, else one that counts the failure.
 set -u
 cd "$(dirname "$0")/.." || exit 2
 log=$(mktemp) || exit 2
@@ -51,7 +52,7 @@ part() {
 }
 # a part that runs beside the next one, where neither writes what the other reads; its words are shown when both are done
 said=$(mktemp) || exit 2
-SKIPPED_TO=$(mktemp) || exit 2 # what the boards and the kernels leave out is said once more in the last lines
+SKIPPED_TO=$(mktemp) || exit 2 # what is left out of the boards is said once more in the last lines
 export SKIPPED_TO
 trap 'rm -rf "$log" "$said" "$SKIPPED_TO" "$folder"' EXIT
 beside() {
@@ -64,19 +65,11 @@ both_done() {
   cat "$said"
   [ "$status" -eq 0 ] || exit 1
 }
-part 'the tree itself' env TMPDIR="$there" bash tools/selfcheck.sh
-# while the move to today's toolchain is not done, the parts that stand on compiled code are left out; the page names each of them
-if [ -e PORTING-LEFT.md ]; then
-  echo 'left out, as PORTING-LEFT.md tells: each wrong reader where it is wrong, the library for C, and every part from outside'
-  echo "all in $(($(date +%s) - began)) s"
-  case "$last" in
-    *' passed, 0 failed') echo "$last" ;;
-    *) echo '0 passed, 1 failed'; exit 1 ;;
-  esac
-  exit 0
-fi
 part 'each wrong reader where it is wrong' python3 tools/refused.py
+part 'the program ringdump' env TMPDIR="$there" bash tools/library.sh ringdump
+beside 'the tree itself' env TMPDIR="$there" bash tools/selfcheck.sh
 part 'the library for C' env TMPDIR="$there" bash tools/library.sh
+both_done
 # compiled code is for x86-64: elsewhere it is built and run by an emulator, with fewer random cases, or not at all
 if ! sh tools/x86.sh native; then
   if ! sh tools/x86.sh ready; then
@@ -91,16 +84,11 @@ beside 'careful C beside ours' bash bench/run.sh --short
 part 'tests from outside' bash tests/run.sh
 both_done
 part 'the program for people' make -s tool-test
-part 'reports' make -s report-test
-part "perf's own files" make -s perf-test
-part 'the page in a browser' make -s page-test
 part 'examples' make -s examples-test
 part 'the page for controllers' make -s snippets-test
 part 'other boards' bash tests/boards/run.sh
 part 'live rings' make -s live-test
-part 'live rings of other kernels' bash tests/kernels/run.sh $(tests/kernels/run.sh list | grep -v 16k) # that one's package is large
 part 'the package' make -s install-test
-part 'Debian packages' make -s deb-test
 echo "all in $(($(date +%s) - began)) s"
 cat "$SKIPPED_TO"
 case "$last" in

@@ -202,15 +202,14 @@ library_for() { # TARGET INTO
 }
 
 programs_for() { # TARGET INTO
-  local folder folders include=() sources=()
+  local sources
   object "$1" ringdump "$2/ringdump.o"
   "$gcc" -std=gnu99 -Wall -Wextra -Werror -O2 -o "$2/ringdump" "$2/ringdump.o" narrow/ringdump.c
-  # the program's files, by the folders that its own rules name; two at a time, and the first that fails ends it
-  folders=$(sed -n 's/^TOOL_FOLDERS = //p' tool/Makefile.inc)
-  for folder in $folders; do include+=("-Itool/$folder") && sources+=("tool/$folder"/*.c); done
-  [ ${#sources[@]} -gt 0 ] || die "tool/Makefile.inc names no folders of the program"
-  printf '%s\0' "${sources[@]}" | xargs -0 -n 1 -P 2 sh -c 'gcc=$0 into=$1 source=$2; shift 2
-    "$gcc" -std=c11 -Wall -Wextra -Werror -O2 -g -Iinclude -Iwords '"${include[*]}"' -c -o "$into/$(echo "$source" | tr / -).o" "$source" || exit 255' "$gcc" "$work" ||
+  # the program's files, as its own rules name them; two at a time, and the first that fails ends it
+  mapfile -t sources < <(make -s --no-print-directory -C examples command-sources | tr ' ' '\n')
+  [ ${#sources[@]} -gt 0 ] || die "examples/Makefile names no files of the program's commands"
+  printf '%s\0' tool/*.c "${sources[@]/#/examples/}" | xargs -0 -n 1 -P 2 sh -c 'gcc=$0 into=$1 source=$2; shift 2
+    "$gcc" -std=c11 -Wall -Wextra -Werror -O2 -g -Iinclude -Iwords -Iexamples -c -o "$into/tool-$(echo "$source" | tr / -).o" "$source" || exit 255' "$gcc" "$work" ||
     die "the program does not compile for $1"
   "$gcc" -o "$2/ollskuvan" "$work"/tool-*.o "$2/libollskuvan_words.a" "$2/libollskuvan.a" -lm
 }

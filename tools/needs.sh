@@ -4,7 +4,7 @@
 #   tools/needs.sh run     the toolchain
 #   tools/needs.sh test    the toolchain and Debian's packages for the tests
 #   tools/needs.sh line    prints the line that installs these packages
-#   tools/needs.sh boards  prints the line that installs what the tests of other boards and kernels take; with CI=true `test` does it
+#   tools/needs.sh boards  prints the line that installs what the tests of other boards take; with CI=true `test` does it
 #
 # A package that is missing is installed where this may be done (root, apt-get); elsewhere the line is printed and the
 # status is 1. On a machine that is not x86-64 tools/x86.sh adds cross compilers and an emulator for the tests. valgrind
@@ -13,9 +13,9 @@
 set -u
 cd "$(dirname "$0")/.." || exit 2
 line='apt-get install -y gcc libc6-dev make python3 rustc pkg-config valgrind'
-# what the tests of other boards and of other kernels take: without it they are skipped with a word
+# what the tests of other boards take: without it they are skipped with a word
 boards='gcc-aarch64-linux-gnu libc6-dev-arm64-cross gcc-riscv64-linux-gnu libc6-dev-riscv64-cross gcc-arm-linux-gnueabihf libc6-dev-armhf-cross'
-boards_line="apt-get install -y --no-install-recommends $boards qemu-user qemu-system-arm qemu-system-x86 ipxe-qemu seabios cpio"
+boards_line="apt-get install -y --no-install-recommends $boards qemu-user"
 cc=${CC:-cc}
 rustc=${RUSTC:-rustc}
 
@@ -68,23 +68,14 @@ packages() {
   [ -z "$(wanted)" ] || say "valgrind is missing: its part of the tests will be skipped"
 }
 
-# What the page and its browser need, and perf itself, where a machine is there for tests alone.
-page_line='apt-get install -y --no-install-recommends clang-19 lld-19 wasi-libc libclang-rt-19-dev-wasm32 chromium linux-perf'
-page() {
-  [ "${CI:-}" = true ] && [ "$(id -u)" -eq 0 ] && have apt-get && sh tools/x86.sh native || return 0
-  if sh tools/page.sh needs 2>/dev/null && have chromium && have perf; then return 0; fi
-  export DEBIAN_FRONTEND=noninteractive
-  $page_line >&2 || { apt-get update >&2 && $page_line >&2; } || say "the page, its browser or perf: not everything could be installed"
-}
-
 # Cross compilers and emulators, where a machine is there for tests alone.
 boards() {
   [ "${CI:-}" = true ] && [ "$(id -u)" -eq 0 ] && have apt-get && sh tools/x86.sh native || return 0
-  for tool in aarch64-linux-gnu-gcc riscv64-linux-gnu-gcc arm-linux-gnueabihf-gcc qemu-aarch64 qemu-system-aarch64 qemu-system-x86_64 cpio; do
+  for tool in aarch64-linux-gnu-gcc riscv64-linux-gnu-gcc arm-linux-gnueabihf-gcc qemu-aarch64 qemu-riscv64 qemu-arm; do
     have $tool && continue
     export DEBIAN_FRONTEND=noninteractive
     # shellcheck disable=SC2086
-    $boards_line >&2 || { apt-get update >&2 && $boards_line >&2; } || say "other boards and kernels: not everything could be installed"
+    $boards_line >&2 || { apt-get update >&2 && $boards_line >&2; } || say "other boards: not everything could be installed"
     return 0
   done
 }
@@ -92,7 +83,7 @@ boards() {
 case ${1:-} in
   run) toolchain ;;
   test)
-    toolchain && packages && boards && page
+    toolchain && packages && boards
     # where it is not ready the gate says what it left out
     sh tools/x86.sh native || sh tools/x86.sh ready || true
     ;;

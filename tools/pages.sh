@@ -7,7 +7,7 @@ bad=0
 say() { printf 'pages: %s\n' "$*"; bad=1; }
 
 # tools/wrap.py wraps them
-for page in *.md docs/*.md docs/landings/*.md tests/cases/README.md rings/README.md examples/README.md tool/README.md tests/live/README.md; do
+for page in *.md docs/*.md docs/landings/*.md tests/cases/README.md rings/README.md examples/README.md; do
   [ "$page" = docs/PORT.md ] && continue # its statements stand as they are
   wide=$(grep -nE '^.{121,}' "$page" | cut -d: -f1 | tr '\n' ' ')
   [ -z "$wide" ] || say "$page has lines above 120 columns: $wide"
@@ -24,7 +24,7 @@ else
   echo "pages: target/bin/ringdump is not built: README's lines of make run are not compared"
 fi
 while read -r line; do
-  grep -qxF "$line" tests/live/expected/kiln.txt || say "README shows a line that the report does not print: $line"
+  grep -qxF "$line" examples/expected/kiln.txt || say "README shows a line that the report does not print: $line"
 done < <(sed -n 's/^    \(late: .*\)/\1/p' README.md)
 
 # files and folders that README and CONTRIBUTING name; a name in capitals stands for any

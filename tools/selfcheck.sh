@@ -32,10 +32,15 @@ done)
 for entry in $named $exports; do
   grep -qx "$entry refuses" <(public "${entry%%::*}") || say "an entry point asks, or is not there: $entry"
 done
-# each proof says in its first line why it holds
+# each proof says in its first line why it holds; no crate takes a law out of another crate's proofs, but for the statements that moved there from specs/
 for f in $(find crates -name out -prune -o \( -name Answers.antt -o -name Proof.antt \) -print); do
   head -n 1 "$f" | grep -q '^-- ' || say "$f does not say in its first line why it holds"
 done
+moved=$(sed -n 's/^### \([a-z0-9_]*\): .* to proofs\/\([A-Za-z0-9]*\)\.antt$/\1\/\2/p' docs/PORT.md | sort -u)
+[ "$(wc -w <<<"$moved")" -ge 100 ] || say "docs/PORT.md's list of the files that moved was not read"
+borrowed=$(grep -roE --include='*.antt' --include='*.rt' --exclude-dir=out '^ *(pub )?(ghost )?use Rattle\.[a-z0-9_]+\.proofs\.[A-Za-z0-9]+' crates |
+  sed -E 's/^crates\/([a-z0-9_]+)\/.*use Rattle\.([a-z0-9_]+)\.proofs\.(.*)/\1 \2 \3/' | awk '$1 != $2 && $2 != "std" { print $2 "/" $3 }' | sort -u | comm -23 - <(echo "$moved"))
+[ -z "$borrowed" ] || say "laws that are taken out of another crate's proofs: $(tr '\n' ' ' <<<"$borrowed")"
 python3 tools/chains.py --check || say 'crates layouts, sample_fills and chains are not what their script writes'
 python3 tools/write_chains.py --check || say 'crates sample_fits, fit_chains, sample_puts and put_chains are not what their script writes'
 bash tools/uniqueness.sh || say 'a public function has no theorem of uniqueness'

@@ -37,6 +37,7 @@ there=()
 for target in "$@"; do
   missing=
   for tool in "$target-gcc" "$(column "$target" 3)"; do command -v "$tool" >/dev/null || missing="$missing $tool"; done
+  [ -n "$missing" ] || echo '#include <stdlib.h>' | "$target-gcc" -E - >/dev/null 2>&1 || missing=" its C library"
   if [ -n "$missing" ]; then
     skip "$target skipped: missing$missing (apt-get install -y qemu-user $(tools/library.sh packages "$target"))"
   else
@@ -173,12 +174,13 @@ sums() { # TARGET
 }
 
 # ---- 4. the programs: what this machine's own print, they print
+shipped_rings() { find rings examples/rings -name '*.img' | LC_ALL=C sort; }
 program_inputs() {
-  local ring
-  for ring in rings/*.img rings/*/*.img; do
+  local ring kiln=examples/rings/kiln-cpu
+  for ring in $(shipped_rings); do
     printf '%s\n' "dump $ring" "journal $ring" "dump --edition 2 $ring"
   done
-  printf '%s\n' 'report rings/kiln/kiln-cpu0.img rings/kiln/kiln-cpu1.img' 'report --short rings/kiln/kiln-cpu0.img' "report --svg /dev/stdout rings/kiln/kiln-cpu0.img" \
+  printf '%s\n' "report ${kiln}0.img ${kiln}1.img" "report --short ${kiln}0.img" "report --svg /dev/stdout ${kiln}0.img" \
     'compare rings/tasks.img rings/tasks-plain.img' 'compare rings/tasks.img rings/tasks.img' 'settings tests/stores/version-1.store' 'settings tests/stores/version-2.store' \
     "dump $out/cut.img" "dump $out/none.img" "report $out/cut.img" "salvage" 'explain 13' 'explain 99' '--help' '--version' 'dump --edition 9 rings/tasks.img' nonsense
 }
@@ -192,12 +194,13 @@ programs() { # TARGET
     { emulate "$target" "target/boards/$target/ollskuvan" $line; echo "status $?"; } >"$out/$target.txt" 2>&1 </dev/null || true
     cmp -s "$out/$target-own.txt" "$out/$target.txt" || { diff "$out/$target-own.txt" "$out/$target.txt" | head -n 10; stop "$target: ollskuvan $line prints something else"; }
   done < <(program_inputs)
-  for ring in rings/*.img rings/*/*.img $out/cut.img; do
+  for ring in $(shipped_rings) $out/cut.img; do
     tried=$((tried + 1))
     target/bin/ringdump <"$ring" >"$out/$target-own.txt" || true
     emulate "$target" "target/boards/$target/ringdump" <"$ring" >"$out/$target.txt" || true
     cmp -s "$out/$target-own.txt" "$out/$target.txt" || stop "$target: ringdump prints something else of $ring"
   done
+  [ $tried -gt 100 ] || stop "$target: the shipped rings were not found"
   echo "$target: $tried runs of ollskuvan and ringdump, all print what this machine's print"
 }
 

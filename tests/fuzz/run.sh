@@ -9,7 +9,7 @@
 #                                         FIRST=25 begins with number 25
 #
 # With OLLSKUVAN_EMULATED (tools/x86.sh) it is built for x86-64 and run under the emulator, without the address sanitizer,
-# which does not work there: the pages that cannot be touched do. With NATIVE=1 it takes the library that tools/library.sh
+# which does not work there: the pages that cannot be touched do. With NATIVE=1 it takes the library that tools/native.sh
 # built for this machine, with both sanitizers: the same code for another processor, many more executions in a second.
 #
 # With LIGHT=1 it is built in target/fuzz-light without the address sanitizer and without a call at each comparison, and
@@ -33,8 +33,7 @@ out=target/fuzz
 archive=target/staticlib/libollskuvan.a
 program=target/obj/ringdump.o
 if [ -n "${NATIVE:-}" ]; then
-    board=target/boards/$(uname -m)-linux-gnu
-    out=target/native/fuzz archive=$board/libollskuvan.a program=$board/ringdump.o
+    out=target/native/fuzz archive=target/native/libollskuvan.a program=target/native/ringdump.o
 fi
 max_len=${MAX_LEN:-1200}
 rustc=${RUSTC:-rustc}
@@ -101,7 +100,7 @@ echo 'int LLVMFuzzerTestOneInput(const char *b, unsigned long n) { return !b && 
 # shellcheck disable=SC2086
 clang $machine -fsanitize=$sanitizers -o "$out/probe" "$out/probe.c" 2>/dev/null ||
     skip "clang has no sanitizer libraries (Debian: apt-get install libclang-rt-$number-dev$of)"
-[ -f "$archive" ] || stop "$archive is missing: run 'make lib' first"
+[ -f "$archive" ] || stop "$archive is missing: run 'make lib' (with NATIVE tools/native.sh) first"
 [ -f "$program" ] || stop "$program is missing: run 'make run' first"
 
 libraries="-lpthread -ldl -lm"

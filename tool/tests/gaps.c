@@ -1,10 +1,9 @@
 /*
  * What the controller gives up at a stop that no later call gets past: a gap is
  * counted at each, its bytes at 5, 6 and 7, and none at 4, where head and tail are
- * no two counts of one ring. The tail goes on at the head. And heads of a kernel of
- * 32 bits, which counts in 32.
+ * no two counts of one ring. The tail goes on at the head.
  */
-#include "../commands/record_command.c"
+#include "../../examples/record_command.c"
 
 static int wrongs;
 
@@ -14,29 +13,6 @@ static void due(const char *what, uint32_t stop, uint64_t is, uint64_t wanted)
         return;
     fprintf(stderr, "WRONG: gaps: stop %u: %s %llu, not %llu\n", (unsigned)stop, what, (unsigned long long)is, (unsigned long long)wanted);
     wrongs++;
-}
-
-static void heads(void)
-{
-    static const struct {
-        uint64_t head, tail, wide;
-        bool backward;
-    } rows[] = {
-        { 0, 0, 0, false },
-        { 96, 32, 96, false },
-        { 0xffffffe0, 0xfffff000, 0xffffffe0, false },
-        { 0x20, 0xfffffff0, UINT64_C(0x100000020), false }, /* it has gone round once */
-        { 0x20, UINT64_C(0x2fffffff0), UINT64_C(0x300000020), false },
-        { 0, UINT64_C(0xfffffffffffffff0), 0, false },
-        { UINT64_C(0x100000020), UINT64_C(0xfffffff0), UINT64_C(0x100000020), false }, /* a kernel of 64 bits */
-        { 0, 0, 0, true },
-        { 0xffffffe0, 0, UINT64_C(0xffffffffffffffe0), true },
-        { 0x1000, 0, UINT64_C(0xffffffff00001000), true },
-        { UINT64_C(0xffffffffffffffe0), 0, UINT64_C(0xffffffffffffffe0), true },
-        { UINT64_C(0xfffffffe00001000), 0, UINT64_C(0xfffffffe00001000), true },
-    };
-    for (size_t i = 0; i < sizeof rows / sizeof rows[0]; i++)
-        due("head", 0, head_widened(rows[i].head, rows[i].tail, rows[i].backward), rows[i].wide);
 }
 
 int main(void)
@@ -71,7 +47,6 @@ int main(void)
     }
     due("digits in the text", OLLSKUVAN_STOP_DISTANCE, strpbrk(gap_text(OLLSKUVAN_STOP_DISTANCE, 24, text), "0123456789") != NULL, 0);
     due("text", OLLSKUVAN_STOP_SIZE, strcmp(gap_text(OLLSKUVAN_STOP_SIZE, 24, text), "24 bytes") != 0, 0);
-    heads();
     free(ring);
     free(c);
     return wrongs != 0;

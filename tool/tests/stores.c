@@ -1,5 +1,5 @@
 /*
- * Stores in files, as tool/live/settings.c keeps them: the program ends, or a call
+ * Stores in files, as examples/settings.c keeps them: the program ends, or a call
  * fails, at each step of a writing, and what can be read afterwards is the old
  * store or the new one, whole. And what is wrong with a store, of files that are
  * named, under the sanitizers.

@@ -1,5 +1,4 @@
-// A lent list of events as structs, and thin functions over it. The borrow checker covers no function that has a `&[Event]`,
-// so each is proved by hand. What is done with an event is a function that takes it by value.
+// A lent list of events as structs, and thin functions over it. What is done with an event is a function that takes it by value.
 #![tactic(auto)]
 
 ghost use Rattle.std.specs.Prelude.{◌≡◌, length};

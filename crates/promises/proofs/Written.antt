@@ -22,7 +22,8 @@ use Rattle.laws.specs.Answer42.{bytes_of, accepted, buffer-holds, buffer-kept, f
 use Rattle.editions.proofs.OneRecord.{first_else}
 use Rattle.promises.proofs.Checked.{foremost, first-exactly}
 use Rattle.promises.proofs.Exported.{few, few-buffer, write-accepted, holds-record}
-use Rattle.promises.proofs.WriterRows.{write_rows, last-rows}
+use Rattle.promises.specs.Written.{write_rows}
+use Rattle.promises.proofs.WriterRows.{last-rows}
 
 -- ---- the buffer
 

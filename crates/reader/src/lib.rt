@@ -145,7 +145,7 @@ fn header_of(kind: Field, misc: Field, size: Field) -> Header
     }
 }
 
-// ---- over the struct: thin, each proved by a walk
+// ---- over the struct: thin
 
 impl<'a> Reader<'a> {
     // A reader of a record, at its first byte.

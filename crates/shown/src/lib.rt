@@ -18,7 +18,7 @@ pub struct Shown<'a> {
     pub stop: u16,
 }
 
-// ---- thin, each proved by a walk
+// ---- thin
 
 // A stop shows an empty part of the ring.
 pub fn show<'a>(ring: &'a [u8], scratch: &'a [u8], f: Frame) -> Shown<'a>

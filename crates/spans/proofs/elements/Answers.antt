@@ -26,4 +26,4 @@ returns-then-most-n c =
 pub overflow_mul-n : goal.overflow_mul-n
 overflow_mul-n c =
     let a = c.args in
-    omega (arith, within a.n a.k c.left.result (omega arith) c.if-most-n.false, c.left.ensures)
+    omega (arith, within a.n a.k c.left.result (omega arith) (omega arith), c.left.ensures)
