@@ -240,6 +240,12 @@ ours() {
   flat "$work/periodic.txt" | awk -v who="$1/$1" -v base="$base" '$3 == "in" && index($0, " " who " ") && $(NF - 2) ~ /^(slept|waited)$/ {
     printf "%.6f %s %s\n", base + $1 / 1000, $(NF - 1), $(NF - 2) }'
 }
+# the spans in which perf's records lack a switch to this thread: it leaves a cpu twice and has not come back between
+untold() {
+  perf script -i "$work/perf.data" -F time,event,trace 2>/dev/null | awk -v tid="$1" '/sched:sched_switch:/ { at = $1; sub(/:$/, "", at)
+    if (index($0, " next_pid=" tid " ")) back = 1
+    if (index($0, " prev_pid=" tid " ")) { if (out != "" && !back) print out, at; out = at; back = 0 } }'
+}
 beside_perf() {
   local heater status
   record_it periodic perf sched record -k CLOCK_MONOTONIC -o "$work/perf.data" --
@@ -250,7 +256,9 @@ beside_perf() {
   explain periodic --watch "$heater"
   perfs "$heater" >"$work/perf.waits"
   grep -q -i lost "$work/perf.err" && { why="perf lost records"; return 2; }
-  ours "$heater" >"$work/our.waits"
+  untold "$heater" >"$work/perf.untold"
+  ours "$heater" | awk -v spans="$work/perf.untold" 'BEGIN { while ((getline line <spans) > 0) { split(line, span); from[++n] = span[1]; to[n] = span[2] } }
+    { for (i = 1; i <= n; i++) if ($1 >= from[i] && $1 <= to[i]) next; print }' >"$work/our.waits"
   awk 'NR == FNR { at[++n] = $1; away[n] = $2; how[n] = $3; next }
     { best = 0; nearest = 0.001
       for (i = 1; i <= n; i++) { d = $1 - at[i]; if (d < 0) d = -d; if (d < nearest) { best = i; nearest = d } }

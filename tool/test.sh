@@ -764,7 +764,12 @@ case $? in
   *) wrong "record failed: $(tail -n 1 $out/record.txt)" ;;
 esac
 
-$tool record --seconds 0.2 --pages 1 --flight $out/flight >$out/record.txt 2>&1
+# (a cpu that sleeps all the while has nothing in its ring: each is woken until the time is up)
+$tool record --seconds 0.2 --pages 1 --flight $out/flight >$out/record.txt 2>&1 &
+while kill -0 $! 2>/dev/null; do
+  for cpu in $(seq 0 $(($(getconf _NPROCESSORS_ONLN) - 1))); do taskset -c "$cpu" true 2>/dev/null; done
+done
+wait $!
 case $? in
   0)
     for image in $out/flight-cpu*.img; do

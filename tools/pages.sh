@@ -17,7 +17,7 @@ done
 grep -qxF "    $(tools/needs.sh line)" README.md || say "README shows another line than: $(tools/needs.sh line)"
 if [ -x target/bin/ringdump ]; then
   ring=$(sed -n 's/^RING ?= //p' Makefile)
-  for line in "$(target/bin/ringdump <"$ring" | head -n 1)" "$(target/bin/ringdump <"$ring" | tail -n 1)"; do
+  for line in "$(target/bin/ringdump <"$ring" | sed -n 1p)" "$(target/bin/ringdump <"$ring" | tail -n 1)"; do
     grep -qxF "    $line" README.md || say "README does not show this line of make run: $line"
   done
 else

@@ -33,7 +33,9 @@ for entry in $named $exports; do
   grep -qx "$entry refuses" <(public "${entry%%::*}") || say "an entry point asks, or is not there: $entry"
 done
 # each proof says in its first line why it holds; no crate takes a law out of another crate's proofs, but for the statements that moved there from specs/
-for f in $(find crates -name out -prune -o \( -name Answers.antt -o -name Proof.antt \) -print); do
+for d in $(find crates -name out -prune -o \( -name Answers.antt -o -name Invariants.antt \) -printf '%h\n' | sort -u); do
+  f=$d/Answers.antt
+  [ -f "$f" ] || f=$d/Invariants.antt
   head -n 1 "$f" | grep -q '^-- ' || say "$f does not say in its first line why it holds"
 done
 moved=$(sed -n 's/^### \([a-z0-9_]*\): .* to proofs\/\([A-Za-z0-9]*\)\.antt$/\1\/\2/p' docs/PORT.md | sort -u)

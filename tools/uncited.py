@@ -11,8 +11,8 @@ import sys
 os.chdir(os.path.join(os.path.dirname(os.path.abspath(__file__)), '..'))
 ENDS = {'meaning', 'tables', 'promises', 'uniqueness'}
 WORD = re.compile(r"[^\s(){}\[\],;:`\"]+")
-# `use Rattle·laws.specs.Rings.{Going, distance-lt}`, `ghost use Rattle·ring·specs.specs.Part.{..};`, `use .. as lists`
-USE = re.compile(r'^\s*(?:ghost )?(?:pub )?use Rattle·(\w+)(?:·specs)?\.specs\.(\w+)(?:\.\{([^}]*)\}| as (\w+))', re.M)
+# `use Rattle.laws.specs.Rings.{Going, distance-lt}`, `ghost use Rattle.ring.specs.Part.{..};`, `use .. as lists`
+USE = re.compile(r'^\s*(?:ghost )?(?:pub )?use Rattle\.(\w+)\.(?:specs|proofs)\.(\w+)(?:\.\{([^}]*)\}| as (\w+))', re.M)
 LAW = re.compile(r'^\s*(?:abbrev |unfoldable )?pub ([^\s:]+) :', re.M)
 
 
@@ -57,7 +57,8 @@ for crate in crates:
         sys.exit(2)
 taken, left, looked = cited_elsewhere(), [], 0
 for crate in crates:
-    for path in glob.glob(f'crates/{crate}/specs/**/*.antt', recursive=True):
+    # (laws that an edit of a definition breaks stand in proofs/)
+    for path in glob.glob(f'crates/{crate}/specs/**/*.antt', recursive=True) + glob.glob(f'crates/{crate}/proofs/*.antt'):
         parts = re.split(r'\n\s*\n', open(path, encoding='utf-8').read())
         found = [words(code(part)) for part in parts]
         elsewhere = taken.get((crate, os.path.basename(path)[:-len('.antt')]), set())
