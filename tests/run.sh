@@ -158,6 +158,19 @@ part "the reader of one record: $((values / 5)) rings, seed $seed" \
     "$out/reader" ones --count $((values / 5)) --seed "$seed"
 # shellcheck disable=SC2086
 part "what ringdump prints" "$out/reader" images $ringdump --rings rings --folder "$out" --seed "$seed" --count 400
+# from a folder nothing can be read, a full device takes nothing, a pipe that is closed neither: a word, status 1, and no journal
+fails() { # INPUT OUTPUT
+    status=0
+    "$ringdump" <"$1" >"$2" 2>"$out/ringdump.err" || status=$?
+    [ $status -eq 1 ] && [ "$(cat "$out/ringdump.err")" = 'ringdump: a read or a write failed' ]
+}
+ringdump_fails() {
+    fails "$out" "$out/ringdump.out" && [ ! -s "$out/ringdump.out" ] || { echo "a read that fails is not told"; return 1; }
+    [ ! -c /dev/full ] || fails rings/switches.img /dev/full || { echo "a full device is not told"; return 1; }
+    { sleep 0.5; fails rings/switches.img /dev/stdout; echo $? >"$out/ringdump.closed"; } | true
+    [ "$(cat "$out/ringdump.closed")" = 0 ] || { echo "a pipe that is closed is not told"; return 1; }
+}
+[ $mode = standin ] || part "ringdump where a read or a write fails" ringdump_fails
 part "damaged real rings: 5000 cases, seed $seed" "$out/reader" damaged --rings rings --seed "$seed" --count 5000
 # under an emulator it is some forty times slower
 [ -z "${OLLSKUVAN_EMULATED:-}" ] && fuzzed=100000 || fuzzed=10000
