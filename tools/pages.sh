@@ -8,7 +8,7 @@ say() { printf 'pages: %s\n' "$*"; bad=1; }
 
 # tools/wrap.py wraps them
 for page in *.md docs/*.md docs/landings/*.md tests/cases/README.md rings/README.md examples/README.md; do
-  [ "$page" = docs/PORT.md ] && continue # its statements stand as they are
+  case $page in docs/PORT.md | docs/DESIGN-PASS.md) continue ;; esac # their statements stand as they are
   wide=$(grep -nE '^.{121,}' "$page" | cut -d: -f1 | tr '\n' ' ')
   [ -z "$wide" ] || say "$page has lines above 120 columns: $wide"
 done
