@@ -241,7 +241,8 @@ script
 head -c 3000 rings/tasks.img >$out/cut.img
 own_objects() { # the modules, compiled by this script for x86-64, are the objects of the proved archive
   mkdir -p $out/ours $out/proved
-  (cd $out/ours && ar x ../../x86_64-linux-gnu/libollskuvan.a) && (cd $out/proved && ar x ../../../staticlib/libollskuvan.a)
+  (cd $out/ours && ar x ../../x86_64-linux-gnu/libollskuvan.a) || stop "there is no archive for x86-64 made of the modules: tools/library.sh x86_64-linux-gnu"
+  (cd $out/proved && ar x ../../../staticlib/libollskuvan.a) || stop "there is no proved archive: tools/library.sh"
   diff -r $out/ours $out/proved >/dev/null || stop "the archive for x86-64 made of the modules is not the proved one"
   echo "x86_64-linux-gnu: made of the kept modules, each of its $(ls $out/ours | wc -l) objects is the proved archive's, byte for byte"
 }
