@@ -33,9 +33,10 @@ functions() { # FILE PREFIX
 theorems() { # CALL
   awk -v call=" $1." '
     function theorem() {
-      if (!index(text, call "Reads.Learnt")) return
+      said = text; gsub(/[(]/, " ", said) # of a generic function the contract stands in brackets, with its type
+      if (!index(said, call "Reads.Learnt")) return
       all++
-      if (text ~ /: Result / || text ~ /\(λ κs x s\. s[.0-9]*\.now\)/ || text ~ /\(λ κs x\. x\)/) whole++
+      if (text ~ /(:|→) Result / || text ~ /\(λ κs x s\. s[.0-9]*\.now\)/ || text ~ /\(λ κs x\. x\)/) whole++
     }
     /^ *pub / { theorem(); text = "" }
     { text = text " " $0 }

@@ -4,33 +4,34 @@
 ghost use Rattle.std.specs.Prelude.{◌≡◌, ◌≤◌, ◌<◌, length};
 ghost use Rattle.meaning.specs.Editions.{editions, known};
 ghost use Rattle.meaning.specs.Events.{events_of, inspected, judged, unasked, record_check_events};
+ghost use Rattle.meaning.specs.Reasons.{answer_of};
+ghost use Rattle.event_laws.specs.Match.{match_of, matched};
 ghost use Rattle.event_laws.specs.Told.{check_event_answer};
 
-use meaning::Judged;
+use meaning::{Judged, Reason};
 
-// 2, 11, then 7, 6, 7 as record check has them: what is asked before the record is looked at; else 0.
-pub fn unasked(r: &[u8], e: u64, rows: &[[u64; 7]], limit: u32) -> u16
-    ensures { result ≡ unasked limit editions e (events_of rows.now) r.now }
+// 2, 11, then 7, 6, 7 as record check has them: what is asked before the record is looked at.
+pub fn unasked(r: &[u8], e: u64, rows: &[[u64; 7]], limit: u32) -> Result<(), Reason>
+    ensures { answer_of result ≡ unasked limit editions e (events_of rows.now) r.now }
 {
     if !record::allowed(e) {
-        return 2;
+        return Err(Reason::UnknownEdition);
     }
     if !events::sound(rows, limit as usize) {
-        return 11;
+        return Err(Reason::BadTable);
     }
-    if r.len() < 8 {
-        return 7;
-    }
-    let size = wire::u16_at(r, 6);
-    let even = (8 <= size) & (size % 8 == 0);
-    if !even {
-        return 6;
-    }
-    let whole = size == r.len() as u64;
-    if !whole {
-        return 7;
-    }
-    0
+    answers::header_of_whole(r)?;
+    Ok(())
+}
+
+// What record check says under the attributes of the event that was found.
+fn check_found(r: &[u8], e: u64, rows: &[[u64; 7]], m: Result<usize, Reason>) -> Result<(), Reason>
+    requires { match_of m ≡ matched (known editions e) (events_of rows.now) r.now }
+    ensures { answer_of result ≡ check_event_answer editions e (events_of rows.now) r.now }
+{
+    let index = m?;
+    let own = events::attributes_at(rows, index);
+    record::or_dirty(fast_check::check(r, e, own), r, own)
 }
 
 // What record check says under the attributes of the record's event; and how many events were inspected to find it.
@@ -40,16 +41,9 @@ fn check_event(r: &[u8], e: u64, rows: &[[u64; 7]]) -> Judged
 {
     let m = event_judge::match_event(r, e, rows);
     let looked = event_judge::inspected(m, rows.len());
-    if m.answer != 0 {
-        return Judged {
-            answer: m.answer as u32,
-            inspected: looked,
-        };
-    }
-    let own = events::attributes_at(rows, m.index);
-    let answer = record::or_dirty(fast_check::check(r, e, own), r, own) as u32;
+    let answer = check_found(r, e, rows, m);
     Judged {
-        answer,
+        answer: meaning::answer_number(answer) as u32,
         inspected: looked,
     }
 }
@@ -58,12 +52,11 @@ fn check_event(r: &[u8], e: u64, rows: &[[u64; 7]]) -> Judged
 pub fn check_events(r: &[u8], e: u64, rows: &[[u64; 7]], limit: u32) -> Judged
     ensures { result ≡ record_check_events limit editions e (events_of rows.now) r.now }
 {
-    let why = unasked(r, e, rows, limit);
-    if why != 0 {
-        return Judged {
-            answer: why as u32,
+    match unasked(r, e, rows, limit) {
+        Ok(()) => check_event(r, e, rows),
+        Err(why) => Judged {
+            answer: why.number() as u32,
             inspected: 0,
-        };
+        },
     }
-    check_event(r, e, rows)
 }

@@ -12,8 +12,7 @@ use Rattle.laws.specs.Rows.{gives, before, Passed}
 use Rattle.laws.specs.Lookup.{rows-length as table-length}
 use Rattle.event_laws.specs.Sound.{sound-limit}
 use Rattle.settings.specs.declared.Settings.{Settings}
-use Rattle.settings.specs.declared.Version.{Version}
-use Rattle.settings.specs.Versions.{one, versions, version_of, is_known}
+use Rattle.settings.specs.Versions.{Version, one, versions, version_of, is_known}
 use Rattle.settings.specs.Reading.{shown, count_of, rows_of, refused, read_store, rows_after}
 use Rattle.settings.specs.Writing.{writes, store_bytes, write_rows, write_store, buffer_after}
 use Rattle.settings.proofs.Turns.{kept_rows, Words}

@@ -7,6 +7,7 @@ ghost use Rattle.replay.specs.Steps.{count_in, count_by, count_drain, lent, offe
 use meaning::Drained;
 use replay::Replayed;
 
+// kept: each sum asks for its own bound: Replayed is C's struct, and holds whatever C reads of it.
 fn count_in(s: Replayed, n: u64) -> Replayed
     requires entries_bound { s.entries + 1 < 2 ^ 64 }
     requires n_bound { s.offered_bytes + n < 2 ^ 64 }
@@ -16,14 +17,9 @@ fn count_in(s: Replayed, n: u64) -> Replayed
     Replayed {
         entries: s.entries + 1,
         offered_bytes: s.offered_bytes + n,
-        drained_bytes: s.drained_bytes,
-        dropped_bytes: s.dropped_bytes,
         held_bytes: ring::distance(head, s.tail),
-        taken: s.taken,
-        dropped: s.dropped,
         head,
-        tail: s.tail,
-        answer: s.answer,
+        ..s
     }
 }
 
@@ -37,14 +33,9 @@ fn count_by(s: Replayed, n: u64) -> Replayed
     Replayed {
         entries: s.entries + 1,
         offered_bytes: s.offered_bytes + n,
-        drained_bytes: s.drained_bytes,
         dropped_bytes: s.dropped_bytes + n,
-        held_bytes: s.held_bytes,
-        taken: s.taken,
         dropped: s.dropped + 1,
-        head: s.head,
-        tail: s.tail,
-        answer: s.answer,
+        ..s
     }
 }
 
@@ -55,18 +46,13 @@ pub fn count_drain(s: Replayed, d: Drained) -> Replayed
     requires taken_bound { s.taken + d.taken < 2 ^ 64 }
     ensures { result ≡ count_drain s d }
 {
-    let answer = s.answer;
     Replayed {
         entries: s.entries + 1,
-        offered_bytes: s.offered_bytes,
         drained_bytes: s.drained_bytes + d.bytes,
-        dropped_bytes: s.dropped_bytes,
         held_bytes: ring::distance(s.head, d.tail),
         taken: s.taken + d.taken,
-        dropped: s.dropped,
-        head: s.head,
         tail: d.tail,
-        answer,
+        ..s
     }
 }
 

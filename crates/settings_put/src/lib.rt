@@ -3,25 +3,11 @@
 
 ghost use Rattle.std.specs.Prelude.{◌≡◌, ◌+◌, ◌≤◌, length};
 ghost use Rattle.meaning.specs.Bytes.{spell, put};
-ghost use Rattle.settings.specs.Versions.{place_of};
+ghost use Rattle.settings.specs.Versions.{row_of, place_of};
 ghost use Rattle.settings.specs.Writing.{word_bytes, row_bytes, rows_bytes, last_bytes};
-ghost use Rattle.settings.specs.Narrow.{Narrow};
 
+use entries::EntryKind;
 use settings::Version;
-
-// Where the event entry of index n stands.
-pub fn place_of(v: Version, n: usize) -> usize
-    requires { Narrow v × (n ≤ 1024) }
-    ensures { result ≡ place_of v n }
-{
-    let mut i = 0;
-    let mut at = 8;
-    while i < n {
-        at += v.width + 54;
-        i += 1;
-    }
-    at
-}
 
 fn put_index(d: &mut [u8], at: usize, width: usize, n: usize)
     requires { (1 ≤ width) × (width ≤ 2) }
@@ -47,25 +33,21 @@ fn put_words(d: &mut [u8], at: usize, row: [u64; 7])
 }
 
 fn put_row(d: &mut [u8], at: usize, v: Version, n: usize, row: [u64; 7])
-    requires { Narrow v × (at + (v.width + 54) ≤ length d.old) }
-    ensures { d.new ≡ put d.old at (row_bytes v n row) }
+    requires { at + (v.width + 54) ≤ length d.old }
+    ensures { d.new ≡ put d.old at (row_bytes (row_of v) n row) }
 {
     let width = v.width;
-    entries::put_head(d, at, 2, width as u64 + 48);
+    entries::put_head(d, at, EntryKind::Event.number(), width as u64 + 48);
     put_index(d, at + 6, width, n);
     put_words(d, at + 6 + width, row);
 }
 
 pub fn put_rows(d: &mut [u8], v: Version, rows: &[[u64; 7]])
-    requires { Narrow v × (place_of v (length rows.now) ≤ length d.old) }
-    ensures { d.new ≡ put d.old 8 (rows_bytes v 0 rows.now) }
+    requires { place_of (row_of v) (length rows.now) ≤ length d.old }
+    ensures { d.new ≡ put d.old 8 (rows_bytes (row_of v) 0 rows.now) }
 {
-    let mut i = 0;
-    let mut at = 8;
-    while i < rows.len() {
-        put_row(d, at, v, i, rows[i]);
-        at += v.width + 54;
-        i += 1;
+    for (i, row) in rows.iter().enumerate() {
+        put_row(d, v.place_of(i), v, i, *row);
     }
 }
 
@@ -73,7 +55,7 @@ pub fn put_last(d: &mut [u8], at: usize, ring: u64, edition: u64, budget: u32)
     requires { at + 19 ≤ length d.old }
     ensures { d.new ≡ put d.old at (last_bytes ring edition budget) }
 {
-    entries::put_head(d, at, 3, 13);
+    entries::put_head(d, at, EntryKind::Last.number(), 13);
     put::put64(d, at + 6, ring);
     put::put8(d, at + 14, edition);
     put::put32(d, at + 15, budget as u64);

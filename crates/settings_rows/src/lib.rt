@@ -3,9 +3,8 @@
 
 ghost use Rattle.std.specs.Prelude.{◌≡◌, ◌++◌, ◌+◌, ◌≤◌, length, drop};
 ghost use Rattle.meaning.specs.Events.{identifiers, events_of, all_marked, sound};
-ghost use Rattle.settings.specs.Versions.{place_of};
+ghost use Rattle.settings.specs.Versions.{row_of, place_of};
 ghost use Rattle.settings.specs.Reading.{row_from, rows_of};
-ghost use Rattle.settings.specs.Narrow.{Narrow};
 
 use settings::Version;
 
@@ -27,43 +26,34 @@ fn row_at(bytes: &[u8], at: usize) -> [u64; 7]
 
 // The rows of the first n events into a table.
 pub fn fill_rows(bytes: &[u8], v: Version, n: usize, rows: &mut [[u64; 7]])
-    requires { Narrow v × (place_of v n ≤ length bytes.now) × (n ≤ length rows.old) }
-    ensures { rows.new ≡ rows_of v bytes.now n ++ drop n rows.old }
+    requires { (place_of (row_of v) n ≤ length bytes.now) × (n ≤ length rows.old) }
+    ensures { rows.new ≡ rows_of (row_of v) bytes.now n ++ drop n rows.old }
 {
-    let size = v.width + 54;
-    let mut i = 0;
-    let mut at = 8;
-    while i < n {
-        rows[i] = row_at(bytes, at + 6 + v.width);
-        at += size;
-        i += 1;
+    for i in 0..n {
+        rows[i] = row_at(bytes, v.place_of(i) + 6 + v.width);
     }
 }
 
 // The identifiers of the first n events of a store, and whether each has sample bit 16. No second table of rows is needed for
 // that, and the lent one stays as it is.
 fn list_events(bytes: &[u8], v: Version, n: usize, ids: &mut [u64]) -> bool
-    requires { Narrow v × (place_of v n ≤ length bytes.now) × (n ≤ length ids.old) }
-    ensures value { result ≡ all_marked (events_of (rows_of v bytes.now n)) }
-    ensures ids_after { ids.new ≡ identifiers (events_of (rows_of v bytes.now n)) ++ drop n ids.old }
+    requires { (place_of (row_of v) n ≤ length bytes.now) × (n ≤ length ids.old) }
+    ensures value { result ≡ all_marked (events_of (rows_of (row_of v) bytes.now n)) }
+    ensures ids_after { ids.new ≡ identifiers (events_of (rows_of (row_of v) bytes.now n)) ++ drop n ids.old }
 {
     let mut ok = true;
-    let mut i = 0;
-    let mut at = 8;
-    while i < n {
-        let p = at + 6 + v.width;
+    for i in 0..n {
+        let p = v.place_of(i) + 6 + v.width;
         ids[i] = wire::u64_at(bytes, p);
         ok = ok & wire::has_bit(wire::u64_at(bytes, p + 8), 16);
-        at += v.width + 54;
-        i += 1;
     }
     ok
 }
 
 // Row 11 for the first n events of a store.
 pub fn rows_sound(bytes: &[u8], v: Version, n: usize) -> bool
-    requires { Narrow v × (place_of v n ≤ length bytes.now) }
-    ensures { result ≡ sound v.limit (events_of (rows_of v bytes.now n)) }
+    requires { place_of (row_of v) n ≤ length bytes.now }
+    ensures { result ≡ sound v.limit (events_of (rows_of (row_of v) bytes.now n)) }
 {
     if n < 1 {
         return false;

@@ -3,7 +3,7 @@ use mathlib.Core.Path.{◌≡◌, refl, sym, ap, ◌∙◌, subst}
 use mathlib.Core.List.{List}
 use Prim.Native.Nat.{ℕ}
 use native.Mathlib.Omega.{arith}
-use lib.ListN.{length, get_or}
+use lib.ListN.{length}
 use borrow.Author.Rules.{rules}
 use Rattle.meaning.specs.declared.Attributes.{Attributes}
 use Rattle.meaning.specs.declared.Event.{Event}
@@ -14,12 +14,14 @@ use Rattle.laws.specs.Lookup.{rows-length}
 use Rattle.blocks.specs.Steady.{sizes-same}
 use Rattle.sums.specs.Sums.{sums_of}
 use Rattle.marks.specs.Marks.{Wanted, Marked, size-judged}
+use Rattle.slots.specs.declared.Slot.{Slot}
+use Rattle.slots.specs.declared.State.TheVariants.{InTable}
 use Rattle.slots.specs.Slots.{SlotOf, attributes_for}
 use Rattle.event_plan.proofs.found.Goals as goal
 
 -- the attributes at the noted index are the event's
-same : (k : Known) (es : List Event) (id : ℕ) (slot : List ℕ) (a : Attributes) → SlotOf k es id slot → get_or slot 1 0 ≡ 2
-    → a ≡ attributes_of (event_at es (get_or slot 5 0)) → a ≡ attributes_for es id
+same : (k : Known) (es : List Event) (id : ℕ) (slot : Slot) (a : Attributes) → SlotOf k es id slot → slot.state ≡ InTable
+    → a ≡ attributes_of (event_at es slot.index) → a ≡ attributes_for es id
 same k es id slot a held there is = is ∙ ap (λ (j : ℕ). attributes_of (event_at es j)) (held.index there).0
 
 pub returns-then-mark-r : goal.returns-then-mark-r
@@ -41,7 +43,7 @@ pub judge-requires : goal.judge-requires
 judge-requires c =
     let a = c.args in
     let m = c.mark_of-mark in
-    let e = same c.args.known (events_of c.args.rows.now) c.args.id c.args.slot.now c.attributes_at-a.result c.requires.slot_of c.requires.slot_value c.attributes_at-a.ensures in record { in_bounds = c.requires.in_bounds; r_len_bound = c.requires.r_len_bound; r_len = c.requires.r_len; kind_value = c.requires.kind_value; marked = subst (λ (x : Attributes). Marked a.known x a.kind m.result) (sym e) m.ensures; sums_value = c.unpacked-sums.ensures ∙ (c.requires.slot_of.planned c.requires.slot_value).sums ∙ ap sums_of (sym e) }
+    let e = same c.args.known (events_of c.args.rows.now) c.args.id c.args.slot.now c.attributes_at-a.result c.requires.slot_of c.requires.slot_value c.attributes_at-a.ensures in record { marked = subst (λ (x : Attributes). Marked a.known x a.kind m.result) (sym e) m.ensures; sums_value = c.unpacked-sums.ensures ∙ (c.requires.slot_of.planned c.requires.slot_value).sums ∙ ap sums_of (sym e) }
 
 pub returns : goal.returns
 returns c =

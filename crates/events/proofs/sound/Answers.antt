@@ -1,8 +1,6 @@
 -- Too few, too many, one without its marks; then identifiers that rise are distinct, and the others are asked.
 use mathlib.Core.Path.{sym, ◌∙◌}
 use native.Mathlib.Omega.{arith}
-use borrow.Author.Rules.{rules}
-use borrow.Author.Tests.{not-true, not-false}
 use Rattle.meaning.specs.Events.{events_of}
 use Rattle.laws.specs.Lookup.{rows-length}
 use Rattle.event_laws.specs.Rising.{rises-distinct}

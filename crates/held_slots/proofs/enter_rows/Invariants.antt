@@ -12,6 +12,3 @@ use Rattle.held_slots.proofs.enter_rows.Given as goal
 
 abbrev pub invariant-loop-i : goal.invariant-loop-i
 invariant-loop-i l = ((k : Known) → 16 < k.samples → Memo k (events_of l.rows) l.initial.memo → Memo k (events_of l.rows) l.memo) × (length l.memo ≡ length l.initial.memo) × (1 ≤ length l.memo)
-
-abbrev pub decreases-loop-i : goal.decreases-loop-i
-decreases-loop-i l = length l.rows - l.i
