@@ -4,7 +4,7 @@
 
 ghost use Rattle.std.specs.Prelude.{◌≡◌, true, false, MatchOption, MatchResult, Ok, Some, ◌&&◌};
 ghost use Rattle.meaning.specs.Editions.{editions, known};
-ghost use Rattle.meaning.specs.Events.{events_of, all_marked, asked_events};
+ghost use Rattle.meaning.specs.Events.{all_marked, asked_events};
 ghost use Rattle.meaning.specs.Reasons.{frame_of};
 ghost use Rattle.runs.specs.Cutting.{framed};
 ghost use Rattle.compare.specs.Fields.{fields};
@@ -12,7 +12,7 @@ ghost use Rattle.compare.specs.Compared.{alike, agree, report, event_reads, side
 ghost use Rattle.compare.specs.Turns.{end_of};
 
 use compare::Compared;
-use meaning::{Found, Reason};
+use meaning::{Event, Found, Reason};
 use pair_fields::State;
 
 // kept: `what` and `stop` are the C interface's numbers, of which crate compare tells.
@@ -51,12 +51,12 @@ fn next_pair(
 }
 
 // The first field in which two records differ, if they do.
-fn differing(x: &[u8], y: &[u8], e: u64, rows: &[[u64; 7]]) -> Option<u32>
+fn differing(x: &[u8], y: &[u8], e: u64, events: &[Event]) -> Option<u32>
     requires x_value { (framed x.now ≡ true) × (framed y.now ≡ true) }
-    requires rows_value { all_marked (events_of rows.now) ≡ true }
-    ensures { MatchOption result (alike (fields (event_reads (known editions e) (events_of rows.now)) x.now) (fields (event_reads (known editions e) (events_of rows.now)) y.now) ≡ true) (λ k. (alike (fields (event_reads (known editions e) (events_of rows.now)) x.now) (fields (event_reads (known editions e) (events_of rows.now)) y.now) ≡ false) × (agree (fields (event_reads (known editions e) (events_of rows.now)) x.now) (fields (event_reads (known editions e) (events_of rows.now)) y.now) ≡ k)) }
+    requires events_value { all_marked events.now ≡ true }
+    ensures { MatchOption result (alike (fields (event_reads (known editions e) events.now) x.now) (fields (event_reads (known editions e) events.now) y.now) ≡ true) (λ k. (alike (fields (event_reads (known editions e) events.now) x.now) (fields (event_reads (known editions e) events.now) y.now) ≡ false) × (agree (fields (event_reads (known editions e) events.now) x.now) (fields (event_reads (known editions e) events.now) y.now) ≡ k)) }
 {
-    let mut state = pairs::look(x, y, e, rows);
+    let mut state = pairs::look(x, y, e, events);
     // kept: no `for`, since nothing is counted: each turn makes the next state, and two of the three states end the loop.
     // Of an iterator over states the last one would be asked for, and what it says unwrapped.
     loop {
@@ -80,16 +80,16 @@ pub fn compare_rings(
     rhead: u64,
     rtail: u64,
     rscratch: &mut [u8],
-    rows: &[[u64; 7]],
+    events: &[Event],
     limit: usize,
     e: u64,
 ) -> Compared
-    ensures value { result ≡ compared (event_reads (known editions e) (events_of rows.now)) (side_of (asked_events limit editions e (events_of rows.now)) left.now lhead ltail lscratch.old) (side_of (asked_events limit editions e (events_of rows.now)) right.now rhead rtail rscratch.old) }
-    ensures lscratch_after { lscratch.new ≡ scratch_then result (side_of (asked_events limit editions e (events_of rows.now)) left.now lhead ltail lscratch.old) }
-    ensures rscratch_after { rscratch.new ≡ scratch_then result (side_of (asked_events limit editions e (events_of rows.now)) right.now rhead rtail rscratch.old) }
+    ensures value { result ≡ compared (event_reads (known editions e) events.now) (side_of (asked_events limit editions e events.now) left.now lhead ltail lscratch.old) (side_of (asked_events limit editions e events.now) right.now rhead rtail rscratch.old) }
+    ensures lscratch_after { lscratch.new ≡ scratch_then result (side_of (asked_events limit editions e events.now) left.now lhead ltail lscratch.old) }
+    ensures rscratch_after { rscratch.new ≡ scratch_then result (side_of (asked_events limit editions e events.now) right.now rhead rtail rscratch.old) }
 {
     let ok = record::allowed(e);
-    let table = events::sound(rows, limit);
+    let table = events::sound(events, limit);
     let mut tl = ltail;
     let mut tr = rtail;
     let mut n: u64 = 0;
@@ -105,7 +105,7 @@ pub fn compare_rings(
         ring::gather(right, g.place, g.size, rscratch);
         let x = ring::record_shown(left, lscratch, f);
         let y = ring::record_shown(right, rscratch, g);
-        if let Some(k) = differing(x, y, e, rows) {
+        if let Some(k) = differing(x, y, e, events) {
             return tell(1, 0, n, k);
         }
         tl = tl.wrapping_add(f.size as u64);

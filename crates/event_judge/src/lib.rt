@@ -4,12 +4,12 @@
 ghost use Rattle.std.specs.Prelude.{◌≡◌, ◌<◌, ◌≤◌, length};
 ghost use Rattle.meaning.specs.Editions.{editions, known};
 ghost use Rattle.meaning.specs.Records.{kind_of};
-ghost use Rattle.meaning.specs.Events.{events_of, identifier_of, judge_events};
+ghost use Rattle.meaning.specs.Events.{identifier_of, judge_events};
 ghost use Rattle.meaning.specs.Reasons.{answer_of};
 ghost use Rattle.event_laws.specs.Match.{match_of, matched, inspected_by};
 
 use layouts::types;
-use meaning::Reason;
+use meaning::{Event, Reason};
 
 // "The identifier is the first word after the header in a SAMPLE and the last word in any other record."
 pub fn identifier_of(r: &[u8], kind: u64) -> u64
@@ -23,9 +23,9 @@ pub fn identifier_of(r: &[u8], kind: u64) -> u64
 }
 
 // The event's index; or 20; 21 where the edition does not know bit 16; 27; 26.
-pub fn match_event(r: &[u8], e: u64, rows: &[[u64; 7]]) -> Result<usize, Reason>
+pub fn match_event(r: &[u8], e: u64, events: &[Event]) -> Result<usize, Reason>
     requires { 8 ≤ length r.now }
-    ensures { match_of result ≡ matched (known editions e) (events_of rows.now) r.now }
+    ensures { match_of result ≡ matched (known editions e) events.now r.now }
 {
     let k = record::edition(e);
     let kind = wire::u32_at(r, 0);
@@ -38,7 +38,7 @@ pub fn match_event(r: &[u8], e: u64, rows: &[[u64; 7]]) -> Result<usize, Reason>
     if r.len() < 16 {
         return Err(Reason::NoIdentifier);
     }
-    let Some(index) = events::find(rows, identifier_of(r, kind)) else {
+    let Some(index) = events::find(events, identifier_of(r, kind)) else {
         return Err(Reason::UnknownIdentifier);
     };
     Ok(index)
@@ -60,10 +60,10 @@ pub fn inspected(m: Result<usize, Reason>, n: usize) -> u32
 }
 
 // The answer of a record under a table: what the match says, then the event's own checks.
-pub fn judge(r: &[u8], e: u64, rows: &[[u64; 7]]) -> Result<(), Reason>
+pub fn judge(r: &[u8], e: u64, events: &[Event]) -> Result<(), Reason>
     requires { 8 ≤ length r.now }
-    ensures { answer_of result ≡ judge_events (known editions e) (events_of rows.now) r.now }
+    ensures { answer_of result ≡ judge_events (known editions e) events.now r.now }
 {
-    let index = match_event(r, e, rows)?;
-    fast_check::judge(r, e, events::attributes_at(rows, index))
+    let index = match_event(r, e, events)?;
+    fast_check::judge(r, e, events::attributes_at(events, index))
 }

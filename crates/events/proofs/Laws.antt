@@ -1,23 +1,19 @@
--- Rows are events: the first word of each is its identifier. Assumes nothing.
-use Rattle.std.proofs.Common.{◌≡◌, refl, ap, Bool, ◌&&◌, ℕ, List, [], ◌∷◌, map, get_or, drop, ltb}
+-- A test of each event, and of each and the next, as row 11 has them. Assumes nothing.
+use Rattle.std.proofs.Common.{◌≡◌, refl, ap, Bool, ◌&&◌, List, [], ◌∷◌, drop, ltb}
 use Rattle.std.specs.List.{list_all, zip}
-use Rattle.meaning.specs.Events.{event_of, events_of, identifiers, marked, all_marked}
+use Rattle.meaning.specs.declared.Event.{Event}
+use Rattle.meaning.specs.Events.{identifiers, marked, all_marked}
 use Rattle.event_laws.specs.Rising.{rises}
 
-pub first_words : (rows : List (List ℕ)) → map (λ (row : List ℕ). get_or row 0 0) rows ≡ identifiers (events_of rows)
-unfolding event_of
-first_words [] = refl
-first_words (row ∷ rows) = ap (λ (ids : List ℕ). get_or row 0 0 ∷ ids) (first_words rows)
-
--- each row is marked
-pub all-marked : (rows : List (List ℕ)) → list_all (λ (row : List ℕ). marked (event_of row)) rows ≡ all_marked (events_of rows)
+-- each event is marked
+pub all-marked : (es : List Event) → list_all (λ (v : Event). marked v) es ≡ all_marked es
 unfolding all_marked
 all-marked [] = refl
-all-marked (row ∷ rows) = ap (λ (rest : Bool). marked (event_of row) && rest) (all-marked rows)
+all-marked (v ∷ vs) = ap (λ (rest : Bool). marked v && rest) (all-marked vs)
 
--- each row and the next
-pub all-rise : (rows : List (List ℕ)) → list_all (λ (pair : List ℕ × List ℕ). ltb (get_or pair.0 0 0) (get_or pair.1 0 0)) (zip rows (drop 1 rows)) ≡ rises (identifiers (events_of rows))
-unfolding event_of rises
+-- each event and the next
+pub all-rise : (es : List Event) → list_all (λ (pair : Event × Event). ltb pair.0.identifier pair.1.identifier) (zip es (drop 1 es)) ≡ rises (identifiers es)
+unfolding rises
 all-rise [] = refl
-all-rise (row ∷ []) = refl
-all-rise (row ∷ next ∷ rows) = ap (λ (rest : Bool). ltb (get_or row 0 0) (get_or next 0 0) && rest) (all-rise (next ∷ rows))
+all-rise (v ∷ []) = refl
+all-rise (v ∷ next ∷ vs) = ap (λ (rest : Bool). ltb v.identifier next.identifier && rest) (all-rise (next ∷ vs))

@@ -96,6 +96,8 @@ fn put_record(
 }
 
 // Nothing was measured: 41 or 42, as the plain walk says.
+#[cold]
+#[inline(never)]
 fn refused(ws: &[u64], source: &[u8], a: Attributes, kind: u64, misc: u64) -> Reason
     ensures { number_of result ≡ cond (passes source.now ws.now a kind misc) 41 42 }
 {

@@ -19,6 +19,19 @@ struct Fit<'r> {
     state: Walked,
 }
 
+// The state after an item, in place of the one before it.
+// kept: field by field: a copy of the whole moves the bytes behind `bad` along too, through every item of a chain (d).
+fn keep(next: Walked, state: &mut Walked)
+    ensures { state.new ≡ next }
+{
+    state.at = next.at;
+    state.n = next.n;
+    state.old = next.old;
+    state.told = next.told;
+    state.before = next.before;
+    state.bad = next.bad;
+}
+
 #[tactic(auto, unfolding(meaning::specs::Values::width, meaning::specs::Values::tell))]
 impl Pass for Fit<'_> {
     ghost use Rattle.fit_chains.specs.Fits.{MayFit, Fitted, laws};
@@ -30,63 +43,108 @@ impl Pass for Fit<'_> {
     ghost laws = { laws };
 
     fn number(&mut self, on: bool, w: usize, width: Width) {
-        self.state = write_fits::number(self.words, self.source, self.state, on, w, width);
+        keep(
+            write_fits::number(self.words, self.source, self.state, on, w, width),
+            &mut self.state,
+        );
     }
 
     fn count(&mut self, on: bool, w: usize, width: Width) {
-        self.state = write_fits::count(self.words, self.source, self.state, on, w, width);
+        keep(
+            write_fits::count(self.words, self.source, self.state, on, w, width),
+            &mut self.state,
+        );
     }
 
     fn size(&mut self, on: bool, w: usize, width: Width) {
-        self.state = write_fits::size(self.words, self.source, self.state, on, w, width);
+        keep(
+            write_fits::size(self.words, self.source, self.state, on, w, width),
+            &mut self.state,
+        );
     }
 
     fn limit(&mut self, on: bool, w: usize) {
-        self.state = write_fits::limit(self.words, self.source, self.state, on, w);
+        keep(
+            write_fits::limit(self.words, self.source, self.state, on, w),
+            &mut self.state,
+        );
     }
 
     fn abi(&mut self, on: bool, w: usize, mask: u64) {
-        self.state = write_fits::abi(self.words, self.source, self.state, on, w, mask);
+        keep(
+            write_fits::abi(self.words, self.source, self.state, on, w, mask),
+            &mut self.state,
+        );
     }
 
     fn filled(&mut self, on: bool, w: usize) {
-        self.state = write_fits::filled(self.words, self.source, self.state, on, w);
+        keep(
+            write_fits::filled(self.words, self.source, self.state, on, w),
+            &mut self.state,
+        );
     }
 
     fn ignored(&mut self, on: bool, w: usize, k: usize) {
-        self.state = write_fits::ignored(self.words, self.source, self.state, on, w, k);
+        keep(
+            write_fits::ignored(self.words, self.source, self.state, on, w, k),
+            &mut self.state,
+        );
     }
 
     fn pad(&mut self, on: bool, w: usize) {
-        self.state = write_fits::pad(self.words, self.source, self.state, on, w);
+        keep(
+            write_fits::pad(self.words, self.source, self.state, on, w),
+            &mut self.state,
+        );
     }
 
     fn times(&mut self, on: bool, w: usize, k: usize) {
-        self.state = write_fits::times(self.words, self.source, self.state, on, w, k);
+        keep(
+            write_fits::times(self.words, self.source, self.state, on, w, k),
+            &mut self.state,
+        );
     }
 
     fn values(&mut self, on: bool, w: usize, f: u64) {
-        self.state = write_fits::values(self.words, self.source, self.state, on, w, f);
+        keep(
+            write_fits::values(self.words, self.source, self.state, on, w, f),
+            &mut self.state,
+        );
     }
 
     fn earlier(&mut self, on: bool, w: usize) {
-        self.state = write_fits::earlier(self.words, self.source, self.state, on, w);
+        keep(
+            write_fits::earlier(self.words, self.source, self.state, on, w),
+            &mut self.state,
+        );
     }
 
     fn registers(&mut self, on: bool, w: usize) {
-        self.state = write_fits::registers(self.words, self.source, self.state, on, w);
+        keep(
+            write_fits::registers(self.words, self.source, self.state, on, w),
+            &mut self.state,
+        );
     }
 
     fn listed(&mut self, on: bool, w: usize) {
-        self.state = write_fits::listed(self.words, self.source, self.state, on, w);
+        keep(
+            write_fits::listed(self.words, self.source, self.state, on, w),
+            &mut self.state,
+        );
     }
 
     fn bytes(&mut self, on: bool, w: usize) {
-        self.state = write_fits::bytes(self.words, self.source, self.state, on, w);
+        keep(
+            write_fits::bytes(self.words, self.source, self.state, on, w),
+            &mut self.state,
+        );
     }
 
     fn name(&mut self, on: bool, w: usize) {
-        self.state = write_fits::name(self.words, self.source, self.state, on, w);
+        keep(
+            write_fits::name(self.words, self.source, self.state, on, w),
+            &mut self.state,
+        );
     }
 }
 

@@ -1,14 +1,13 @@
-// Identifiers of events, in a table that is lent as words, as rows of seven words or as structs: the lookup, and
-// whether two are equal.
+// Identifiers of events, in a list that is lent as words or as events: the lookup, and whether two are equal.
 #![tactic(auto)]
 
-ghost use Rattle.std.specs.Prelude.{◌≡◌, ◌<◌, ℕ, not, ◌&&◌, eqb, get_or, length, map, unwrap_or, IfSome};
+ghost use Rattle.std.specs.Prelude.{◌≡◌, ◌<◌, ℕ, not, ◌&&◌, eqb, length, map, unwrap_or, IfSome};
 ghost use Rattle.meaning.specs.Editions.{is_in};
 ghost use Rattle.meaning.specs.Events.{distinct, index_of};
 
 use meaning::Event;
 
-// What has an identifier: a word that is one, a row of seven words, which begins with it, and an event.
+// What has an identifier: a word that is one, and an event.
 pub trait Identified {
     ghost identifier_of: { Self → ℕ };
 
@@ -21,14 +20,6 @@ impl Identified for u64 {
 
     fn identifier(&self) -> u64 {
         *self
-    }
-}
-
-impl Identified for [u64; 7] {
-    ghost identifier_of = { λ row. get_or row 0 0 };
-
-    fn identifier(&self) -> u64 {
-        self[0]
     }
 }
 

@@ -1,5 +1,5 @@
 -- M-103, "A store of settings", and its version 2 (M-112), for what C calls: `read_store` and `rows_after`, `write_store` and `buffer_after` are the right sides of the contracts of
--- `ollskuvan_read_store` and `ollskuvan_write_store`, with the versions and the editions of this build. Assumes nothing.
+-- `ollskuvan_read_store` and `ollskuvan_write_store`, with the versions and the editions of this build. Rows are those of the lent table, seven words an event (`lent_rows`). Assumes nothing.
 use Rattle.std.specs.Prelude.{◌≡◌, true, false, ℕ, ◌+◌, ◌^◌, ◌<◌, ◌≤◌, length, take, drop}
 use Rattle.std.proofs.Math.Path.{refl, ap, subst}
 use Rattle.std.proofs.Common.{sym, ◌∙◌, arith}

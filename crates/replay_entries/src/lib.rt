@@ -11,22 +11,22 @@ ghost use Rattle.replay_entries.specs.Steps.{asked, size_of, StepIs};
 use entries::{Entry, EntryKind};
 use meaning::Reason;
 
-// What an entry of a trace asks for. Its body stands 6 bytes after its place.
+// What an entry of a trace asks for.
 #[derive(Clone, Copy, Debug, PartialEq, Eq)]
-pub enum Step {
-    // to offer the record that the body is, of so many bytes
-    Offer(usize),
+pub enum Step<'a> {
+    // to offer the record that its body is
+    Offer(&'a [u8]),
     // to drain, with that budget
     Drain(u64),
 }
 
-impl Step {
+impl Step<'_> {
     // The bytes of the entry's body.
     pub fn size(self) -> usize
-        ensures { result ≡ size_of self }
+        ensures { result ≡ size_of self.entry }
     {
         match self {
-            Step::Offer(size) => size,
+            Step::Offer(record) => record.len(),
             Step::Drain(_) => 4,
         }
     }
@@ -67,9 +67,9 @@ fn one_record(r: &[u8]) -> bool
 }
 
 // What the entry at a place asks for; or 51, 52, 53.
-pub fn step_at(trace: &[u8], at: usize) -> Result<Step, Reason>
+pub fn step_at(trace: &[u8], at: usize) -> Result<Step<'_>, Reason>
     ensures answer { answer_of (asked result) ≡ fault_at of_store trace.now at }
-    ensures step { IfOk result (StepIs trace.now at) }
+    ensures step { IfOk result (StepIs trace.now trace.entry.ref_ptr at) }
 {
     let Some(e) = entries::entry_at(trace, at) else {
         return Err(Reason::BrokenEntry);
@@ -77,8 +77,9 @@ pub fn step_at(trace: &[u8], at: usize) -> Result<Step, Reason>
     let body = e.body;
     let n = e.length;
     if e.is_of(EntryKind::Offer) {
-        if one_record(&trace[body..body + n]) {
-            return Ok(Step::Offer(n));
+        let record = &trace[body..body + n];
+        if one_record(record) {
+            return Ok(Step::Offer(record));
         }
         return Err(Reason::BadOffer);
     }

@@ -4,12 +4,12 @@
 ghost use Rattle.std.specs.Prelude.{◌≡◌, ◌+◌, ◌++◌, length, take};
 ghost use Rattle.meaning.specs.Editions.{editions, known};
 ghost use Rattle.meaning.specs.Drain as Drain;
-ghost use Rattle.meaning.specs.Events.{events_of, judge_events};
+ghost use Rattle.meaning.specs.Events.{judge_events};
 ghost use Rattle.replay.specs.Replay.{put_round};
 ghost use Rattle.replay.specs.Steps.{run_in};
 
 use event_drain::Table;
-use meaning::Drained;
+use meaning::{Drained, Event};
 
 // The writing twin of the gathering: a record is put into the ring from a place on, going round at its end.
 pub fn put_round(ring: &mut [u8], place: usize, r: &[u8])
@@ -35,17 +35,17 @@ pub fn drain_within(
     head: u64,
     tail: u64,
     e: u64,
-    rows: &[[u64; 7]],
+    events: &[Event],
     budget: u64,
     journal: &mut [u8],
 ) -> Drained
     requires { length rooms.old ≡ h + h }
-    ensures value { result ≡ Drain.told (run_in (judge_events (known editions e) (events_of rows.now)) rooms.old h head tail budget journal.old) }
-    ensures journal_after { journal.new ≡ (run_in (judge_events (known editions e) (events_of rows.now)) rooms.old h head tail budget journal.old).state.journal }
-    ensures rooms_after { rooms.new ≡ take h rooms.old ++ (run_in (judge_events (known editions e) (events_of rows.now)) rooms.old h head tail budget journal.old).state.scratch }
+    ensures value { result ≡ Drain.told (run_in (judge_events (known editions e) events.now) rooms.old h head tail budget journal.old) }
+    ensures journal_after { journal.new ≡ (run_in (judge_events (known editions e) events.now) rooms.old h head tail budget journal.old).state.journal }
+    ensures rooms_after { rooms.new ≡ take h rooms.old ++ (run_in (judge_events (known editions e) events.now) rooms.old h head tail budget journal.old).state.scratch }
 {
     let (ring, scratch) = rooms.split_at_mut(h);
-    let judge = Table { edition: e, rows };
+    let judge = Table { edition: e, events };
     drain::drain_by(
         &judge, true, true, ring, head, tail, budget, scratch, journal,
     )

@@ -3,13 +3,14 @@
 
 ghost use Rattle.std.specs.Prelude.{◌≡◌, ◌<◌, cond, unwrap_or, IfSome};
 ghost use Rattle.meaning.specs.Editions.{editions};
-ghost use Rattle.meaning.specs.Events.{events_of};
 ghost use Rattle.meaning.specs.Records.{size_of};
 ghost use Rattle.salvage.specs.Salvage.{keeps, table_judge};
 
+use meaning::Event;
+
 // The size of the record that is kept at a place, by the bytes left there, if one is.
-pub fn kept_size(left: &[u8], e: u64, rows: &[[u64; 7]]) -> Option<usize>
-    ensures value { unwrap_or result 0 ≡ cond (keeps (table_judge editions e (events_of rows.now)) left.now) (size_of left.now) 0 }
+pub fn kept_size(left: &[u8], e: u64, events: &[Event]) -> Option<usize>
+    ensures value { unwrap_or result 0 ≡ cond (keeps (table_judge editions e events.now) left.now) (size_of left.now) 0 }
     ensures positive { IfSome result (λ size. 0 < size) }
 {
     if left.len() < 8 {
@@ -25,7 +26,7 @@ pub fn kept_size(left: &[u8], e: u64, rows: &[[u64; 7]]) -> Option<usize>
     if left.len() < size {
         return None;
     }
-    if event_judge::judge(&left[..size], e, rows).is_err() {
+    if event_judge::judge(&left[..size], e, events).is_err() {
         return None;
     }
     Some(size)

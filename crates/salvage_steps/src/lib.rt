@@ -2,7 +2,6 @@
 #![tactic(auto)]
 
 ghost use Rattle.std.specs.Prelude.{◌≡◌, cond, ◌+◌, ◌*◌, ◌^◌, ◌<◌, ◌≤◌, ltb, length, unwrap_or, IfSome};
-ghost use Rattle.meaning.specs.Bytes.{put};
 ghost use Rattle.salvage.specs.Salvage.{run, hole_bytes};
 ghost use Rattle.salvage.specs.Walks.{advanced_by, closed, list_closed, out_by, list_by};
 
@@ -41,13 +40,14 @@ pub fn closed(w: Walk) -> usize
 }
 
 // The entry of a hole: kind 32, its start and its length.
-fn put_hole(list: &mut [u8], at: usize, start: u64, n: u64)
-    requires { at + 22 ≤ length list.old }
-    ensures { list.new ≡ put list.old at (hole_bytes (run start n)) }
+fn hole_entry(start: u64, n: u64) -> [u8; 22]
+    ensures { result ≡ hole_bytes (run start n) }
 {
-    entries::put_head(list, at, EntryKind::Hole.number(), 16);
-    put::put64(list, at + 6, start);
-    put::put64(list, at + 14, n);
+    let mut bytes = [0; 22];
+    entries::put_head(&mut bytes, 0, EntryKind::Hole.number(), 16);
+    put::put64(&mut bytes, 6, start);
+    put::put64(&mut bytes, 14, n);
+    bytes
 }
 
 // The hole that ends at the place is written, if one does.
@@ -58,8 +58,8 @@ pub fn write_closed(w: Walk, list: &mut [u8])
     let at = w.at;
     let start = w.start;
     if start < at {
-        let place = 22 * w.holes;
-        put_hole(list, place, start as u64, (at - start) as u64);
+        let hole = hole_entry(start as u64, (at - start) as u64);
+        put::copy_at(&hole, list, 22 * w.holes);
     }
 }
 

@@ -19,9 +19,9 @@ use Rattle.meaning.specs.Bytes.{bit, ones}
 use Rattle.meaning.specs.Refusals.{first}
 use Rattle.meaning.specs.Editions.{is_in, unreadable}
 use Rattle.meaning.specs.Records.{layout, kind_of, judge}
-use Rattle.meaning.specs.Events.{attributes_of, event_at, event_of, events_of, identifiers, distinct, identifier_of, index_of, layout_for, judge_events}
+use Rattle.meaning.specs.Events.{attributes_of, event_at, identifiers, distinct, identifier_of, index_of, layout_for, judge_events}
 use Rattle.laws.specs.Bytes.{apart}
-use Rattle.laws.specs.Lookup.{identifiers-length, identifier-at, in-there, in-none, index-unique, rows-length, row_at}
+use Rattle.laws.specs.Lookup.{identifiers-length, identifier-at, in-there, in-none, index-unique}
 use Rattle.sums.specs.Sums.{sum_over, early_bits, after_bits, time_bits, sums_of, ones-most, trail-small, first_small, last-small}
 use Rattle.marks.specs.Marks.{Marked}
 
@@ -211,21 +211,17 @@ filled-slot : (k : Known) (es : List Event) (id : ℕ) (s : Slot) → SlotOf k e
 filled-slot k es id s f = record { filled = λ z. subst (λ (n : ℕ). SlotOf k es n s) (sym f.whose) f; noted = λ e. absurd (filled-some k es id s f e) }
 
 -- the index of an event of a table whose identifiers are distinct, noted at a place
-pub memo-entered : (k : Known) (rows : List (List ℕ)) (m : List Slot) (h i : ℕ) (s : Slot) → Memo k (events_of rows) m → 16 < k.samples
-    → distinct (identifiers (events_of rows)) ≡ true → i < length rows → s.identifier ≡ get_or (get_or rows i []) 0 0 → s.state ≡ Indexed → s.index ≡ i
-    → Memo k (events_of rows) (set m h s)
-unfolding event_of
-memo-entered k rows m h i s w b d l e f g =
-    memo-put k (events_of rows) m h s w
-    (record { filled = λ z. absurd (apart (sym (ap is_filled f) ∙ z)); noted = λ q. record { known-there = b; index = g ∙ sym its; inside = omega (arith, its, l, rows-length rows) } })
+pub memo-entered : (k : Known) (es : List Event) (m : List Slot) (h i : ℕ) (s : Slot) → Memo k es m → 16 < k.samples → distinct (identifiers es) ≡ true → i < length es
+    → s.identifier ≡ (event_at es i).identifier → s.state ≡ Indexed → s.index ≡ i → Memo k es (set m h s)
+memo-entered k es m h i s w b d l e f g =
+    memo-put k es m h s w
+    (record { filled = λ z. absurd (apart (sym (ap is_filled f) ∙ z)); noted = λ q. record { known-there = b; index = g ∙ sym its; inside = omega (arith, its, l) } })
   where
-    same : get_or (identifiers (events_of rows)) i 0 ≡ s.identifier
-    same = identifier-at (events_of rows) i ∙ ap (λ (v : Event). v.identifier) (row_at rows i [] l) ∙ sym e
+    same : get_or (identifiers es) i 0 ≡ s.identifier
+    same = identifier-at es i ∙ sym e
 
-    its : index_of s.identifier (identifiers (events_of rows)) ≡ i
-    its =
-        ap (λ (n : ℕ). index_of n (identifiers (events_of rows))) (sym same)
-        ∙ index-unique (identifiers (events_of rows)) i d (omega (arith, identifiers-length (events_of rows), rows-length rows, l))
+    its : index_of s.identifier (identifiers es) ≡ i
+    its = ap (λ (n : ℕ). index_of n (identifiers es)) (sym same) ∙ index-unique (identifiers es) i d (omega (arith, identifiers-length es, l))
 
 pub memo-filled : (k : Known) (es : List Event) (m : List Slot) (h id : ℕ) (s : Slot) → Memo k es m → h < length m → SlotOf k es id s
     → Memo k es (set m h s) × SlotOf k es id (get_or (set m h s) h empty_slot)

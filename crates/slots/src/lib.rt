@@ -3,10 +3,10 @@
 #![tactic(auto)]
 
 ghost use Rattle.std.specs.Prelude.{◌≡◌, ◌<◌, length};
-ghost use Rattle.meaning.specs.Events.{identifiers, events_of, index_of};
+ghost use Rattle.meaning.specs.Events.{identifiers, index_of};
 ghost use Rattle.slots.specs.Slots.{quarter, Four, SlotOf};
 
-use meaning::Known;
+use meaning::{Event, Known};
 
 // What is known of the identifier that a slot names.
 #[derive(Clone, Copy, Debug, PartialEq, Eq)]
@@ -70,13 +70,13 @@ fn packed(a: u64, b: u64, c: u64, d: u64) -> u64
 }
 
 // The slot of an identifier that is in the table, at index i, under an edition that knows bit 16.
-pub fn planned(known: Known, rows: &[[u64; 7]], id: u64, i: usize) -> Slot
+pub fn planned(known: Known, events: &[Event], id: u64, i: usize) -> Slot
     requires lt_samples { 16 < known.samples }
-    requires i_value { i ≡ index_of id (identifiers (events_of rows.now)) }
-    requires i_in_bounds { i < length rows.now }
-    ensures { SlotOf known (events_of rows.now) id result }
+    requires i_value { i ≡ index_of id (identifiers events.now) }
+    requires i_in_bounds { i < length events.now }
+    ensures { SlotOf known events.now id result }
 {
-    let a = events::attributes_at(rows, i);
+    let a = events::attributes_at(events, i);
     let sums = sums::sums(a);
     let why = meaning::answer_number(record::unreadable(known, a, 1, 0));
     let sample = marks::sample_mark(known, a, &sums);

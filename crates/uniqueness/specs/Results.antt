@@ -35,10 +35,13 @@ use Rattle.settings.specs.Versions.{Version, row_of, found, passed}
 use Rattle.replay_entries.specs.declared.Step.{Step}
 use Rattle.replay_entries.specs.declared.Step.TheVariants.{Offer, Drain}
 use Rattle.replay_entries.specs.Steps.{asked, StepIs}
+use Rattle.replay_offer.specs.declared.Bench.{Bench}
+use Rattle.replay_offer.specs.Benches.{lent_of, SameBench}
+use Rattle.window.specs.Window.{Answer as WindowAnswer, answer_told}
 use Rattle.writer_items.specs.Tries.{state_of}
 use Rattle.writer_words.specs.declared.Given.{Given}
 use Rattle.writer_words.specs.Tellings.{slot_of}
-use Rattle.uniqueness.specs.Views.{answer_with, reason-again, carried, one-reason}
+use Rattle.uniqueness.specs.Views.{answer_with, reason-again, carried, one-reason, one-answer}
 
 -- ---- an index or a size that may be none: what stands for none is no index, and no size
 
@@ -236,19 +239,38 @@ one-first v (Ok a) (Err r) g h e = absurd (number-some r (sym e))
 one-first v (Err r) (Ok b) g h e = absurd (number-some r e)
 one-first v (Err r) (Err s) g h e = ap Err (one-reason r s e)
 
--- ---- replay_entries: what the entry at a place asks for
+-- ---- replay_entries: what the entry at a place asks for; replay_offer: the bench after an offer
 
-one-ask : (xs : List ℕ) (at : ℕ) (a b : Step) → StepIs xs at a → StepIs xs at b → a ≡ b
-one-ask xs at (Offer n) (Offer m) g h = ap Offer (ap (λ (e : Entry). e.length) (sym g ∙ h))
-one-ask xs at (Offer n) (Drain m) g h = absurd (let k = ap (λ (e : Entry). e.kind) (sym g ∙ h.0) in omega (arith, k))
-one-ask xs at (Drain n) (Offer m) g h = absurd (let k = ap (λ (e : Entry). e.kind) (sym h ∙ g.0) in omega (arith, k))
-one-ask xs at (Drain n) (Drain m) g h = ap Drain (g.1 ∙ sym h.1)
+one-ask : (xs : List ℕ) (from : ℕ × ℕ) (at : ℕ) (a b : Step) → StepIs xs from at a → StepIs xs from at b → a ≡ b
+one-ask xs from at (Offer r) (Offer t) g h =
+    ap Offer (λ i. record { ref_ptr = (g.2 ∙ sym h.2) i; now = (g.1 ∙ sym h.1) i })
+one-ask xs from at (Offer r) (Drain m) g h = absurd (let k = ap (λ (e : Entry). e.kind) (sym g.0 ∙ h.0) in omega (arith, k))
+one-ask xs from at (Drain n) (Offer r) g h = absurd (let k = ap (λ (e : Entry). e.kind) (sym h.0 ∙ g.0) in omega (arith, k))
+one-ask xs from at (Drain n) (Drain m) g h = ap Drain (g.1 ∙ sym h.1)
 
-pub one-next : (xs : List ℕ) (at : ℕ) (x y : Result Step Reason) → IfOk x (StepIs xs at) → IfOk y (StepIs xs at) → answer_of (asked x) ≡ answer_of (asked y) → x ≡ y
-one-next xs at (Ok a) (Ok b) g h e = ap Ok (one-ask xs at a b g h)
-one-next xs at (Ok a) (Err r) g h e = absurd (number-some r (sym e))
-one-next xs at (Err r) (Ok b) g h e = absurd (number-some r e)
-one-next xs at (Err r) (Err s) g h e = ap Err (one-reason r s e)
+pub one-next : (xs : List ℕ) (from : ℕ × ℕ) (at : ℕ) (x y : Result Step Reason) → IfOk x (StepIs xs from at) → IfOk y (StepIs xs from at)
+    → answer_of (asked x) ≡ answer_of (asked y) → x ≡ y
+one-next xs from at (Ok a) (Ok b) g h e = ap Ok (one-ask xs from at a b g h)
+one-next xs from at (Ok a) (Err r) g h e = absurd (number-some r (sym e))
+one-next xs from at (Err r) (Ok b) g h e = absurd (number-some r e)
+one-next xs from at (Err r) (Err s) g h e = ap Err (one-reason r s e)
+
+pub one-bench : (b x y : Bench) → lent_of x ≡ lent_of y → SameBench b x → SameBench b y → x ≡ y
+one-bench b x y e g h =
+    λ i. record {
+      rooms = record { ref_ptr = (g.1.1 ∙ sym h.1.1) i; ghost_name = (g.1.0 ∙ sym h.1.0) i; now = (e i).rooms };
+      half = (g.0 ∙ sym h.0) i;
+      journal = record { ref_ptr = (g.2.1 ∙ sym h.2.1) i; ghost_name = (g.2.0 ∙ sym h.2.0) i; now = (e i).journal };
+      counts = (e i).counts;
+    }
+
+-- ---- window: the answer of a record, or none
+
+pub one-told : (x y : Option (Result (Unit {0}) Reason)) → answer_told x ≡ answer_told y → x ≡ y
+one-told None None e = refl
+one-told None (Some b) e = absurd (apart (ap (λ (w : WindowAnswer). w.go) e))
+one-told (Some a) None e = absurd (apart (sym (ap (λ (w : WindowAnswer). w.go) e)))
+one-told (Some a) (Some b) e = ap Some (one-answer a b (ap (λ (w : WindowAnswer). w.answer) e))
 
 -- ---- writer: the state after an item, and what tells it
 

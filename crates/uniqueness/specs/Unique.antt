@@ -19,12 +19,12 @@ use Rattle.meaning.specs.declared.Shape.TheVariants.{Bytes}
 use Rattle.meaning.specs.Items.{span}
 use Rattle.meaning.specs.Schema.{always}
 use Rattle.meaning.specs.Editions.{editions}
-use Rattle.meaning.specs.Events.{event_limit, events_of, asked_events}
+use Rattle.meaning.specs.Events.{event_limit, asked_events}
 use Rattle.table.specs.Rows.{rows, item_of}
 use Rattle.blocks.specs.Seen.{Leaves, Closes}
 use Rattle.blocks.specs.Steady.{one_width, width_of, steady, total}
 use Rattle.uniqueness.specs.Views.{one-reason, one-answer, one-step, one-spot, one-frame, one-place}
-use Rattle.uniqueness.specs.Results.{one-index, one-size, one-unit, one-entry, one-words, one-after, one-field, one-header, one-walk, one-whole, one-reading, one-taken, one-found, one-match, one-version, one-first, one-next, one-state, one-given}
+use Rattle.uniqueness.specs.Results.{one-index, one-size, one-unit, one-entry, one-words, one-after, one-field, one-header, one-walk, one-whole, one-reading, one-taken, one-found, one-match, one-version, one-first, one-next, one-bench, one-told, one-state, one-given}
 use Rattle.meaning.proofs as meaning
 use Rattle.put.proofs as put
 use Rattle.wire.proofs as wire
@@ -52,6 +52,7 @@ use Rattle.marks.proofs as marks
 use Rattle.plan.proofs as plan
 use Rattle.names.proofs as names
 use Rattle.ring.proofs as ring
+use Rattle.settings.specs.Lent.{same-table}
 use Rattle.settings.specs.Versions.{row_of, place_of}
 use Rattle.settings.proofs as settings
 use Rattle.settings_entries.proofs as settings-entries
@@ -88,6 +89,8 @@ use Rattle.compare.specs.declared.Compared.{Compared}
 use Rattle.compare.specs.Compared.{Side, side_of, scratch_then}
 use Rattle.fast_drain.proofs as fast
 use Rattle.window.specs.declared.WindowJudge.{Ghosts as WindowJudges}
+use Rattle.window.proofs as windows
+use Rattle.event_window.proofs as event-windows
 use Rattle.fast_event_drain.proofs as fast-events
 use Rattle.window_entries.proofs as window-entries
 use Rattle.rooms.proofs as rooms
@@ -770,6 +773,29 @@ taking-take-scratch T l g d κs a x y s t p q = same p.0 q.0
 pub taking-take-journal : (T : RattleType) (l : Laws T) (g : Judges T.Denot) (d : Dict) → Seen (taking.take.Kinds.ps T l) (taking.take.Kinds.r T l) (taking.take.Reads.Learnt T l g d) (λ κs x s. s.1.1.1.1.1.0.now)
 taking-take-journal T l g d κs a x y s t p q = same p.1 q.1
 
+-- the judges of one record: by one attribute set, by a table of events, and the one where the loop of the fast drain takes none
+pub taking-one-set-judge : Result taking.OneSetJudge.judge.Kinds.ps taking.OneSetJudge.judge.Kinds.r taking.OneSetJudge.judge.Reads.Learnt
+taking-one-set-judge κs a x y s t p q = one-answer _ _ (same p q)
+
+pub event-drain-table-judge : Result eventful.TableJudge.judge.Kinds.ps eventful.TableJudge.judge.Kinds.r eventful.TableJudge.judge.Reads.Learnt
+event-drain-table-judge κs a x y s t p q = one-answer _ _ (same p q)
+
+pub fast-event-drain-plain-judge : Result fast-events.PlainJudge.judge.Kinds.ps fast-events.PlainJudge.judge.Kinds.r fast-events.PlainJudge.judge.Reads.Learnt
+fast-event-drain-plain-judge κs a x y s t p q = one-answer _ _ (same p q)
+
+-- those of a window's records: the types that they know, and their answers
+pub window-plan-is-strange : Result windows.PlanWindowJudge.is_strange.Kinds.ps windows.PlanWindowJudge.is_strange.Kinds.r windows.PlanWindowJudge.is_strange.Reads.Learnt
+window-plan-is-strange κs a x y s t p q = same p.0 q.0
+
+pub window-plan-answered : Result windows.PlanWindowJudge.answered.Kinds.ps windows.PlanWindowJudge.answered.Kinds.r windows.PlanWindowJudge.answered.Reads.Learnt
+window-plan-answered κs a x y s t p q = one-told _ _ (same p.0 q.0)
+
+pub event-window-slots-is-strange : Result event-windows.SlotsWindowJudge.is_strange.Kinds.ps event-windows.SlotsWindowJudge.is_strange.Kinds.r event-windows.SlotsWindowJudge.is_strange.Reads.Learnt
+event-window-slots-is-strange κs a x y s t p q = same p.0 q.0
+
+pub event-window-slots-answered : Result event-windows.SlotsWindowJudge.answered.Kinds.ps event-windows.SlotsWindowJudge.answered.Kinds.r event-windows.SlotsWindowJudge.answered.Reads.Learnt
+event-window-slots-answered κs a x y s t p q = one-told _ _ (same p.0 q.0)
+
 -- an entry's bytes, and the journal with it
 pub journals-entry : Result journals.entry.Kinds.ps journals.entry.Kinds.r journals.entry.Reads.Learnt
 journals-entry κs a x y s t p q = same p q
@@ -785,6 +811,14 @@ identifiers-find T l g d κs a x y s t p q = one-index _ _ _ p.1 q.1 (same p.0 q
 pub identifiers-apart : (T : RattleType) (l : Laws T) (g : Identifiers T.Denot) (d : Dict) → Result (identifiers.apart.Kinds.ps T l) (identifiers.apart.Kinds.r T l) (identifiers.apart.Reads.Learnt T l g d)
 identifiers-apart T l g d κs a x y s t p q = same p q
 
+-- the identifier of each kind of entry
+pub identifiers-word-identifier : Result identifiers.U64Identified.identifier.Kinds.ps identifiers.U64Identified.identifier.Kinds.r identifiers.U64Identified.identifier.Reads.Learnt
+identifiers-word-identifier κs a x y s t p q = same p q
+
+pub identifiers-event-identifier : Result identifiers.EventIdentified.identifier.Kinds.ps identifiers.EventIdentified.identifier.Kinds.r identifiers.EventIdentified.identifier.Reads.Learnt
+identifiers-event-identifier κs a x y s t p q = same p q
+
+-- the first with an identifier, and whether no two are equal
 pub identifiers-find-id : Result identifiers.find_id.Kinds.ps identifiers.find_id.Kinds.r identifiers.find_id.Reads.Learnt
 identifiers-find-id κs a x y s t p q = one-index _ _ _ p.1 q.1 (same p.0 q.0)
 
@@ -895,12 +929,12 @@ comparing-compare-rings κs a x y s t p q = same p.0 q.0
 
 pub comparing-compare-rings-left : Seen comparing.compare_rings.Kinds.ps comparing.compare_rings.Kinds.r comparing.compare_rings.Reads.Learnt (λ κs x s. s.1.1.1.0.now)
 comparing-compare-rings-left κs a x y s t p q =
-    told-scratch (side_of (asked_events a.1.1.1.1.1.1.1.1.1.0 editions a.1.1.1.1.1.1.1.1.1.1.0 (events_of a.1.1.1.1.1.1.1.1.0.now)) a.0.now a.1.0 a.1.1.0 a.1.1.1.0.now)
+    told-scratch (side_of (asked_events a.1.1.1.1.1.1.1.1.1.0 editions a.1.1.1.1.1.1.1.1.1.1.0 a.1.1.1.1.1.1.1.1.0.now) a.0.now a.1.0 a.1.1.0 a.1.1.1.0.now)
     x y _ _ _ p.0 q.0 p.1.0 q.1.0
 
 pub comparing-compare-rings-right : Seen comparing.compare_rings.Kinds.ps comparing.compare_rings.Kinds.r comparing.compare_rings.Reads.Learnt (λ κs x s. s.1.1.1.1.1.1.1.0.now)
 comparing-compare-rings-right κs a x y s t p q =
-    told-scratch (side_of (asked_events a.1.1.1.1.1.1.1.1.1.0 editions a.1.1.1.1.1.1.1.1.1.1.0 (events_of a.1.1.1.1.1.1.1.1.0.now)) a.1.1.1.1.0.now a.1.1.1.1.1.0 a.1.1.1.1.1.1.0 a.1.1.1.1.1.1.1.0.now)
+    told-scratch (side_of (asked_events a.1.1.1.1.1.1.1.1.1.0 editions a.1.1.1.1.1.1.1.1.1.1.0 a.1.1.1.1.1.1.1.1.0.now) a.1.1.1.1.0.now a.1.1.1.1.1.0 a.1.1.1.1.1.1.0 a.1.1.1.1.1.1.1.0.now)
     x y _ _ _ p.0 q.0 p.1.1 q.1.1
 
 -- ---- fast_drain, under the same contract
@@ -914,15 +948,15 @@ fast-journal κs a x y s t p q = same p.1.0 q.1.0
 pub fast-scratch : Seen fast.drain.Kinds.ps fast.drain.Kinds.r fast.drain.Reads.Learnt (λ κs x s. s.1.1.1.1.1.1.0.now)
 fast-scratch κs a x y s t p q = same p.1.1 q.1.1
 
--- the same by any judge of windows, from the first record on; what the judge then holds stays open
-pub fast-drain-on : (T : RattleType) (l : Laws T) (g : WindowJudges T.Denot) (d : Dict) (h : Judges T.Denot) (e : Dict) → Result (fast.drain_on.Kinds.ps T l) (fast.drain_on.Kinds.r T l) (fast.drain_on.Reads.Learnt T l g d h e)
-fast-drain-on T l g d h e κs a x y s t p q = same p.0 q.0
+-- the same by any two judges that answer alike, from the first record on; what the slots then hold stays open
+pub fast-drain-on : (P J S : RattleType) (k : Laws P) (l : Laws J) (m : Laws S) (f : Judges P.Denot) (d : Dict) (g : WindowJudges J.Denot S.Denot) (e : Dict) → Result (fast.drain_on.Kinds.ps P J S k l m) (fast.drain_on.Kinds.r P J S k l m) (fast.drain_on.Reads.Learnt P J S k l m f d g e)
+fast-drain-on P J S k l m f d g e κs a x y s t p q = same p.0 q.0
 
-pub fast-drain-on-journal : (T : RattleType) (l : Laws T) (g : WindowJudges T.Denot) (d : Dict) (h : Judges T.Denot) (e : Dict) → Seen (fast.drain_on.Kinds.ps T l) (fast.drain_on.Kinds.r T l) (fast.drain_on.Reads.Learnt T l g d h e) (λ κs x s. s.1.1.1.1.1.1.1.1.1.0.now)
-fast-drain-on-journal T l g d h e κs a x y s t p q = same p.1.0 q.1.0
+pub fast-drain-on-journal : (P J S : RattleType) (k : Laws P) (l : Laws J) (m : Laws S) (f : Judges P.Denot) (d : Dict) (g : WindowJudges J.Denot S.Denot) (e : Dict) → Seen (fast.drain_on.Kinds.ps P J S k l m) (fast.drain_on.Kinds.r P J S k l m) (fast.drain_on.Reads.Learnt P J S k l m f d g e) (λ κs x s. s.1.1.1.1.1.1.1.1.1.1.1.0.now)
+fast-drain-on-journal P J S k l m f d g e κs a x y s t p q = same p.1.0 q.1.0
 
-pub fast-drain-on-scratch : (T : RattleType) (l : Laws T) (g : WindowJudges T.Denot) (d : Dict) (h : Judges T.Denot) (e : Dict) → Seen (fast.drain_on.Kinds.ps T l) (fast.drain_on.Kinds.r T l) (fast.drain_on.Reads.Learnt T l g d h e) (λ κs x s. s.1.1.1.1.1.1.1.1.0.now)
-fast-drain-on-scratch T l g d h e κs a x y s t p q = same p.1.1 q.1.1
+pub fast-drain-on-scratch : (P J S : RattleType) (k : Laws P) (l : Laws J) (m : Laws S) (f : Judges P.Denot) (d : Dict) (g : WindowJudges J.Denot S.Denot) (e : Dict) → Seen (fast.drain_on.Kinds.ps P J S k l m) (fast.drain_on.Kinds.r P J S k l m) (fast.drain_on.Reads.Learnt P J S k l m f d g e) (λ κs x s. s.1.1.1.1.1.1.1.1.1.1.0.now)
+fast-drain-on-scratch P J S k l m f d g e κs a x y s t p q = same p.1.1.0 q.1.1.0
 
 -- a drain that takes nothing
 pub fast-untaken : Result fast.untaken.Kinds.ps fast.untaken.Kinds.r fast.untaken.Reads.Learnt
@@ -963,17 +997,17 @@ settings-walk-count-events κs a x y s t p q =
     let n = same p.0 q.0
     in λ i. record { count = n i; at = (p.1 ∙ (ap (λ (k : ℕ). place_of (row_of a.1.0) k) n ∙ sym q.1)) i }
 
-pub settings-rows-sound : Result settings-rows.rows_sound.Kinds.ps settings-rows.rows_sound.Kinds.r settings-rows.rows_sound.Reads.Learnt
+pub settings-rows-sound : Result settings-rows.Events.rows_sound.Kinds.ps settings-rows.Events.rows_sound.Kinds.r settings-rows.Events.rows_sound.Reads.Learnt
 settings-rows-sound κs a x y s t p q = same p q
 
-pub settings-rows-fill : Seen settings-rows.fill_rows.Kinds.ps settings-rows.fill_rows.Kinds.r settings-rows.fill_rows.Reads.Learnt (λ κs x s. s.1.1.1.0.now)
-settings-rows-fill κs a x y s t p q = same p q
+pub settings-rows-fill : Seen settings-rows.Events.fill_rows.Kinds.ps settings-rows.Events.fill_rows.Kinds.r settings-rows.Events.fill_rows.Reads.Learnt (λ κs x s. s.1.0.now)
+settings-rows-fill κs a x y s t p q = same-table _ _ (same p q)
 
 pub settings-read-store : Result settings-read.read_store.Kinds.ps settings-read.read_store.Kinds.r settings-read.read_store.Reads.Learnt
 settings-read-store κs a x y s t p q = same p.0 q.0
 
 pub settings-read-store-rows : Seen settings-read.read_store.Kinds.ps settings-read.read_store.Kinds.r settings-read.read_store.Reads.Learnt (λ κs x s. s.1.0.now)
-settings-read-store-rows κs a x y s t p q = same p.1 q.1
+settings-read-store-rows κs a x y s t p q = same-table _ _ (same p.1 q.1)
 
 pub settings-put-rows : Seen settings-put.put_rows.Kinds.ps settings-put.put_rows.Kinds.r settings-put.put_rows.Reads.Learnt (λ κs x s. s.0.now)
 settings-put-rows κs a x y s t p q = same p q
@@ -1042,7 +1076,7 @@ pub rooms-drain-within-rooms : Seen rooms.drain_within.Kinds.ps rooms.drain_with
 rooms-drain-within-rooms κs a x y s t p q = same p.1.1 q.1.1
 
 pub replay-entries-step-at : Result replay-entries.step_at.Kinds.ps replay-entries.step_at.Kinds.r replay-entries.step_at.Reads.Learnt
-replay-entries-step-at κs a x y s t p q = one-next _ _ _ _ p.1 q.1 (same p.0 q.0)
+replay-entries-step-at κs a x y s t p q = one-next _ _ _ _ _ p.1 q.1 (same p.0 q.0)
 
 pub replay-entries-step-size : Result replay-entries.Step.size.Kinds.ps replay-entries.Step.size.Kinds.r replay-entries.Step.size.Reads.Learnt
 replay-entries-step-size κs a x y s t p q = same p q
@@ -1050,11 +1084,8 @@ replay-entries-step-size κs a x y s t p q = same p q
 pub replay-offer-count-drain : Result replay-offer.count_drain.Kinds.ps replay-offer.count_drain.Kinds.r replay-offer.count_drain.Reads.Learnt
 replay-offer-count-drain κs a x y s t p q = same p q
 
-pub replay-offer-offer : Result replay-offer.offer.Kinds.ps replay-offer.offer.Kinds.r replay-offer.offer.Reads.Learnt
-replay-offer-offer κs a x y s t p q = same p.0 q.0
-
-pub replay-offer-offer-rooms : Seen replay-offer.offer.Kinds.ps replay-offer.offer.Kinds.r replay-offer.offer.Reads.Learnt (λ κs x s. s.0.now)
-replay-offer-offer-rooms κs a x y s t p q = same p.1 q.1
+pub replay-offer-bench-offer : Seen replay-offer.Bench.offer.Kinds.ps replay-offer.Bench.offer.Kinds.r replay-offer.Bench.offer.Reads.Learnt (λ κs x s. s.0.now)
+replay-offer-bench-offer κs a x y s t p q = one-bench a.0.now s.0.now t.0.now (same p.0 q.0) p.1 q.1
 
 pub playing-begin : Result playing.begin.Kinds.ps playing.begin.Kinds.r playing.begin.Reads.Learnt
 playing-begin κs a x y s t p q = same p q
@@ -1143,12 +1174,12 @@ ollskuvan-compare κs a x y s t p q = same p.0 q.0
 
 pub ollskuvan-compare-left : Seen saved.ollskuvan_compare.Kinds.ps saved.ollskuvan_compare.Kinds.r saved.ollskuvan_compare.Reads.Learnt (λ κs x s. s.1.1.1.0.now)
 ollskuvan-compare-left κs a x y s t p q =
-    told-scratch (side_of (asked_events event_limit editions a.1.1.1.1.1.1.1.1.1.0 (events_of a.1.1.1.1.1.1.1.1.0.now)) a.0.now a.1.0 a.1.1.0 a.1.1.1.0.now)
+    told-scratch (side_of (asked_events event_limit editions a.1.1.1.1.1.1.1.1.1.0 a.1.1.1.1.1.1.1.1.0.now) a.0.now a.1.0 a.1.1.0 a.1.1.1.0.now)
     x y _ _ _ p.0 q.0 p.1.0 q.1.0
 
 pub ollskuvan-compare-right : Seen saved.ollskuvan_compare.Kinds.ps saved.ollskuvan_compare.Kinds.r saved.ollskuvan_compare.Reads.Learnt (λ κs x s. s.1.1.1.1.1.1.1.0.now)
 ollskuvan-compare-right κs a x y s t p q =
-    told-scratch (side_of (asked_events event_limit editions a.1.1.1.1.1.1.1.1.1.0 (events_of a.1.1.1.1.1.1.1.1.0.now)) a.1.1.1.1.0.now a.1.1.1.1.1.0 a.1.1.1.1.1.1.0 a.1.1.1.1.1.1.1.0.now)
+    told-scratch (side_of (asked_events event_limit editions a.1.1.1.1.1.1.1.1.1.0 a.1.1.1.1.1.1.1.1.0.now) a.1.1.1.1.0.now a.1.1.1.1.1.0 a.1.1.1.1.1.1.0 a.1.1.1.1.1.1.1.0.now)
     x y _ _ _ p.0 q.0 p.1.1 q.1.1
 
 pub ollskuvan-read-one-events : Result recorded.ollskuvan_read_one_events.Kinds.ps recorded.ollskuvan_read_one_events.Kinds.r recorded.ollskuvan_read_one_events.Reads.Learnt
@@ -1236,7 +1267,7 @@ pub ollskuvan-read-store : Result stored.ollskuvan_read_store.Kinds.ps stored.ol
 ollskuvan-read-store κs a x y s t p q = same p.0 q.0
 
 pub ollskuvan-read-store-events : Seen stored.ollskuvan_read_store.Kinds.ps stored.ollskuvan_read_store.Kinds.r stored.ollskuvan_read_store.Reads.Learnt (λ κs x s. s.1.0.now)
-ollskuvan-read-store-events κs a x y s t p q = same p.1 q.1
+ollskuvan-read-store-events κs a x y s t p q = same-table _ _ (same p.1 q.1)
 
 pub ollskuvan-write-store : Result stored.ollskuvan_write_store.Kinds.ps stored.ollskuvan_write_store.Kinds.r stored.ollskuvan_write_store.Reads.Learnt
 ollskuvan-write-store κs a x y s t p q = same p.0 q.0
@@ -1327,6 +1358,13 @@ write-by T l g d κs a x y s t p q = one-answer _ _ (same p.0 q.0)
 
 pub write-by-buffer : (T : RattleType) (l : Laws T) (g : Pens T.Denot) (d : Dict) → Seen (writer.write_by.Kinds.ps T l) (writer.write_by.Kinds.r T l) (writer.write_by.Reads.Learnt T l g d) (λ κs x s. s.1.1.1.1.0.now)
 write-by-buffer T l g d κs a x y s t p q = same p.1 q.1
+
+-- the same by the rows of the table
+pub writer-plain-write-known : Result writer.PlainPen.write_known.Kinds.ps writer.PlainPen.write_known.Kinds.r writer.PlainPen.write_known.Reads.Learnt
+writer-plain-write-known κs a x y s t p q = one-answer _ _ (same p.0 q.0)
+
+pub writer-plain-write-known-buffer : Seen writer.PlainPen.write_known.Kinds.ps writer.PlainPen.write_known.Kinds.r writer.PlainPen.write_known.Reads.Learnt (λ κs x s. s.1.1.1.1.1.0.now)
+writer-plain-write-known-buffer κs a x y s t p q = same p.1 q.1
 
 -- ---- the straight writer: of an item, or of a type's items, whether they fit, and if so the place and the counts after them
 

@@ -5,7 +5,7 @@ use Rattle.meaning.specs.declared.Event.{Event}
 use Rattle.meaning.specs.States.{Frame}
 use Rattle.meaning.specs.Editions.{editions, known, allowed}
 use Rattle.meaning.specs.Ring.{asking_with, frame, record_at, scratch_after, shown}
-use Rattle.meaning.specs.Events.{events_of, asked_events, sound}
+use Rattle.meaning.specs.Events.{asked_events, sound}
 use Rattle.meaning.specs.Reasons.{frame_of}
 use Rattle.laws.specs.Matched.{sound-marked}
 use Rattle.laws.proofs.Refused.{going-sound}
@@ -42,7 +42,7 @@ module _ (limit e : ℕ) (es : List Event) (ring : List ℕ) (head t : ℕ) (s :
 pub loop-pair-init : goal.loop-pair-init
 loop-pair-init c =
     let a = c.args in
-    here-start (event_reads (known editions a.e) (events_of a.rows.now)) (asked_events a.limit editions a.e (events_of a.rows.now)) a.left.now a.right.now a.lhead a.rhead a.ltail a.rtail a.lscratch.now a.rscratch.now
+    here-start (event_reads (known editions a.e) a.events.now) (asked_events a.limit editions a.e a.events.now) a.left.now a.right.now a.lhead a.rhead a.ltail a.rtail a.lscratch.now a.rscratch.now
     (small_of a.left.now c.type_inv.left) (small_of a.right.now c.type_inv.right) c.ranges.lhead.fits c.ranges.rhead.fits
     c.ranges.ltail.fits c.ranges.rtail.fits
 
@@ -50,7 +50,7 @@ pub returns-in-Err : goal.returns-in-Err
 returns-in-Err c =
     let a = c.args in
     let l = c.loop-pair in
-    let es = events_of a.rows.now in
+    let es = a.events.now in
     let f = c.next_frame-from_left in
     let g = c.next_frame-from_right in
     let p = asked a.limit a.e es a.left.now a.lhead l.tl l.lscratch (frame_of f.result) _ _ f.ensures c.allowed-ok.ensures c.sound-table.ensures in
@@ -65,7 +65,7 @@ pub differing-requires : goal.differing-requires
 differing-requires c =
     let a = c.args in
     let l = c.loop-pair in
-    let es = events_of a.rows.now in
+    let es = a.events.now in
     let f = c.next_frame-from_left in
     let g = c.next_frame-from_right in
     let F : Frame = frame_of (Ok (Some c.in-Ok.pair.0)) in
@@ -80,14 +80,14 @@ differing-requires c =
         ap (λ (z : List ℕ). framed z) x ∙ whole a.limit a.e es a.left.now a.lhead l.tl l.lscratch F p refl,
         ap (λ (z : List ℕ). framed z) y ∙ whole a.limit a.e es a.right.now a.rhead l.tr l.rscratch G q refl,
       );
-      rows_value = sound-marked a.limit es t;
+      events_value = sound-marked a.limit es t;
     }
 
 pub returns-in-Some : goal.returns-in-Some
 returns-in-Some c =
     let a = c.args in
     let l = c.loop-pair in
-    let es = events_of a.rows.now in
+    let es = a.events.now in
     let R : Reads = event_reads (known editions a.e) es in
     let f = c.next_frame-from_left in
     let g = c.next_frame-from_right in
@@ -109,7 +109,7 @@ pub loop-pair-smaller : goal.loop-pair-smaller
 loop-pair-smaller c =
     let a = c.args in
     let l = c.loop-pair in
-    let es = events_of a.rows.now in
+    let es = a.events.now in
     let R : Reads = event_reads (known editions a.e) es in
     let f = c.next_frame-from_left in
     let g = c.next_frame-from_right in
@@ -127,7 +127,7 @@ pub loop-pair-preserved : goal.loop-pair-preserved
 loop-pair-preserved c =
     let a = c.args in
     let l = c.loop-pair in
-    let es = events_of a.rows.now in
+    let es = a.events.now in
     let R : Reads = event_reads (known editions a.e) es in
     let f = c.next_frame-from_left in
     let g = c.next_frame-from_right in

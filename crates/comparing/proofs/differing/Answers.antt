@@ -1,7 +1,6 @@
 -- `comparing::differing` meets its contract: what the loop over fields says of a pair is what its fields say.
 use Rattle.std.proofs.Common.{◌≡◌, refl, subst, Bool, ℕ, List}
 use Rattle.meaning.specs.Editions.{editions, known}
-use Rattle.meaning.specs.Events.{events_of}
 use Rattle.compare.specs.Fields.{fields}
 use Rattle.compare.specs.Compared.{alike, agree, event_reads}
 use Rattle.std.specs.Prelude.{true, false}
@@ -30,7 +29,7 @@ module _ (e : ℕ) (es : List Event) (x y : List ℕ) where
   other s k i h = stands-other x y B N (state_of (Differs k)) (subst Stands i h) refl
 
 pub returns-in-Alike : goal.returns-in-Alike
-returns-in-Alike c = let a = c.args in ended a.e (events_of a.rows.now) a.x.now a.y.now c.loop-state.state c.in-Alike.is c.loop-state.invariant
+returns-in-Alike c = let a = c.args in ended a.e a.events.now a.x.now a.y.now c.loop-state.state c.in-Alike.is c.loop-state.invariant
 
 pub returns-in-Differs : goal.returns-in-Differs
-returns-in-Differs c = let a = c.args in other a.e (events_of a.rows.now) a.x.now a.y.now c.loop-state.state c.in-Differs.k c.in-Differs.is c.loop-state.invariant
+returns-in-Differs c = let a = c.args in other a.e a.events.now a.x.now a.y.now c.loop-state.state c.in-Differs.k c.in-Differs.is c.loop-state.invariant

@@ -5,8 +5,6 @@ use Rattle.std.proofs.lemmas.Result.{err_from_is_err_and}
 use Rattle.laws.specs.Reasons.{number-some}
 use Rattle.meaning.specs.declared.Reason.{Reason}
 use Rattle.meaning.specs.Editions.{editions, known}
-use Rattle.meaning.specs.Events.{events_of}
-use Rattle.laws.specs.Lookup.{rows-length}
 use Rattle.record.specs.Same.{accepted, or-dirty}
 use Rattle.event_laws.specs.Match.{match_of, matched, match-there}
 use Rattle.event_laws.specs.Asked.{check-none, check-own}
@@ -15,7 +13,7 @@ use Rattle.event_check.proofs.check_found.Goals as goal
 pub returns-in_err-index : goal.returns-in_err-index
 returns-in_err-index c =
     let a = c.args in
-    let es = events_of a.rows.now in
+    let es = a.events.now in
     let p = err_from_is_err_and c.from_residual.result c.from_residual.ensures.1 in
     let r = c.in_err-index.field-0.0 in
     let m = subst (λ (x : Result ℕ Reason). match_of x ≡ matched (known editions a.e) es a.r.now) c.in_err-index.was c.requires in
@@ -24,9 +22,9 @@ returns-in_err-index c =
 pub attributes_at-own-requires : goal.attributes_at-own-requires
 attributes_at-own-requires c =
     let a = c.args in
-    let es = events_of a.rows.now in
+    let es = a.events.now in
     let m = subst (λ (x : Result ℕ Reason). match_of x ≡ matched (known editions a.e) es a.r.now) c.in_ok-index.was c.requires in
-    omega (arith, rows-length a.rows.now, match-there (known editions a.e) es a.r.now (match_of (Ok c.in_ok-index.index)) m refl)
+    omega (arith, match-there (known editions a.e) es a.r.now (match_of (Ok c.in_ok-index.index)) m refl)
 
 pub or_dirty-requires : goal.or_dirty-requires
 or_dirty-requires c =
@@ -36,7 +34,7 @@ or_dirty-requires c =
 pub returns : goal.returns
 returns c =
     let a = c.args in
-    let es = events_of a.rows.now in
+    let es = a.events.now in
     let m = subst (λ (x : Result ℕ Reason). match_of x ≡ matched (known editions a.e) es a.r.now) c.in_ok-index.was c.requires in
     c.or_dirty.ensures ∙ or-dirty editions a.e _ a.r.now _ c.check.ensures
     ∙ check-own editions a.e es a.r.now (match_of (Ok c.in_ok-index.index)) m refl _ c.attributes_at-own.ensures

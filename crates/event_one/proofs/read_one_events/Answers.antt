@@ -8,10 +8,9 @@ use Rattle.meaning.specs.declared.Judged.{Judged}
 use Rattle.meaning.specs.declared.Event.{Event}
 use Rattle.meaning.specs.Editions.{editions, known, allowed}
 use Rattle.meaning.specs.Ring.{asking_with, frame, record_at, scratch_after, shown}
-use Rattle.meaning.specs.Events.{events_of, inspected, judged, asked_events, one_events_frame, sound}
+use Rattle.meaning.specs.Events.{inspected, judged, asked_events, one_events_frame, sound}
 use Rattle.laws.specs.Rings.{Going, shown-record, going-length}
 use Rattle.laws.proofs.Framing.{frame-going}
-use Rattle.laws.specs.Lookup.{rows-length}
 use Rattle.event_laws.specs.Sound.{sound-limit}
 use Rattle.one.specs.Told.{told_taken}
 use Rattle.event_laws.specs.Told.{read_event_answer, read_event_words}
@@ -40,7 +39,7 @@ module _ (limit e : ℕ) (es : List Event) (ring : List ℕ) (head tail : ℕ) (
 pub returns-in-Err : goal.returns-in-Err
 returns-in-Err c =
     let s = c.args in
-    let es = events_of s.rows.now in
+    let es = s.events.now in
     let f = frame_of (Err c.in-Err.reason) in
     let v = c.in-Err.ensures.value in
     let e = framed s.limit s.e es s.ring.now s.head s.tail s.scratch.now f _ _ v c.allowed-ok.ensures c.sound-table.ensures in
@@ -53,7 +52,7 @@ returns-in-Err c =
 pub returns-in_default : goal.returns-in_default
 returns-in_default c =
     let s = c.args in
-    let es = events_of s.rows.now in
+    let es = s.events.now in
     let f = frame_of (Ok None) in
     let v = rw c.in_default.is at c.in-Ok.ensures.value in
     let e = framed s.limit s.e es s.ring.now s.head s.tail s.scratch.now f _ _ v c.allowed-ok.ensures c.sound-table.ensures in
@@ -67,7 +66,7 @@ returns-in_default c =
 pub read_event-j-requires : goal.read_event-j-requires
 read_event-j-requires c =
     let s = c.args in
-    let es = events_of s.rows.now in
+    let es = s.events.now in
     let f = frame_of (Ok (Some c.in-Some.found)) in
     let v = rw c.in-Some.is at c.in-Ok.ensures.value in
     let e = framed s.limit s.e es s.ring.now s.head s.tail s.scratch.now f _ _ v c.allowed-ok.ensures c.sound-table.ensures in
@@ -75,13 +74,13 @@ read_event-j-requires c =
     let x = bytes s.limit s.e es s.ring.now s.head s.tail s.scratch.now f e refl _ _ w c.record_shown-r.ensures.result_value in
     let g = going s.limit s.e es s.ring.now s.head s.tail s.scratch.now f e refl in
     let t = sound-limit s.limit es (not-false _ g.beside.1.0) in
-    let n : length s.rows.now < 4294967296 = omega (arith, c.ranges.limit.fits, rows-length s.rows.now, t) in
+    let n : length s.events.now < 4294967296 = omega (arith, c.ranges.limit.fits, t) in
     (omega (arith, g.size_low, ap length x, going-length _ _ _ _ _ _ _ _ g), n)
 
 pub returns : goal.returns
 returns c =
     let s = c.args in
-    let es = events_of s.rows.now in
+    let es = s.events.now in
     let f = frame_of (Ok (Some c.in-Some.found)) in
     let v = rw c.in-Some.is at c.in-Ok.ensures.value in
     let e = framed s.limit s.e es s.ring.now s.head s.tail s.scratch.now f _ _ v c.allowed-ok.ensures c.sound-table.ensures in

@@ -1,20 +1,16 @@
 -- What the slot says of its identifier is the record's answer; where it says that there is an event, the event's own is.
-use Rattle.std.specs.Prelude.{true, false}
-use mathlib.Core.Path.{◌≡◌, sym, ap, ◌∙◌, subst}
+use Rattle.std.specs.Prelude.{true}
+use mathlib.Core.Path.{◌≡◌, ap, ◌∙◌, subst}
 use mathlib.Core.List.{List}
-use mathlib.Core.Logic.{◌⊎◌}
-use Rattle.std.proofs.Common.{⊎_elim}
 use Prim.Native.Nat.{ℕ, ◌≤◌}
 use native.Mathlib.Omega.{arith}
 use lib.ListN.{length, get_or}
 use Rattle.meaning.specs.declared.Event.{Event}
 use Rattle.meaning.specs.declared.Known.{Known}
 use Rattle.meaning.specs.Records.{kind_of, layout, judge}
-use Rattle.meaning.specs.Events.{events_of, identifier_of, judge_events}
-use Rattle.laws.specs.Bytes.{apart}
+use Rattle.meaning.specs.Events.{identifier_of, judge_events}
 use Rattle.slots.specs.declared.Slot.{Slot}
-use Rattle.slots.specs.declared.State.{State}
-use Rattle.slots.specs.declared.State.TheVariants.{Empty, Indexed, InTable, UnknownBit, Absent}
+use Rattle.slots.specs.declared.State.TheVariants.{InTable}
 use Rattle.slots.specs.Slots.{SlotOf, attributes_for, empty_slot, is_filled, refused_by, standing-filled, slot-refused, slot-judged}
 use Rattle.event_plan.proofs.slot_answer.Goals as goal
 
@@ -47,31 +43,19 @@ pub returns-in-InTable : goal.returns-in-InTable
 returns-in-InTable c =
     let a = c.args in
     let q = c.requires in
-    let es = events_of a.rows.now in
-    c.found.ensures ∙ ap (λ (n : ℕ). judge (layout a.known (attributes_for es n)) a.r.now) q.id_value
-    ∙ slot-judged a.known es a.r.now (omega (arith, q.kind_value, q.le_kind)) (omega (arith, q.kind_value, q.kind_le_kinds)) q.in_bounds (get_or a.memo.now a.h empty_slot)
-    (subst (λ (n : ℕ). SlotOf a.known es n (get_or a.memo.now a.h empty_slot)) q.id_value q.slot_of) c.in-InTable.is
+    let es = a.events.now.table.now in
+    c.found.ensures ∙ ap (λ (n : ℕ). judge (layout a.events.now.known (attributes_for es n)) a.r.now) q.id_value
+    ∙ slot-judged a.events.now.known es a.r.now (omega (arith, q.kind_value, q.le_kind)) (omega (arith, q.kind_value, q.kind_le_kinds)) q.in_bounds (get_or a.memo.now a.h empty_slot)
+    (subst (λ (n : ℕ). SlotOf a.events.now.known es n (get_or a.memo.now a.h empty_slot)) q.id_value q.slot_of) c.in-InTable.is
 
-pub returns-in-UnknownBit : goal.returns-in-UnknownBit
-returns-in-UnknownBit c =
+pub refusal-requires : goal.refusal-requires
+refusal-requires c =
+    let a = c.args in
+    record { filled = filled a.events.now.known a.events.now.table.now a.id _ c.requires.slot_of; no_event = c.in_default.not-InTable }
+
+pub returns-in_default : goal.returns-in_default
+returns-in_default c =
     let a = c.args in
     let q = c.requires in
-    let e = c.in-UnknownBit.is in
-    sym (ap refused_by e)
-    ∙ refused a.known (events_of a.rows.now) a.r.now a.id _ a.kind q.kind_value q.id_value q.in_bounds q.le_kind q.kind_le_kinds q.slot_of (λ f. cc (sym e ∙ f))
-
--- the arm of what is not in the table: the slot is filled, so that it is no other
-absent : (state : State) → is_filled state ≡ true → (state ≡ Absent) ⊎ ((state ≡ Empty) ⊎ (state ≡ Indexed)) → state ≡ Absent
-absent state held are =
-    ⊎_elim (λ (e : state ≡ Absent). e)
-    (λ (others : (state ≡ Empty) ⊎ (state ≡ Indexed)).
-    ⊎_elim (λ (e : state ≡ Empty). absurd (apart (sym (ap is_filled e) ∙ held))) (λ (e : state ≡ Indexed). absurd (apart (sym (ap is_filled e) ∙ held))) others)
-    are
-
-pub returns-in-Absent : goal.returns-in-Absent
-returns-in-Absent c =
-    let a = c.args in
-    let q = c.requires in
-    let e = absent _ (filled a.known (events_of a.rows.now) a.id _ q.slot_of) c.in-Absent.is in
-    sym (ap refused_by e)
-    ∙ refused a.known (events_of a.rows.now) a.r.now a.id _ a.kind q.kind_value q.id_value q.in_bounds q.le_kind q.kind_le_kinds q.slot_of (λ f. cc (sym e ∙ f))
+    c.refusal.ensures
+    ∙ refused a.events.now.known a.events.now.table.now a.r.now a.id _ a.kind q.kind_value q.id_value q.in_bounds q.le_kind q.kind_le_kinds q.slot_of c.in_default.not-InTable

@@ -1,7 +1,6 @@
 -- A slot of this identifier that is filled is kept.
 use mathlib.Core.Path.{refl}
 use borrow.Author.Rules.{rules}
-use Rattle.meaning.specs.Events.{events_of}
 use Rattle.slots.specs.Slots.{memo-held}
 use Rattle.held_slots.proofs.hold.Goals as goal
 
@@ -11,5 +10,5 @@ returns-then-is_filled c =
     record {
       memo_2 = c.requires.memo;
       memo_len_unchanged = refl;
-      slot_of = memo-held a.known.now (events_of a.rows.now) a.memo.now a.h a.id c.requires.memo c.requires.h_in_bounds c.if-memo-h.true (cc);
+      slot_of = memo-held a.events.now.known a.events.now.table.now a.memo.now a.h a.id c.requires.memo c.requires.h_in_bounds c.if-memo-h.true (cc);
     }

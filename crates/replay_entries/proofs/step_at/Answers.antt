@@ -5,7 +5,8 @@ use mathlib.Core.List.{List}
 use mathlib.Core.Bool.{Bool, true, false}
 use Prim.Native.Nat.{ℕ, ◌+◌, ◌-◌, ◌≤◌}
 use native.Mathlib.Omega.{arith}
-use lib.ListN.{length, take, drop}
+use lib.ListN.{length, take, drop, length-drop}
+use lib.Seq.{length-take-le}
 use borrow.Author.Rules.{rules}
 use borrow.Author.Tests.{eqb-true, ne_eqb}
 use Rattle.meaning.specs.Bytes.{number_at}
@@ -29,11 +30,17 @@ body-ends xs at e q w =
     let n = ap (λ (x : Entry). x.length) (q ∙ s.told) in
     omega (arith, s.least, s.room, b, n)
 
--- the record that was looked at is the body
-body_is : (xs : List ℕ) (e : Entry) (r : Bool) → r ≡ framed (take (e.body + e.length - e.body) (drop e.body xs)) → r ≡ framed (body_of xs e)
-body_is xs e r h =
+-- the record that was looked at is the body, all of it
+body_is : (xs : List ℕ) (e : Entry) → take (e.body + e.length - e.body) (drop e.body xs) ≡ body_of xs e
+body_is xs e =
     let n : e.body + e.length - e.body ≡ e.length = omega arith in
-    h ∙ ap (λ (k : ℕ). framed (take k (drop e.body xs))) n
+    ap (λ (k : ℕ). take k (drop e.body xs)) n
+
+body-length : (xs : List ℕ) (at : ℕ) (e : Entry) → e ≡ entry_at xs at → e.whole ≡ true → length (body_of xs e) ≡ e.length
+body-length xs at e q w = length-take-le e.length (drop e.body xs) (omega (arith, body-ends xs at e q w, length-drop e.body xs))
+
+framed_is : (xs : List ℕ) (e : Entry) (r : Bool) → r ≡ framed (take (e.body + e.length - e.body) (drop e.body xs)) → r ≡ framed (body_of xs e)
+framed_is xs e r h = h ∙ ap framed (body_is xs e)
 
 -- the entry, with its kind, its body's place and its length as they are found
 stands-as : (xs : List ℕ) (at kind n : ℕ) (e : Entry) → e ≡ entry_at xs at → e.whole ≡ true → e.kind ≡ kind → e.length ≡ n
@@ -43,28 +50,41 @@ stands-as xs at kind n e q w k l =
     let b : e.body ≡ at + 6 = ap (λ (x : Entry). x.body) (q ∙ s.told) in
     (b, sym q ∙ (λ i. record { whole = w i; kind = k i; body = b i; length = l i }))
 
+-- an offer of that record, which lies where the entry's body does
+offers : (xs : List ℕ) (from : ℕ × ℕ) (at : ℕ) (e : Entry) → e ≡ entry_at xs at → e.whole ≡ true → e.kind ≡ 16
+    → (entry_at xs at ≡ entry 16 (at + 6) (length (take (e.body + e.length - e.body) (drop e.body xs))))
+    × (take (e.body + e.length - e.body) (drop e.body xs) ≡ body_of xs (entry_at xs at))
+    × ◌≡◌ {A = ℕ × ℕ} (from.0, e.body + from.1) (from.0, at + 6 + from.1)
+offers xs from at e q w k =
+    let l = ap length (body_is xs e) ∙ body-length xs at e q w in
+    let s = stands-as xs at 16 _ e q w k (sym l) in
+    (s.1, body_is xs e ∙ ap (body_of xs) q, (λ i. (from.0, s.0 i + from.1)))
+
 pub returns-in_default : goal.returns-in_default
 unfolding first
 returns-in_default c = record { answer = by _ _ 51 no_entry c.in_default.ensures refl; step = tt }
 
-pub overflow_add-body : goal.overflow_add-body
-overflow_add-body c = record { fits = omega (arith, body-ends _ _ _ c.in-Some.ensures refl, c.well_formed) }
+pub overflow_add-record : goal.overflow_add-record
+overflow_add-record c = record { fits = omega (arith, body-ends _ _ _ c.in-Some.ensures refl, c.well_formed) }
 
-pub slice_bounds-one_record-end : goal.slice_bounds-one_record-end
-slice_bounds-one_record-end c = body-ends _ _ _ c.in-Some.ensures refl
+pub slice_bounds-record-end : goal.slice_bounds-record-end
+slice_bounds-record-end c = body-ends _ _ _ c.in-Some.ensures refl
 
 pub returns-then-one_record : goal.returns-then-one_record
 unfolding first
 returns-then-one_record c =
     let e : Entry = entry_of (Some c.in-Some.e) in
-    let f = sym (body_is _ e _ c.one_record.ensures) ∙ c.if-one_record.true in
-    record { answer = by _ _ 0 e c.in-Some.ensures (simp ((eqb-true _ 16 (sym c.is_of.ensures ∙ c.if-is_of.true)), f)); step = (stands-as _ _ 16 _ e c.in-Some.ensures refl (eqb-true _ 16 (sym c.is_of.ensures ∙ c.if-is_of.true)) refl).1 }
+    let f = sym (framed_is _ e _ c.one_record.ensures) ∙ c.if-one_record.true in
+    record {
+      answer = by _ _ 0 e c.in-Some.ensures (simp ((eqb-true _ 16 (sym c.is_of.ensures ∙ c.if-is_of.true)), f));
+      step = offers _ c.args.trace.ref_ptr _ e c.in-Some.ensures refl (eqb-true _ 16 (sym c.is_of.ensures ∙ c.if-is_of.true));
+    }
 
 pub returns-then-is_of : goal.returns-then-is_of
 unfolding first
 returns-then-is_of c =
     let e : Entry = entry_of (Some c.in-Some.e) in
-    let f = sym (body_is _ e _ c.one_record.ensures) ∙ c.if-one_record.false in
+    let f = sym (framed_is _ e _ c.one_record.ensures) ∙ c.if-one_record.false in
     record { answer = by _ _ 53 e c.in-Some.ensures (simp ((eqb-true _ 16 (sym c.is_of.ensures ∙ c.if-is_of.true)), f)); step = tt }
 
 pub u32_at-requires : goal.u32_at-requires
