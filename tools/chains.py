@@ -1,6 +1,6 @@
 #!/usr/bin/env python3
-"""chains.py [--check]: writes the lists and the types of crate layouts (specs/Lists.antt, src/types.rt) and crates sample_fills and chains
-(src/lib.rt and the proofs) from the rows of crates/table/src/rows.rt. A row becomes one call of the function of its shape, with its guard and the number of its first word; a few
+"""chains.py [--check]: writes the lists of crate layouts (specs/Lists.antt) and crates pass_sample and pass_types
+(src/lib.rt and the proofs) from the rows of crates/table/src/rows.rt. A row becomes one call of the method of its shape, with its guard and the number of its first word; a few
 calls make a function. --check writes nothing and fails where a file is not what would be written. Run from the repository's root."""
 import os
 import re
@@ -49,10 +49,10 @@ def guard(g):
     return X(g % 64) if g < 32 or g >= 64 else BY_NUMBER[g - 32]
 
 
-# ---- shapes: the function, what it is given beyond the rest, the shape as the definitions spell it, its words
-SHAPES = {'U64': ('number8', '', '(Number W8)', 1), 'U32': ('number4', '', '(Number W4)', 1), 'U16': ('number2', '', '(Number W2)', 1),
-          'COUNT_64': ('count8', '', '(Count W8)', 1), 'COUNT_16': ('count2', '', '(Count W2)', 1),
-          'SIZE_32': ('size4', '', '(Size W4)', 1), 'SIZE_64': ('size8', '', '(Size W8)', 1),
+# ---- shapes: the method, what it is given beyond the rest, the shape as the definitions spell it, its words
+SHAPES = {'U64': ('number', 'Width::W8', '(Number W8)', 1), 'U32': ('number', 'Width::W4', '(Number W4)', 1), 'U16': ('number', 'Width::W2', '(Number W2)', 1),
+          'COUNT_64': ('count', 'Width::W8', '(Count W8)', 1), 'COUNT_16': ('count', 'Width::W2', '(Count W2)', 1),
+          'SIZE_32': ('size', 'Width::W4', '(Size W4)', 1), 'SIZE_64': ('size', 'Width::W8', '(Size W8)', 1),
           'BYTES': ('times', '1', '(Times 1)', 1), 'WORDS': ('times', '8', '(Times 8)', 1), 'PAIRS': ('times', '16', '(Times 16)', 1),
           'BRANCHES': ('times', '24', '(Times 24)', 1), 'VALUES': ('values', 'f', '(Times (group_bytes f))', 1),
           'EARLIER_BYTES': ('earlier', '', '(Earlier 1)', 1), 'REGISTERS': ('registers', '', 'Registers', 2), 'FILLED': ('filled', '', 'Filled', 1),
@@ -61,6 +61,7 @@ SHAPES = {'U64': ('number8', '', '(Number W8)', 1), 'U32': ('number4', '', '(Num
           'PADDING': ('pad', '', 'Pad', 0), 'NAME': ('name', '', 'Name', 2), 'IGNORED_3': ('ignored', '3', '(Ignored 3)', 0),
           'IGNORED_4': ('ignored', '4', '(Ignored 4)', 0)}
 BY_SHAPE = {consts[k]: v for k, v in SHAPES.items()}
+ASKS = {'ignored': ', omega arith', 'times': ', omega arith, omega arith'}  # what a method asks beyond `Ready`
 PARAMS = ['misc', 'x', 'f', 'b', 'user', 'interrupt']  # what a chain may take, each a u64
 FIELD = {'x': 'sample', 'f': 'format', 'b': 'branch', 'user': 'user', 'interrupt': 'interrupt'}
 
@@ -104,8 +105,12 @@ class Events:
 
     def add(self, name):
         self.seen[name] = self.seen.get(name, 0) + 1
-        self.all.append(name + (f'-{self.seen[name]}' if self.seen[name] > 1 else ''))
+        self.all.append(name + self.again(name))
         return len(self.all) - 1
+
+    def again(self, name):
+        n = self.seen.get(name, 0)
+        return f'-{n}' if n > 1 else ''
 
     def at(self, i):
         return f'c.{self.all[i]}'
@@ -126,7 +131,7 @@ def proof_of(g, places, ev):
 MADE = '-- Written by tools/chains.py from the rows of crate table'
 files = {}  # by path below crates/
 lists_out = []
-code_out = {'sample_fills': [], 'chains': []}
+code_out = {'pass_sample': [], 'pass_types': []}
 
 
 def alone(fn):
@@ -134,7 +139,7 @@ def alone(fn):
 
 
 def crate_of(fn):
-    return 'sample_fills' if alone(fn) else 'chains'
+    return 'pass_sample' if alone(fn) else 'pass_types'
 
 
 def word(at):
@@ -143,8 +148,8 @@ def word(at):
 
 
 def kind(t):
-    """a type as an arm of a `match` spells it; 0 is none"""
-    return f'types::{names[t]}' if t else '0'
+    """a type's variant of meaning's Kind"""
+    return 'Kind::' + ''.join(part.capitalize() for part in names[t].split('_'))
 
 
 def uses(imports, text):
@@ -169,8 +174,9 @@ def args(ps):
 
 
 IMPORTS = ['use mathlib.Core.Path.{refl, ap, ap₂}', 'use mathlib.Core.Bool.{not, ◌&&◌, ◌||◌}', 'use mathlib.Core.List.{◌++◌}',
-           'use Rattle.meaning.specs.Values.{tell, width}', 'use Rattle.layouts.specs.Lists as lists',
-           'use Rattle.fills.specs.Chains.{start, done, last, long, head, next, head₁, next₁}']
+           'use native.Mathlib.Omega.{arith}', 'use Rattle.meaning.specs.Values.{tell, width}', 'use Rattle.layouts.specs.Lists as lists',
+           'use Rattle.pass.specs.Laws.{start, done, head, next, head₁, next₁}']
+LAWS = 'g.P.Pass.laws'
 
 
 def guarded(rs):
@@ -179,14 +185,14 @@ def guarded(rs):
 
 def proof_file(fn, why, text):
     crate = crate_of(fn)
-    files[f'{crate}/proofs/{fn}/Answers.antt'] = f'''-- `{crate}::{fn}` meets its contract: {why}. Assumes nothing.
+    files[f'{crate}/proofs/{fn}/Answers.antt'] = f"""-- `{crate}::{fn}` meets its contract: {why}. Assumes nothing.
 {MADE}.
 {uses(IMPORTS, text)}use Rattle.{crate}.proofs.{fn}.Goals as goal
-{text}'''
+{text}"""
 
 
 def answer(goal, unfolded, term):
-    return f'\npub {goal} : goal.{goal}\n{unfolded}{goal} c = {term}\n'
+    return f'\npub {goal} : goal.{goal}\n{unfolded}{goal} g c = {term}\n'
 
 
 def listed(name, ps):
@@ -194,24 +200,16 @@ def listed(name, ps):
 
 
 def signature(fn, title, ps, at, list_text):
-    given = ''.join(f'{p}: u64, ' for p in ps)
+    given = ''.join(f', {p}: u64' for p in ps)
     public = 'pub ' if fn == ALONE else ''
-    head = f'{public}fn {fn}(s: &[u8], {given}c: Cursor, out: &mut [u64]) -> Cursor'
-    if len(head) > 100:  # as `rt fmt` breaks it
-        head = f'{public}fn {fn}(\n    s: &[u8],\n' + ''.join(f'    {p}: u64,\n' for p in ps) + '    c: Cursor,\n    out: &mut [u64],\n) -> Cursor'
-    return [f'// {title}', head,
-            f'    requires {{ Ready {list_text} s.now c out.old {word(at)} }}',
-            f'    ensures {{ Filling {list_text} s.now c out.old {word(at)} out.new result }}', '{']
-
-
-def ended(unfolded, term):
-    return answer('shape_of-out', unfolded, f'long ({term})') + answer('returns', unfolded, term)
+    return [f'// {title}', f'{public}fn {fn}<P: Pass>(p: &mut P{given})', f'    requires {{ P.Ready {list_text} p.old {word(at)} }}',
+            f'    ensures {{ P.Done {list_text} p.old {word(at)} p.new }}', '{']
 
 
 def going(steps, ev):
     t = '(start c.requires)'
     for law, eq, where in steps:
-        t = f'({" ".join([law] + [w for w in (eq(ev),) if w])} {t} {ev.at(where)}.ensures)'
+        t = f'({law} {LAWS} {eq(ev)} {t} {ev.at(where)}.ensures)'
     return t
 
 
@@ -221,10 +219,9 @@ def chain(fn, title, rs):
     lname = fn.replace('_', '-')
     lists_out.append(f'abbrev pub {lname} : {"ℕ → " * len(ps)}List Item\n{" ".join([lname] + ps)} =\n    '
                      + '\n    ∷ '.join(f'item {spec(r.on)} {r.shape}' for r in rs) + '\n    ∷ []\n')
-    at = rs[0].word
-    out = signature(fn, title, ps, at, listed(lname, ps))
+    out = signature(fn, title, ps, rs[0].word, listed(lname, ps))
     ev = Events()
-    text, steps, last = '', [], 'c'
+    text, steps = '', []
     for n, r in enumerate(rs):
         places, on = [], code(r.on)
         for b in bits(r.on):
@@ -232,17 +229,14 @@ def chain(fn, title, rs):
         if len(bits(r.on)) > 1:
             out.append(f'    let on{n} = {on};')
             on = f'on{n}'
-        tail = n == len(rs) - 1
-        call = f'fills::{r.fn}(s, {last}, {on}, out, {r.word}{", " + r.more if r.more else ""})'
-        out.append(f'    {call} // {r.comment}' if tail else f'    let c{n} = {call}; // {r.comment}')
-        last = f'c{n}'
-        step = r.fn if tail else f'{r.fn}-c{n}'
+        out.append(f'    p.{r.fn}({on}, {r.word}{", " + r.more if r.more else ""}); // {r.comment}')
         equation = (lambda r, places: lambda e: proof_of(r.on, list(places), e))(r, places)
-        text += answer(f'{step}-requires', 'unfolding tell\n', f'head₁ {equation(ev)} {going(steps, ev)}')
-        steps.append(('next₁', equation, ev.add(step)))
-    text += ended('unfolding tell\n', f'done {going(steps, ev)}')
-    why = f'each call fills the words of the next item of the list{guarded(rs)} and leaves what the item after it asks'
-    proof_file(fn, why, text)
+        before = going(steps, ev)
+        term = f'head₁ {LAWS} {equation(ev)} {before}'
+        steps.append(('next₁', equation, ev.add(r.fn)))
+        text += answer(f'{r.fn}-requires{ev.again(r.fn)}', 'unfolding tell\n', f'({term}{ASKS[r.fn]})' if r.fn in ASKS else term)
+    text += answer('returns', 'unfolding tell\n', f'done {LAWS} {going(steps, ev)}')
+    proof_file(fn, f'each call passes the next item of the list{guarded(rs)} and leaves what the item after it asks', text)
     code_out[crate_of(fn)] += out + ['}', '']
     return ps
 
@@ -256,25 +250,22 @@ def joined(fn, title, pieces):
                      + ' ++ ('.join(texts) + ')' * (len(texts) - 1) + '\n')
     out = signature(fn, title, params, pieces[0][2], listed(lname, params))
     ev = Events()
-    text, steps, last = '', [], 'c'
+    text, steps = '', []
     for n, (piece, ps, at) in enumerate(pieces):
         rest = pieces[n + 1:]
-        call = f'{piece}(s{args(ps)}, {last}, out)'
-        out.append(f'    let c{n} = {call};' if rest else f'    {call}')
-        last = f'c{n}'
-        step = f'{piece}-c{n}' if rest else piece
+        out.append(f'    {piece}(p{args(ps)});')
 
         def lists(e, piece=piece, ps=ps, rest=rest):
             def one(d, qs):
                 return listed('lists.' + d.replace('_', '-'), [f'c.args.{q}' for q in qs])
             after = ' ++ ('.join(one(d, qs) for d, qs, _ in rest) + ')' * (len(rest) - 1)
             return f'{one(piece, ps)} ' + (f'({after})' if len(rest) > 1 else after)
-        term = f'head {lists(ev)} {going(steps, ev)}' if rest else f'{going(steps, ev)}.ready'
-        text += answer(f'{step}-requires', 'unfolding tell width\n', term)
-        steps.append(('next' if rest else 'last', lists if rest else (lambda e: ''), ev.add(step)))
-    text += ended('unfolding tell width\n', going(steps, ev)[1:-1])
-    why = 'the list is its parts one after the other, and each call fills the words of the next part and leaves what the part after it asks'
-    proof_file(fn, why, text)
+        text += answer(f'{piece}-requires', 'unfolding tell width\n', f'head {LAWS} {lists(ev)} {going(steps, ev)}' if rest else f'{going(steps, ev)}.ready')
+        if rest:
+            steps.append(('next', lists, ev.add(piece)))
+        else:
+            text += answer('returns', 'unfolding tell width\n', f'{going(steps, ev)}.last _ c.{piece}.ensures')
+    proof_file(fn, 'the list is its parts one after the other, and each call passes the next part and leaves what the part after it asks', text)
     code_out[crate_of(fn)] += out + ['}', '']
     return params
 
@@ -312,72 +303,27 @@ for t in range(TYPES):
 trail = joined('trailer', 'the trailer', pieces_of('trailer', 'the trailer', rows_from(FIELD_ROWS, len(rows), TRAIL)))
 
 # ---- by type
-def arm(t):
-    if t not in kinds:
-        return 'c'
-    fn, ps = kinds[t]
-    return f'{crate_of(fn) + "::" if alone(fn) else ""}{fn}(s{args(ps)}, c, out)'
-
-
-def flag_word(t):
-    rs = rows_from(starts[t], starts[t + 1], BODY)
-    return BODY + sum(r.words for r in rs) if any(r.shape == 'Name' for r in rs) else 0
-
-
 used = [p for p in PARAMS if p in FIELD and any(p in ps for _, ps in kinds.values())]
-code_out['chains'] += ['// The fields of a type; a type that has none, or that the table does not have, changes nothing.',
-             'pub fn fields(s: &[u8], kind: u64, misc: u64, a: Attributes, c: Cursor, out: &mut [u64]) -> Cursor',
-             f'    requires {{ Ready (schema kind misc a) s.now c out.old {word(BODY)} }}',
-             f'    ensures {{ Filling (schema kind misc a) s.now c out.old {word(BODY)} out.new result }}', '{']
-code_out['chains'] += [f'    let {p} = a.{FIELD[p]};' for p in used] + ['    match kind {'] + [f'        {kind(t)} => {arm(t)},' for t in range(TYPES)] + ['        _ => c,', '    }', '}', '']
-SAME = '(λ (k : ℕ). schema k c.args.misc c.args.a)'
-seen, asked, left = set(), '', ''
-for t in range(TYPES):
-    if t in kinds:
-        fn = kinds[t][0]
-        arm_of = f'-in-{t}' if fn in seen else ''
-        seen.add(fn)
-        asked += answer(f'{fn}-requires{arm_of}', '', f'ready-as (ap {SAME} c.in-{t}.is) c.requires')
-        left += answer(f'returns-in-{t}', '', f'filling-as (ap {SAME} (sym c.in-{t}.is)) c.{fn}{arm_of}.ensures')
-    else:
-        left += answer(f'returns-in-{t}', '', f'nothing (ap {SAME} c.in-{t}.is) c.requires')
-PAST = f'let h : {TYPES} ≤ c.args.kind = omega arith in '  # in the last arm: every type has an arm before it
-left += answer('returns-in_default', '', f'{PAST}nothing (get_or-eq_default (schemas c.args.misc c.args.a) [] h) c.requires')
-files['chains/proofs/fields/Answers.antt'] = f'''-- `chains::fields` meets its contract: by the arms of the `match`, each the layout of its type. Assumes nothing.
-{MADE}.
-use mathlib.Core.Path.{{sym, ap}}
-use mathlib.Core.List.{{[]}}
-use lib.ListN.{{get_or-eq_default}}
-use native.Mathlib.Omega.{{arith}}
-use Prim.Native.Nat.{{ℕ, ◌≤◌}}
-use Rattle.meaning.specs.Schema.{{schema, schemas}}
-use Rattle.fills.specs.Chains.{{ready-as, filling-as}}
-use Rattle.chains.proofs.Nothing.{{nothing}}
-use Rattle.chains.proofs.fields.Goals as goal
-{asked}{left}'''
-code_out['chains'] += ["// The word of the flag, of a type that has a name: the next after the words of its fields (M-107). 0 of the other types.",
-             'pub fn flag_at(kind: u64) -> usize', '    ensures { result ≡ flag_at kind }', '{', '    match kind {']
-code_out['chains'] += [f'        {kind(t)} => {flag_word(t)},' for t in range(TYPES)] + ['        _ => 0,', '    }', '}', '']
-text = ''.join(answer(f'returns-in-{t}', '', f'ap flag_at (sym c.in-{t}.is)') for t in range(TYPES))
-text += answer('returns-in_default', '', f'{PAST}sym (get_or-eq_default flags 0 h)')
-files['chains/proofs/flag_at/Answers.antt'] = f'''-- `chains::flag_at` meets its contract: by the arms of the `match`, each the row of its type. Assumes nothing.
-{MADE}.
-use mathlib.Core.Path.{{sym, ap}}
-use Prim.Native.Nat.{{◌≤◌}}
-use lib.ListN.{{get_or-eq_default}}
-use Rattle.table.specs.Flags.{{flags, flag_at}}
-use native.Mathlib.Omega.{{arith}}
-use Rattle.chains.proofs.flag_at.Goals as goal
-{text}'''
-code_out['chains'] += ['// The trailer of a record of this type, the cursor at its start.',
-                       'pub fn trail(s: &[u8], kind: u64, a: Attributes, c: Cursor, out: &mut [u64]) -> Cursor',
-                       f'    requires {{ Ready (trailer_of kind a) s.now c out.old {word(TRAIL)} }}',
-                       f'    ensures {{ Filling (trailer_of kind a) s.now c out.old {word(TRAIL)} out.new result }}', '{',
-                       '    trailer(s, layouts::trailer_bits(kind, a), c, out)', '}']
-
+code_out['pass_types'] += ['// The fields of a type; a type that has none, or that document 01 does not have, changes nothing.',
+                           'pub fn fields<P: Pass>(p: &mut P, kind: u64, misc: u64, a: Attributes)',
+                           f'    requires {{ P.Ready (schema kind misc a) p.old {word(BODY)} }}',
+                           f'    ensures {{ P.Done (schema kind misc a) p.old {word(BODY)} p.new }}', '{']
+code_out['pass_types'] += [f'    let {p} = a.{FIELD[p]};' for p in used] + ['    match Kind::try_from(kind) {']
+for fn, ps in dict.fromkeys((fn, tuple(ps)) for fn, ps in kinds.values()):
+    of = ' | '.join(kind(t) for t in range(1, TYPES) if t in kinds and kinds[t][0] == fn)
+    code_out['pass_types'].append(f'        Ok({of}) => {"pass_sample::" if alone(fn) else ""}{fn}(p{args(ps)}),')
+for t in range(1, TYPES):
+    if t not in kinds:
+        code_out['pass_types'].append(f'        Ok({kind(t)}) => {{}}')
+code_out['pass_types'] += ['        Err(_) => {}', '    }', '}', '']
+code_out['pass_types'] += ['// The trailer of a record of this type.',
+                           'pub fn trail<P: Pass>(p: &mut P, kind: u64, a: Attributes)',
+                           f'    requires {{ P.Ready (trailer_of kind a) p.old {word(TRAIL)} }}',
+                           f'    ensures {{ P.Done (trailer_of kind a) p.old {word(TRAIL)} p.new }}', '{',
+                           '    trailer(p, layouts::trailer_bits(kind, a));', '}']
 shapes = ['Number', 'Ignored', 'Count', 'Size', 'Times', 'Earlier', 'Registers', 'Filled', 'Abi', 'Limit', 'Listed', 'Bytes', 'Pad', 'Name']
 lists_text = "\n".join(lists_out)
-files['layouts/specs/Lists.antt'] = f'''-- The items of each type's fields, and of the trailer, in pieces of a few; what is equal for two types stands once. Assumes nothing: these are definitions.
+files['layouts/specs/Lists.antt'] = f"""-- The items of each type's fields, and of the trailer, in pieces of a few; what is equal for two types stands once. Assumes nothing: these are definitions.
 {MADE}; that they are the layouts is found by computation where they are used.
 use Rattle.std.specs.Prelude.{{true, not, ◌&&◌, ◌||◌, List, [], ◌∷◌, ◌++◌, ℕ}}
 use Rattle.meaning.specs.declared.Item.{{Item}}
@@ -386,7 +332,7 @@ use Rattle.meaning.specs.declared.Width.TheVariants.{{W2, W4, W8}}
 use Rattle.meaning.specs.Bytes.{{bit}}
 use Rattle.meaning.specs.Schema.{{item, group_bytes}}
 
-{lists_text}'''
+{lists_text}"""
 all_lists = re.findall(r'abbrev pub (\S+) :', lists_text)
 
 
@@ -395,35 +341,29 @@ def lists_of(crate):
     return ', '.join(l for l in all_lists if crate_of(l.replace('-', '_')) == crate)
 
 
-files['layouts/src/types.rt'] = '''// The types of records by name, for the arms of a `match`.
-// Written by tools/chains.py from the rows of crate table.
-''' + '\n'.join(f'pub const {names[t]}: u64 = {t};\n' for t in range(1, TYPES))
-files['sample_fills/src/lib.rt'] = f'''// The words of SAMPLE's fields: a call for each item, in the order of the schema.
+files['pass_sample/src/lib.rt'] = f"""// A pass over SAMPLE's fields: a call for each item, in the order of the schema.
 // Written by tools/chains.py from the rows of crate table.
 #![tactic(auto)]
 
 ghost use Rattle.meaning.specs.Values.{{body_words}};
-ghost use Rattle.layouts.specs.Lists.{{{lists_of("sample_fills")}}};
-ghost use Rattle.fills.specs.Chains.{{Ready, Filling}};
+ghost use Rattle.layouts.specs.Lists.{{{lists_of("pass_sample")}}};
 
-use meaning::Cursor;
+use meaning::Width;
+use pass::Pass;
 
-''' + '\n'.join(code_out['sample_fills'])
-files['chains/src/lib.rt'] = f'''// The words of each type's fields and of the trailer: a call for each item, in the order of the schema.
+""" + '\n'.join(code_out['pass_sample'])
+files['pass_types/src/lib.rt'] = f"""// A pass over each type's fields and over the trailer: a call for each item, in the order of the schema.
 // Written by tools/chains.py from the rows of crate table.
 #![tactic(auto)]
 
-ghost use Rattle.std.specs.Prelude.{{◌≡◌}};
 ghost use Rattle.meaning.specs.Schema.{{schema, trailer as trailer_of}};
 ghost use Rattle.meaning.specs.Values.{{body_words, trail_words}};
-ghost use Rattle.layouts.specs.Lists.{{{lists_of("chains")}}};
-ghost use Rattle.table.specs.Flags.{{flag_at}};
-ghost use Rattle.fills.specs.Chains.{{Ready, Filling}};
+ghost use Rattle.layouts.specs.Lists.{{{lists_of("pass_types")}}};
 
-use layouts::types;
-use meaning::{{Attributes, Cursor}};
+use meaning::{{Attributes, Kind, Width}};
+use pass::Pass;
 
-''' + '\n'.join(code_out['chains']) + '\n'
+""" + '\n'.join(code_out['pass_types']) + '\n'
 
 bad = 0
 for name, text in sorted(files.items()):

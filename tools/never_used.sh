@@ -15,8 +15,10 @@ meanings() { # TREE
   # a choice of which 10 is one side
   grep -rnE --exclude-dir=out '\bcond\b.* (10 [0-9(]|[0-9]+ 10\b)|\bcond\b.*\) 10\b' crates --include='*.antt'
   grep -nE '\bstop [0-9]+( [0-9]+| \([^)]*\)){6} 10$' crates/tables/specs/Rows.antt
-  # functions that answer by a number
-  grep -rnE --exclude-dir=out '\b(halt|refuse|refused|told)\(([a-z]+, )?10\b|\btell\([0-9], 10\b|return 10;|(stop|answer|refused|why): 10\b|\{ 10 \}|^ +10$' crates --include='*.rt'
+  # the reasons' numbers, in the code and in the definitions; functions that tell a number
+  awk '/^pub enum Reason / { on = 1 } /^}/ { on = 0 } on { print FILENAME ":" FNR ":" $0 }' crates/meaning/src/lib.rt | grep -E ' = 10,'
+  grep -nE '^number_of [A-Za-z]+ = 10$' crates/meaning/specs/Reasons.antt
+  grep -rnE --exclude-dir=out '\b(refuse|refused|told)\(([a-z]+, )?10\b|\btell\([0-9], 10\b|return 10;|(stop|answer|refused|why): 10\b|\{ 10 \}|^ +10$' crates --include='*.rt'
   # constants of the header, and the name that 10 had
   grep -nE '#define OLLSKUVAN_(STOP|REFUSED)_[A-Z_]+ 10u?\b' include/ollskuvan.h
   grep -rnI --exclude-dir=out 'HEADER_CROSSES' include words tool examples tests bench packaging docs/FORMAT.md crates README.md
@@ -56,8 +58,10 @@ teeth() {
   done <<'PLANTS'
 crates/meaning/specs/Ring.antt|s/^( *∷ refusal \(ltb journal 16\)) 9$/\1 10/
 crates/editions/specs/Numbers.antt|s/^(stop_numbers = .*9 ∷)/\1 10 ∷/
-crates/ring/src/lib.rt|s/return halt\(9\)/return halt(10)/
-crates/ring/src/lib.rt|s/return 5;/return 10;/
+crates/meaning/src/lib.rt|s/^(    JournalFull =) 9,/\1 10,/
+crates/meaning/specs/Reasons.antt|s/^(number_of JournalFull =) 9$/\1 10/
+crates/meaning/specs/Reasons.antt|s/^(number_of DirtyName =) 44$/\1 10/
+crates/replaying/src/lib.rt|s/return 0;/return 10;/
 crates/tables/specs/Rows.antt|s/(∷ stop 1 8 8 0 1 15 0) 9$/\1 10/
 include/ollskuvan.h|s/^(#define OLLSKUVAN_STOP_JOURNAL) 9u/\1 10u/
 include/ollskuvan.h|s/^\/\* 10 is never used again\./\/* 10 is free./
@@ -69,14 +73,12 @@ crates/meaning/specs/Records.antt|s/0 44\)/0 10)/
 crates/meaning/specs/Records.antt|s/^(check rows e a xs = .*\)) 2$/\1 10/
 crates/meaning/specs/Events.antt|s/0 40\)/0 10)/
 crates/promises/proofs/Settings.antt|s/\(0 ∷ 11 ∷ 1 ∷ 2 ∷ 40 ∷/(0 ∷ 10 ∷ 1 ∷ 2 ∷ 40 ∷/
-crates/salvaging/src/lib.rt|s/refused\(54\)/refused(10)/
-crates/settings_read/src/lib.rt|s/refuse\(11\)/refuse(10)/
-crates/settings_write/src/lib.rt|s/told\(40, 0\)/told(10, 0)/
-crates/comparing/src/lib.rt|s/tell\(4, lstop,/tell(4, 10,/
-crates/shapes/src/lib.rt|s/refuse\(c, 33\)/refuse(c, 10)/
-crates/settings_walk/src/lib.rt|s/^    52$/    10/
-crates/record/src/lib.rt|s/\{ 44 \}/{ 10 }/
-crates/event_judge/src/lib.rt|s/answer: 26,/answer: 10,/
+crates/salvaging/src/lib.rt|s/answer: reason\.number\(\) as u32/answer: 10/
+crates/comparing/src/lib.rt|s/tell\(4, reason\.number\(\),/tell(4, 10,/
+crates/one/src/lib.rt|s/stop: 0,/stop: 10,/
+crates/settings_read/src/lib.rt|s/answer: 0,/answer: 10,/
+crates/pairs/src/lib.rt|s/\{ 1 \}/{ 10 }/
+crates/fast_check/src/lib.rt|s/^    0$/    10/
 bench/careful.c|s/stop = 6;/stop = 10;/
 bench/careful.c|s/stopped\(tail, 11\)/stopped(tail, 10)/
 bench/careful.c|s/p->answer\[k\] = 20;/p->answer[k] = 10;/

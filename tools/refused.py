@@ -43,14 +43,32 @@ MADE_OF = 'made of '
 
 # What the edits say
 
+def in_a_name(kind):
+    """A type as it stands in the name of an impl: `[u64; 7]` is ArrayU647."""
+    array = re.fullmatch(r'\[(\w+); (\w+)\]', kind.strip())
+    words = ['Array', *array.groups()] if array else re.findall(r'\w+', re.sub(r"<.*|'\w+", '', kind))
+    return ''.join(word[:1].upper() + word[1:] for word in words)
+
+
+def name_of_impl(head):
+    """The name that the prover gives an impl: the type's, and that of a trait with the types that it is given."""
+    trait, _, kind = head.rpartition(' for ')
+    if not trait:
+        return re.match(r'\w+', kind).group()
+    given = re.fullmatch(r'\w+<(.*)>', trait)
+    types = [in_a_name(it) for it in given.group(1).split(', ') if not it.startswith("'")] if given else []
+    return in_a_name(kind) + in_a_name(trait) + ''.join(types)
+
+
 def function_at(text, place):
-    """The function of a source file that a place lies in, if it lies in one, with the type that it belongs to."""
+    """The function of a source file that a place lies in, if it lies in one, with the type or the impl that it belongs to."""
+    found = None  # (the last that holds it: a method of a trait that has no body ends with the next one's, as it is looked for here)
     for start in re.finditer(r'(?m)^( *)(?:pub )?(?:extern "C" )?fn (\w+)', text):
         end = re.compile(r'(?m)^' + start.group(1) + r'\}').search(text, start.end())
         if start.start() <= place < (end.end() if end else len(text)):
-            types = re.findall(r'(?m)^impl(?:<[^>]*>)? (\w+)', text[: start.start()]) if start.group(1) else []
-            return '::'.join([*types[-1:], start.group(2)])
-    return None
+            heads = re.findall(r'(?m)^impl(?:<[^>]*>)? (.+) \{$', text[: start.start()]) if start.group(1) else []
+            found = '::'.join([*map(name_of_impl, heads[-1:]), start.group(2)])
+    return found
 
 
 def place_of(crate, file, old):
@@ -279,6 +297,8 @@ def make_logs(edits):
 
 ERROR = re.compile(r'(?m)^(?:\./)?((?:specs|proofs)/\S+\.antt):\d+:\d+: error: `([^`]+)`: (.*)')
 OPEN = re.compile(r'(?m)^fn \w+::(\S+): (?:no proof|not proved)\b.*; `search` did not prove (.*)')
+# A goal of a function with a proof file that nothing was found for, by its place in src/ (an edit is a line for a line).
+LEFT = re.compile(r'(?m)^note: (src/\S+):(\d+):\d+: it is not proved that .*? \(`([^`]+)`\)')
 # A proof that no longer fits the function's shape, or names what is gone.
 UNFIT = r'has no field|that can be named from here|is not in scope'
 
@@ -294,12 +314,30 @@ def unfit_in(log):
     return sorted({found.group(1).replace('/', '::') for found in map(re.compile(r'proofs/(.+)/(?:Answers|Invariants)\.antt').fullmatch, files) if found})
 
 
-def refusals(log):
+def function_on(crate, file, line):
+    """The function that a line of a source file lies in."""
+    with open('crates/%s/%s' % (crate, file), encoding='utf-8') as source:
+        lines = source.read().split('\n')
+    text = '\n'.join(lines)
+    inside = sum(len(it) + 1 for it in lines[: line - 1]) + len(lines[line - 1])
+    # (the line may be the one that the function begins with)
+    module = re.sub(r'^(lib|main)$', '', file[len('src/'): -len('.rt')])
+    function = function_at(text, inside)
+    return function and '::'.join(filter(None, [module, function]))
+
+
+def refusals(log, crate):
     """Each goal or theorem that is refused, with its file; an open goal of a function with no file counts as one of its Answers.antt. A goal has the name
     that it has without the edit."""
     found = {(file, fact) for file, fact, why in ERROR.findall(log) if at_a_fact(why)}
     for function, goals in OPEN.findall(log):
         found.update(('proofs/%s/Answers.antt' % function.replace('::', '/'), goal) for goal in re.findall(r'`([^`]+)`', goals))
+    unfit = unfit_in(log)
+    for file, line, goal in LEFT.findall(log):
+        function = function_on(crate, file, int(line))
+        # (where the proof does not fit the changed code, a goal may be new and true, and only without an answer)
+        if function and function not in unfit:
+            found.add(('proofs/%s/Answers.antt' % function.replace('::', '/'), goal))
     was = {('proofs/' + function.replace('::', '/'), new): old for function, old, new in re.findall(r'(?m)^respelled (\S+): (\S+) (\S+)', log)}
     split = [(file, *fact.partition('-clause-')) for file, fact in found]
     return {(file, was.get((os.path.dirname(file), goal), goal) + of + clause) for file, goal, of, clause in split}
@@ -338,7 +376,7 @@ def faults(edit):
     """What is wrong with an edit, as its log tells it."""
     crate, readers = edit.split('/')[1], wrong_readers(edit)
     with open(log_of(edit), encoding='utf-8') as log:
-        found = refusals(log.read())
+        found = refusals(log.read(), crate)
     for labels in shared(readers):
         yield '%s: %s change one place, and not each names a fact of its own' % (name_of(edit), labels)
     for label, (fact, places) in readers.items():

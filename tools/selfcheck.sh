@@ -43,8 +43,8 @@ moved=$(sed -n 's/^### \([a-z0-9_]*\): .* to proofs\/\([A-Za-z0-9]*\)\.antt$/\1\
 borrowed=$(grep -roE --include='*.antt' --include='*.rt' --exclude-dir=out '^ *(pub )?(ghost )?use Rattle\.[a-z0-9_]+\.proofs\.[A-Za-z0-9]+' crates |
   sed -E 's/^crates\/([a-z0-9_]+)\/.*use Rattle\.([a-z0-9_]+)\.proofs\.(.*)/\1 \2 \3/' | awk '$1 != $2 && $2 != "std" { print $2 "/" $3 }' | sort -u | comm -23 - <(echo "$moved"))
 [ -z "$borrowed" ] || say "laws that are taken out of another crate's proofs: $(tr '\n' ' ' <<<"$borrowed")"
-python3 tools/chains.py --check || say 'crates layouts, sample_fills and chains are not what their script writes'
-python3 tools/write_chains.py --check || say 'crates sample_fits, fit_chains, sample_puts and put_chains are not what their script writes'
+python3 tools/chains.py --check || say 'crates layouts, pass_sample and pass_types are not what their script writes'
+python3 tools/write_chains.py --check || say 'the arms of fit_chains::own_end are not what their script writes'
 bash tools/uniqueness.sh || say 'a public function has no theorem of uniqueness'
 bash tools/never_used.sh && bash tools/never_used.sh --teeth || say '10 has a meaning again'
 bash tools/slips.sh || say 'a slip of the definitions is not seen'

@@ -106,6 +106,9 @@ s/@ollskuvan_find_event/@other_find_event/
 0,/^declare /s//declare i64 @elsewhere(i64)\n&/
 $d;s/^!1 = .*/!1 = !{!"tbaa"}/
 EDITS
+  sed '0,/^  ret .*/s//  %odd = load { i8, i8, ptr }, ptr %r0, align 8/' $module >$out/other.ll
+  ! awk -v wide=1 -f tools/boards/retarget.awk $out/other.ll >/dev/null 2>"$log" || stop "a struct is loaded whose pointer stands elsewhere on 32 bits"
+  grep -q '^retarget: .*a struct with a pointer' "$log" || stop "no word of why: a struct with a pointer"
   echo "boards: the script refuses what it should, $tried changed modules among it"
 }
 

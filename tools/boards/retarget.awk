@@ -5,13 +5,17 @@
 #   attributes                          without the processor's name, x86-64
 #   an export that tells a struct in memory: its place is the first argument on x86-64 and handed back. Elsewhere it may stand in a
 #       register of its own, and nothing is handed back: marked as what it is (sret)
+#   the address of a place as a number, `ptrtoaddr .. to i64`, by which a copy asks whether two places overlap: written `ptrtoint`, which a processor of
+#       32 bits has too; there the number is the address with zeros above it, and the differences that are asked for are the same
 #   -v sign=1 (riscv64): a number of 32 bits that an export or main returns, or a function of the C library is given, is widened by its sign, as
 #       that machine's convention wants
 #   -v wide=1 (32 bits): exports are called ollskuvan_wide_X, functions of the C library wide_X: narrow/ calls and defines these. What is told in two
 #       registers of 64 bits, which C knows no type for there, is told in memory
+#       A load of { i8, ptr } finds its pointer at byte 8, where the module put it; 32 bits would look at byte 4. So each part is loaded from its
+#       place; but for { ptr, i64 }, whose parts have the same places there, another struct with a pointer is not known
 BEGIN {
     layout = "target datalayout = \"e-m:e-p270:32:32-p271:32:32-p272:64:64-i64:64-i128:128-f80:128-n8:16:32:64-S128\""
-    split("alloca load store getelementptr call zext sext trunc br ret switch unreachable phi select icmp add sub mul udiv urem and or xor shl lshr extractvalue insertvalue", words, " ")
+    split("alloca load store getelementptr call zext sext trunc br ret switch unreachable phi select icmp add sub mul udiv urem ptrtoaddr and or xor shl lshr extractvalue insertvalue", words, " ")
     for (i in words) known[words[i]] = 1
     split("nounwind nobuiltin nocallback nocreateundeforpoison nofree nosync speculatable willreturn noreturn cold noinline alwaysinline memory(argmem:_readwrite) memory(argmem:_write) memory(none) memory(inaccessiblemem:_write) \"probe-stack\"=\"inline-asm\" \"stack-probe-size\"=\"3072\"", words, " ")
     for (i in words) attribute[words[i]] = 1
@@ -27,6 +31,12 @@ function of_c(line) {
     if (wide) { sub(/@(__xpg_|__sysv_)?/, "@wide_", line) }
     if (sign) sub(/\(i32/, "(i32 signext", line)
     return line
+}
+# The load of a struct of a byte and a pointer, each from its place.
+function load_parts(name, place) {
+    printf "  %s.first = load i8, ptr %s, align 8\n  %s.place = getelementptr i8, ptr %s, i64 8\n", name, place, name, place
+    printf "  %s.second = load ptr, ptr %s.place, align 8\n  %s.half = insertvalue { i8, ptr } poison, i8 %s.first, 0\n", name, name, name, name
+    printf "  %s = insertvalue { i8, ptr } %s.half, ptr %s.second, 1\n", name, name, name
 }
 # What names a processor, an address as a number or a type that no module had so far.
 /asm|addrspace|ptrtoint|inttoptr|x86_|i128|float|double|half|atomic|volatile|va_arg|thread_local|comdat|section|gc / {
@@ -89,6 +99,10 @@ told != "" && /^  ret / { wrong("an end of another form") }
 /^  / {
     opcode = $2 == "=" ? $3 : $1
     if (!(opcode in known)) wrong("an instruction that is not known")
+    if (opcode == "ptrtoaddr" && !sub(/ = ptrtoaddr ptr %[A-Za-z0-9_.]+ to i64$/, "&")) wrong("an address as a number of another width")
+    sub(/ = ptrtoaddr ptr /, " = ptrtoint ptr ")
+    if (wide && opcode == "load" && / = load \{ i8, ptr \}, ptr %[A-Za-z0-9_.]+, align 8$/) { load_parts($1, substr($9, 1, length($9) - 1)); next }
+    if (wide && (opcode == "load" || opcode == "store") && / (load|store) [{][^}]*ptr[^}]*[}]/ && !/ (load|store) [{] ptr, i64 [}]/) wrong("a struct with a pointer that is not known")
     print opcode == "call" ? of_c($0) : $0; next
 }
 { wrong("a line that is not known") }

@@ -6,15 +6,15 @@ ghost use Rattle.meaning.specs.Schema.{trailer};
 ghost use Rattle.meaning.specs.Records.{room};
 ghost use Rattle.sums.specs.Sums.{sum_most, sums_of};
 ghost use Rattle.marks.specs.Marks.{last_type, mark_count, Marked, Marks};
-ghost use Rattle.marks.specs.Bases.{bases_with, FilledRange};
+ghost use Rattle.marks.specs.Bases.{bases_with};
 
 use meaning::{Attributes, Known};
 
 // Types 0 to 21 have a mark of their own; what is above is 20 in every edition.
 const TYPES: usize = 22;
 
-// The marks of all types, under an edition that has them; READ (8) and SAMPLE (9) are set afterwards. As a literal it is 32 stores: an
-// array that is indexed by a variable would be copied at each use.
+// The marks of all types, under an edition that has them; READ and SAMPLE are set afterwards. As a literal it
+// is 32 stores: an array that is indexed by a variable would be copied at each use.
 fn bases(t: u64) -> [u64; 32]
     requires { t ≤ sum_most }
     ensures { result ≡ bases_with t }
@@ -55,22 +55,8 @@ fn bases(t: u64) -> [u64; 32]
     ]
 }
 
-// One number at the places from `from` on, up to `to`.
-fn filled(p: [u64; 32], from: usize, to: usize, v: u64) -> [u64; 32]
-    requires to_le_mark_count { to ≤ mark_count }
-    requires p_len { length p ≡ mark_count }
-    ensures { FilledRange p from to v result }
-{
-    let mut q = p;
-    let mut k = from;
-    while k < to {
-        q[k] = v;
-        k += 1;
-    }
-    q
-}
-
-// All types but READ and SAMPLE: those above the edition's are 20; where the trailer has a sample bit that the edition does not know, the others are 21.
+// All types but READ and SAMPLE: those above the edition's are 20; where the trailer has a sample bit that the edition
+// does not know, the others are 21.
 fn type_marks(known: Known, a: Attributes, trail: u64) -> [u64; 32]
     requires kinds_le_last_type { known.kinds ≤ last_type }
     requires trail_value { trail ≡ room (trailer 1 a) }
@@ -79,14 +65,15 @@ fn type_marks(known: Known, a: Attributes, trail: u64) -> [u64; 32]
     ensures by_index { (kind : ℕ) → kind < mark_count → (kind ≡ 8 → ⊥) → (kind ≡ 9 → ⊥) → Marked known a kind (get_or result kind 0) }
 {
     let next = known.kinds as usize + 1;
-    let p = filled(bases(trail), next, TYPES, marks::NO_TYPE);
-    let why = record::unreadable(known, a, 1, 0);
-    if why != 0 {
-        return filled(p, 1, next, marks::REFUSED + why as u64);
+    let mut marks = bases(trail);
+    marks[next..TYPES].fill(marks::NO_TYPE);
+    if let Err(why) = record::unreadable(known, a, 1, 0) {
+        marks[1..next].fill(marks::REFUSED + why.number() as u64);
     }
-    p
+    marks
 }
 
+// kept: attributes and sums side by side, and no struct: it would be made for this one call.
 pub fn marks(known: Known, a: Attributes, sums: &[u64; 8]) -> [u64; 32]
     requires kinds_le_last_type { known.kinds ≤ last_type }
     requires sums_value { sums.now ≡ sums_of a }
@@ -94,7 +81,7 @@ pub fn marks(known: Known, a: Attributes, sums: &[u64; 8]) -> [u64; 32]
 {
     let trail = sums[exact::TRAIL];
     let mut p = type_marks(known, a, trail);
-    p[8] = marks::read_mark(known, a, trail);
-    p[9] = marks::sample_mark(known, a, sums);
+    p[marks::READ as usize] = marks::read_mark(known, a, trail);
+    p[marks::SAMPLE as usize] = marks::sample_mark(known, a, sums);
     p
 }

@@ -2,10 +2,11 @@
 #![tactic(auto)]
 
 ghost use Rattle.std.specs.Prelude.{◌≡◌, ◌+◌, ◌%◌, ◌≤◌, length};
+ghost use Rattle.meaning.specs.Reasons.{frame_of};
 ghost use Rattle.meaning.specs.Ring.{asking_with};
 ghost use Rattle.meaning.specs.Backward.{placed, back_frame};
 
-use meaning::Frame;
+use meaning::{Found, Reason};
 
 // Rows 0, 6, 13, 8, 9 and 3: what is tested at a place whose header lies whole, after `way` bytes. No sum is made that could
 // wrap.
@@ -16,43 +17,37 @@ pub fn placed_at(
     left: u64,
     journal: usize,
     scratch: usize,
-) -> Frame
+) -> Result<Option<Found>, Reason>
     requires { place + 8 ≤ length ring.now }
-    ensures { result ≡ placed ring.now way place left journal scratch }
+    ensures { frame_of result ≡ placed ring.now way place left journal scratch }
 {
     let size = wire::u16_at(ring, place + 6) as usize;
     let len = ring.len() as u64;
     if len <= way {
-        return ring::halt(0);
+        return Ok(None);
     }
     if size == 0 {
-        return ring::halt(0);
+        return Ok(None);
     }
     if size < 8 {
-        return ring::halt(6);
+        return Err(Reason::RecordSize);
     }
     if size % 8 != 0 {
-        return ring::halt(6);
+        return Err(Reason::RecordSize);
     }
     if len - way < size as u64 {
-        return ring::halt(13);
+        return Err(Reason::Overwritten);
     }
     if left == 0 {
-        return ring::halt(8);
+        return Err(Reason::BudgetSpent);
     }
     if journal < 16 {
-        return ring::halt(9);
+        return Err(Reason::JournalFull);
     }
-    let crosses = !ring::lies_whole(ring, place, size);
-    if crosses & (scratch < size) {
-        return ring::halt(3);
+    if !ring::lies_whole(ring, place, size) && scratch < size {
+        return Err(Reason::ShortScratch);
     }
-    Frame {
-        go: true,
-        stop: 0,
-        place,
-        size,
-    }
+    Ok(Some(Found { place, size }))
 }
 
 // The rows in document 02's order: 1, 2, 5 and 11, then those of the place. `count` is head plus the way walked, so it is a
@@ -66,22 +61,22 @@ pub fn next_back(
     left: u64,
     journal: usize,
     scratch: usize,
-) -> Frame
+) -> Result<Option<Found>, Reason>
     requires { head % 8 ≡ 0 → count % 8 ≡ 0 }
-    ensures { result ≡ back_frame (asking_with ok table) ring.now head count left journal scratch }
+    ensures { frame_of result ≡ back_frame (asking_with ok table) ring.now head count left journal scratch }
 {
     let len = ring.len();
     if !ring::length_allowed(len) {
-        return ring::halt(1);
+        return Err(Reason::RingLength);
     }
     if !ok {
-        return ring::halt(2);
+        return Err(Reason::UnknownEdition);
     }
     if head % 8 != 0 {
-        return ring::halt(5);
+        return Err(Reason::Unaligned);
     }
     if !table {
-        return ring::halt(11);
+        return Err(Reason::BadTable);
     }
     let way = ring::distance(count, head);
     let place = (count as usize) % len;

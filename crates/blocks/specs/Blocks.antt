@@ -1,5 +1,5 @@
 -- The lists of a SAMPLE, each as one straight piece: a count and its elements, raw, registers, stack. Assumes nothing.
-use Rattle.std.specs.Prelude.{◌≡◌, Bool, ◌&&◌, ℕ, ◌+◌, ◌-◌, ◌*◌, ◌%◌, ◌<◌, ◌≤◌, take, drop, eqb}
+use Rattle.std.specs.Prelude.{◌≡◌, Bool, ◌&&◌, Result, Ok, Err, ℕ, ◌+◌, ◌-◌, ◌*◌, ◌%◌, ◌<◌, ◌≤◌, take, drop, eqb}
 use Rattle.std.proofs.Math.Path.{refl, sym, ap}
 use Rattle.std.proofs.Common.{◌∙◌, subst, mul-one}
 use Rattle.std.proofs.Math.Bool.{true, false, cond}
@@ -8,20 +8,21 @@ use Rattle.std.proofs.Math.Logic.{⊎_elim}
 use native.Mathlib.Omega.{arith}
 use Rattle.std.proofs.Math.ListN.{length}
 use Rattle.std.proofs.Math.Dec.{leb}
-use borrow.Author.Tests.{le-leb, lt-leb, leb-true, leb-false, eq-eqb, ne_eqb}
+use borrow.Author.Tests.{le-leb, lt-leb, leb-true, leb-false, eq-eqb, ne_eqb, eqb-true, eqb-false}
 use Rattle.laws.specs.Bytes.{le-or-lt}
-use Rattle.meaning.specs.declared.Cursor.{Cursor}
+use Rattle.meaning.specs.States.{Cursor}
 use Rattle.meaning.specs.declared.Item.{Item}
 use Rattle.meaning.specs.declared.Shape.{Shape}
 use Rattle.meaning.specs.declared.Shape.TheVariants.{Number, Count, Size, Times, Registers, Filled, Abi}
 use Rattle.meaning.specs.declared.Width.{Width}
 use Rattle.meaning.specs.declared.Width.TheVariants.{W4, W8}
+use Rattle.meaning.specs.declared.Reason.{Reason}
+use Rattle.meaning.specs.declared.Reason.TheVariants.{TooShort}
 use Rattle.meaning.specs.Bytes.{num, number_at, ones}
 use Rattle.meaning.specs.Items.{cursor, bytes, span, rule, holds, counted, before, step, walk}
 use Rattle.meaning.specs.Schema.{item, u32, mmap2}
 use Rattle.laws.specs.Shapes.{shape-out, shape-bad, shape-in}
-use Rattle.blocks.specs.declared.Place.{Place}
-use Rattle.blocks.specs.Seen.{place, seal, Leaves, Ends, walk-append}
+use Rattle.blocks.specs.Seen.{Place, place, seal, Leaves, Ends, walk-append, refusing, going, one-refuses}
 use Rattle.laws.specs.Again.{stuck}
 use Rattle.blocks.specs.Steady.{one_width, width_of, steady, total, steady-in, steady-out}
 
@@ -284,6 +285,62 @@ module _ (w : Width) (xs : List ℕ) (at : ℕ) where
       rw (size_in xs at n old w h g, times-in xs (at + bytes w) (number_at (bytes w) xs at) old 1 (omega (arith, l)))
       (ap (λ (k : ℕ). place (at + bytes w + k) 0) (sym (mul-one (number_at (bytes w) xs at))))
 
+-- a size of so many bytes, where it is there
+abbrev pub size_read : List ℕ → ℕ → ℕ → Result ℕ Reason → Type 0
+size_read xs at width (Ok n) = (at + width ≤ length xs) × (n ≡ number_at width xs at)
+size_read xs at width (Err why) = (why ≡ TooShort) × (length xs - at < width)
+
+-- where the bytes end that a size of so many bytes counts, n, with so many bytes left from the size on
+unfoldable pub sized_place : ℕ → ℕ → ℕ → ℕ → Place
+sized_place at left width n = cond (eqb ((n + width) % 8) 0) (cond (leb n (left - width)) (place (at + width + n) 0) (place 0 30)) (place 0 32)
+
+module _ (at left width n : ℕ) where
+  pub sized-rule : ((n + width) % 8 ≡ 0 → ⊥) → place 0 32 ≡ sized_place at left width n
+  unfolding sized_place
+  sized-rule g = rw (ne_eqb _ _ g)
+
+  pub sized-past : (n + width) % 8 ≡ 0 → left - width < n → place 0 30 ≡ sized_place at left width n
+  unfolding sized_place
+  sized-past g l = rw (eq-eqb _ _ g, lt-leb _ _ l)
+
+  pub sized-there : (n + width) % 8 ≡ 0 → n ≤ left - width → place (at + width + n) 0 ≡ sized_place at left width n
+  unfolding sized_place
+  sized-there g l = rw (eq-eqb _ _ g, le-leb _ _ l)
+
+  -- the size, where its bytes end
+  pub sized-size : (p : Place) → p ≡ sized_place at left width n → p.why ≡ 0 → ((n + width) % 8 ≡ 0) × (n ≤ left - width) × (p.at ≡ at + width + n)
+  unfolding sized_place
+  sized-size p e z = by (eqb ((n + width) % 8) 0) (leb n (left - width)) refl refl e
+    where
+      by : (t u : Bool) → eqb ((n + width) % 8) 0 ≡ t → leb n (left - width) ≡ u → p ≡ cond t (cond u (place (at + width + n) 0) (place 0 30)) (place 0 32)
+          → ((n + width) % 8 ≡ 0) × (n ≤ left - width) × (p.at ≡ at + width + n)
+      by true true q r s = (eqb-true _ _ q, leb-true _ _ r, ap (λ (x : Place). x.at) s)
+      by true false q r s = let k = sym z ∙ ap (λ (x : Place). x.why) s in absurd (omega (arith, k))
+      by false u q r s = let k = sym z ∙ ap (λ (x : Place). x.why) s in absurd (omega (arith, k))
+
+pub sized-ends : (w : Width) (xs : List ℕ) (at n : ℕ) → at + bytes w ≤ length xs → n ≡ number_at (bytes w) xs at → (p : Place) → p ≡ sized_place at (length xs - at) (bytes w) n
+    → Ends xs (sized_bytes true w) at p
+unfolding sized_place
+sized-ends w xs at n h f p e =
+    by (eqb ((m + bytes w) % 8) 0) (leb m (length xs - at - bytes w)) refl refl
+    (e ∙ ap (λ (i : ℕ). cond (eqb ((i + bytes w) % 8) 0) (cond (leb i (length xs - at - bytes w)) (place (at + bytes w + i) 0) (place 0 30)) (place 0 32)) f)
+  where
+    m : ℕ
+    m = number_at (bytes w) xs at
+
+    k : bytes w ≤ length xs - at
+    k = omega (arith, h)
+
+    by : (t u : Bool) → eqb ((m + bytes w) % 8) 0 ≡ t → leb m (length xs - at - bytes w) ≡ u
+        → p ≡ cond t (cond u (place (at + bytes w + m) 0) (place 0 30)) (place 0 32) → Ends xs (sized_bytes true w) at p
+    by true true q r s =
+        let l = leb-true m (length xs - at - bytes w) r in
+        subst (Ends xs (sized_bytes true w) at) (sym s) (going xs _ at _ (omega (arith, l, h)) (sized-in w xs at k (eqb-true _ _ q) (omega (arith, l))))
+    by true false q r s =
+        let l = leb-false m (length xs - at - bytes w) r in
+        refusing xs _ at p 30 s (λ z. omega (arith, z)) (sized-long w xs at k (eqb-true _ _ q) (omega (arith, l)))
+    by false u q r s = refusing xs _ at p 32 s (λ z. omega (arith, z)) (sized-bad w xs at k (eqb-false _ _ q))
+
 -- registers: an abi word, and as many registers as the mask has ones, or none
 module _ (xs : List ℕ) (mask at : ℕ) where
   pub registers-short : length xs - at < 8 → Leaves xs (register_list true mask) at (place 0 30)
@@ -329,6 +386,10 @@ module _ (xs : List ℕ) (at : ℕ) where
       goes xs _ _ _ _ (size_in xs at n old W8 h g)
       ∙ goes xs _ _ _ _ (times-in xs (at + 8) size old 1 (omega (arith, l)))
       ∙ ap (λ (k : ℕ). walk xs is (cursor (at + 8 + k) size old 0)) (mul-one size)
+
+  -- what refuses size and bytes refuses the stack
+  pub stack-part : (n : ℕ) → at + 8 ≤ length xs → n ≡ size → (p : Place) → p ≡ sized_place at (length xs - at) 8 n → (p.why ≡ 0 → ⊥) → Ends xs (stack_bytes true) at p
+  stack-part n h f p e z = one-refuses xs (sized_bytes true W8) (item true Filled ∷ []) at p (sized-ends W8 xs at n h f p e) z
 
   pub stack-none : 8 ≤ length xs - at → size ≡ 0 → Leaves xs (stack_bytes true) at (place (at + 8) 0)
   unfolding Leaves

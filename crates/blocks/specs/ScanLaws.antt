@@ -1,5 +1,7 @@
 -- The first zero, k bytes at a time. Assumes nothing.
-use Rattle.std.specs.Prelude.{◌≡◌, refl, Bool, true, false, ◌||◌, List, ℕ, zero, suc, ◌+◌, ◌-◌, ◌%◌, ◌<◌, ◌≤◌, get_or, drop, eqb}
+use Rattle.std.specs.Prelude.{◌≡◌, refl, Bool, true, false, ◌||◌, List, ℕ, zero, suc, ◌+◌, ◌-◌, ◌*◌, ◌%◌, ◌<◌, ◌≤◌, get_or, take, drop, eqb}
+use Rattle.std.specs.Simd.{first_chunks}
+use Rattle.std.proofs.lemmas.List.{get_or-take, get_or-drop, drop-drop}
 use Rattle.std.proofs.Common.{sym, ap, ◌∙◌, true≢false, zero-add, add-zero, suc-add}
 use Rattle.std.proofs.Math.Bool.{or-false}
 use native.Mathlib.Omega.{arith}
@@ -43,6 +45,38 @@ zero-some (suc k) xs at e h = go (eqb (get_or xs at 0) 0) refl (λ r. zero-some 
     go : (t : Bool) → eqb (get_or xs at 0) 0 ≡ t → (has_zero k xs (at + 1) ≡ true → zero_in (drop (at + 1) xs) < k) → zero_in (drop at xs) < suc k
     go true q f = omega (arith, zero-here xs at (omega arith) (eqb-true (get_or xs at 0) 0 q))
     go false q f = omega (arith, zero-on xs at (omega arith) (eqb-false (get_or xs at 0) 0 q), f (rw q at e))
+
+-- the same bytes, wherever they stand
+pub zero-same : (k : ℕ) (ys xs : List ℕ) (i j : ℕ) → ((m : ℕ) → m < k → get_or ys (i + m) 0 ≡ get_or xs (j + m) 0) → has_zero k ys i ≡ has_zero k xs j
+unfolding has_zero
+zero-same zero ys xs i j f = refl
+zero-same (suc k) ys xs i j f =
+    let e : get_or ys i 0 ≡ get_or xs j 0 = rw (add-zero i, add-zero j) at (f 0 (omega arith)) in
+    let r : has_zero k ys (i + 1) ≡ has_zero k xs (j + 1) =
+    zero-same k ys xs (i + 1) (j + 1) (λ m h. let a : i + 1 + m ≡ i + suc m = omega arith in let b : j + 1 + m ≡ j + suc m = omega arith in rw (a, b) (f (suc m) (omega arith)))
+    in
+    rw (e, r)
+
+-- a group of sixteen is a piece
+sixteen-at : (n : ℕ) (xs : List ℕ) (i : ℕ) (d : List ℕ) → i < n → get_or (first_chunks 16 n xs) i d ≡ take 16 (drop (i * 16) xs)
+sixteen-at zero xs i d h = absurd (omega arith)
+sixteen-at (suc n) xs zero d h = refl
+sixteen-at (suc n) xs (suc i) d h =
+    let m : 16 + i * 16 ≡ suc i * 16 = omega arith in
+    sixteen-at n (drop 16 xs) i d (omega arith) ∙ ap (take 16) (drop-drop (i * 16) 16 xs ∙ ap (λ (j : ℕ). drop j xs) m)
+
+-- a group of sixteen of a stretch, where it stands
+pub zero-sixteen : (xs : List ℕ) (at room n i : ℕ) (d : List ℕ) → i < n → i * 16 + 16 ≤ room
+    → has_zero 16 (get_or (first_chunks 16 n (take room (drop at xs))) i d) 0 ≡ has_zero 16 xs (at + i * 16)
+zero-sixteen xs at room n i d h l =
+    let ys : List ℕ = take room (drop at xs) in
+    ap (λ (zs : List ℕ). has_zero 16 zs 0) (sixteen-at n ys i d h)
+    ∙ zero-same 16 (take 16 (drop (i * 16) ys)) xs 0 (at + i * 16) (λ m k.
+    let p : i * 16 + m < room = omega arith in
+    let q : at + (i * 16 + m) ≡ at + i * 16 + m = omega arith in
+    rw (zero-add m)
+    (get_or-take 16 (drop (i * 16) ys) m 0 k ∙ get_or-drop (i * 16) ys m 0 ∙ get_or-take room (drop at xs) (i * 16 + m) 0 p ∙ get_or-drop at xs (i * 16 + m) 0
+    ∙ ap (λ (z : ℕ). get_or xs z 0) q))
 
 -- the rule, by where the first zero is
 module _ (xs : List ℕ) (at : ℕ) where

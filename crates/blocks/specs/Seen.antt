@@ -1,21 +1,32 @@
 -- What a stretch of items leaves behind, from a place on: the place after it, or the refusal. Stretches are joined. Assumes nothing.
-use Rattle.std.specs.Prelude.{◌≡◌, refl, Bool, true, false, cond, List, [], ◌∷◌, ◌++◌, ℕ, ◌+◌, ◌≤◌, length, eqb}
+use Rattle.std.specs.Prelude.{◌≡◌, refl, Bool, true, false, cond, List, [], ◌∷◌, ◌++◌, Result, Ok, Err, ℕ, ◌≤◌, length, eqb}
 use Rattle.std.proofs.Common.{sym, ap, ◌∙◌, subst}
 use borrow.Author.Tests.{eq-eqb, ne_eqb}
-use Rattle.meaning.specs.declared.Cursor.{Cursor}
+use Rattle.meaning.specs.States.{Cursor}
 use Rattle.meaning.specs.declared.Item.{Item}
 use Rattle.meaning.specs.Refusals.{or_else}
 use Rattle.meaning.specs.Items.{cursor, step, walk}
 use Rattle.meaning.specs.Records.{closed}
 use Rattle.laws.specs.Again.{stuck}
-use Rattle.blocks.specs.declared.Place.{Place}
+use Rattle.meaning.specs.declared.Reason.{Reason}
+use Rattle.meaning.specs.Reasons.{number_of}
 
 -- every record is shorter: its size is a number of two bytes
 abbrev pub size_bound : ℕ
 size_bound = 65536
 
+-- a place in a record, or why it is refused (0: it is not)
+pub record Place : Type 0 where
+  pub at : ℕ
+  pub why : ℕ
+
 abbrev pub place : ℕ → ℕ → Place
 place at why = record { at = at; why = why }
+
+-- what a piece of code tells, as a place
+abbrev pub place_of : Result ℕ Reason → Place
+place_of (Ok at) = place at 0
+place_of (Err reason) = place 0 (number_of reason)
 
 -- a refusal has no place
 unfoldable pub seal : Cursor → Place

@@ -2,25 +2,15 @@
 ghost use Rattle.std.specs.Prelude.{◌≡◌, ◌+◌, ◌-◌, ◌%◌, ◌≤◌, length};
 ghost use Rattle.blocks.specs.Scan.{has_zero, name_ok};
 
-fn zero4(s: &[u8], at: usize) -> bool
-    requires { at + 4 ≤ length s.now }
-    ensures { result ≡ has_zero 4 s.now at }
+// Is one of the N bytes from a place on zero? All of them are looked at, so that sixteen are one comparison; `any`
+// would ask one after the other.
+fn zero_among<const N: usize>(s: &[u8], at: usize) -> bool
+    requires { at + N ≤ length s.now }
+    ensures { result ≡ has_zero N s.now at }
 {
-    (s[at] == 0) | ((s[at + 1] == 0) | ((s[at + 2] == 0) | (s[at + 3] == 0)))
-}
-
-fn zero8(s: &[u8], at: usize) -> bool
-    requires { at + 8 ≤ length s.now }
-    ensures { result ≡ has_zero 8 s.now at }
-{
-    zero4(s, at) | zero4(s, at + 4)
-}
-
-fn zero16(s: &[u8], at: usize) -> bool
-    requires { at + 16 ≤ length s.now }
-    ensures { result ≡ has_zero 16 s.now at }
-{
-    zero8(s, at) | zero8(s, at + 8)
+    s[at..at + N]
+        .iter()
+        .fold(false, |found, x| found | (*x == 0))
 }
 
 // Row 33 for a room of whole words: the first zero is among the last 8 bytes.
@@ -33,17 +23,16 @@ pub fn name_ok(s: &[u8], at: usize) -> bool
         return false;
     }
     let last = s.len() - 8;
-    let mut i = at;
-    while 16 <= last - i {
-        if zero16(s, i) {
-            return false;
-        }
-        i += 16;
-    }
-    if i < last {
-        if zero8(s, i) {
+    let (sixteens, rest) = s[at..last].as_chunks::<16>();
+    for sixteen in sixteens {
+        if zero_among::<16>(sixteen, 0) {
             return false;
         }
     }
-    zero8(s, last)
+    if rest.len() == 8 {
+        if zero_among::<8>(s, last - 8) {
+            return false;
+        }
+    }
+    zero_among::<8>(s, last)
 }

@@ -1,7 +1,7 @@
 -- The loop over records of two plain rings, in the words of its variables. Assumes nothing.
 use Rattle.std.specs.Prelude.{◌≡◌, refl, ℕ, suc, ◌+◌, ◌%◌, ◌^◌, ◌<◌, true, false, ◌&&◌, List, length}
 use Rattle.std.proofs.Common.{sym, ap, ap₂, ◌∙◌, subst}
-use Rattle.meaning.specs.declared.Frame.{Frame}
+use Rattle.meaning.specs.States.{Frame}
 use Rattle.meaning.specs.Bytes.{small}
 use Rattle.meaning.specs.Ring.{Asked, record_at, scratch_after, frame}
 use Rattle.laws.specs.Rings.{scratch-length}

@@ -4,9 +4,8 @@ use Rattle.std.proofs.Math.Path.{refl, sym, ap, ap₂, subst}
 use Rattle.std.proofs.Common.{◌∙◌, ne_eqb}
 use Rattle.std.proofs.Math.Bool.{Bool, true, false, cond}
 use Rattle.meaning.specs.declared.Attributes.{Attributes}
-use Rattle.meaning.specs.declared.Frame.{Frame}
+use Rattle.meaning.specs.States.{Frame, One}
 use Rattle.meaning.specs.declared.Known.{Known}
-use Rattle.meaning.specs.declared.One.{One}
 use Rattle.meaning.specs.Bytes.{zeros}
 use Rattle.meaning.specs.Editions.{allowed, known, outside, is_unknown}
 use Rattle.meaning.specs.Records.{layout, judge}

@@ -4,9 +4,8 @@ use Rattle.std.proofs.Math.Path.{refl, sym, ap, subst}
 use Rattle.std.proofs.Common.{ap₂, ◌∙◌}
 use Rattle.std.proofs.Math.Bool.{Bool, true, false, cond}
 use Rattle.meaning.specs.declared.Attributes.{Attributes}
-use Rattle.meaning.specs.declared.Frame.{Frame}
+use Rattle.meaning.specs.States.{Frame, One}
 use Rattle.meaning.specs.declared.Known.{Known}
-use Rattle.meaning.specs.declared.One.{One}
 use Rattle.meaning.specs.Editions.{allowed, known, outside, is_unknown}
 use Rattle.meaning.specs.Records.{layout, judge}
 use Rattle.meaning.specs.Values.{record_words, read_answered, read}

@@ -4,9 +4,8 @@ use Rattle.std.specs.Prelude.{◌≡◌, refl, List, Bool, true, false, cond, �
 use Rattle.std.proofs.Math.Path.{ap}
 use Rattle.std.proofs.Common.{◌∙◌, arith, ne_eqb}
 use Rattle.meaning.specs.declared.Attributes.{Attributes}
-use Rattle.meaning.specs.declared.Frame.{Frame}
+use Rattle.meaning.specs.States.{Frame, One}
 use Rattle.meaning.specs.declared.Known.{Known}
-use Rattle.meaning.specs.declared.One.{One}
 use Rattle.meaning.specs.Bytes.{zeros}
 use Rattle.meaning.specs.Editions.{allowed, known, is_in}
 use Rattle.meaning.specs.Records.{layout, judge}

@@ -3,67 +3,60 @@
 
 ghost use Rattle.std.specs.Prelude.{◌≡◌, ◌≤◌, ◌<◌, length};
 ghost use Rattle.meaning.specs.Editions.{editions, known};
-ghost use Rattle.meaning.specs.Events.{events_of, inspected, judged, unasked, record_check_events};
+ghost use Rattle.meaning.specs.Events.{inspected, judged, unasked, record_check_events};
+ghost use Rattle.meaning.specs.Reasons.{answer_of};
+ghost use Rattle.event_laws.specs.Match.{match_of, matched};
 ghost use Rattle.event_laws.specs.Told.{check_event_answer};
 
-use meaning::Judged;
+use meaning::{Event, Judged, Reason};
 
-// 2, 11, then 7, 6, 7 as record check has them: what is asked before the record is looked at; else 0.
-pub fn unasked(r: &[u8], e: u64, rows: &[[u64; 7]], limit: u32) -> u16
-    ensures { result ≡ unasked limit editions e (events_of rows.now) r.now }
+// 2, 11, then 7, 6, 7 as record check has them: what is asked before the record is looked at.
+pub fn unasked(r: &[u8], e: u64, events: &[Event], limit: u32) -> Result<(), Reason>
+    ensures { answer_of result ≡ unasked limit editions e events.now r.now }
 {
     if !record::allowed(e) {
-        return 2;
+        return Err(Reason::UnknownEdition);
     }
-    if !events::sound(rows, limit as usize) {
-        return 11;
+    if !events::sound(events, limit as usize) {
+        return Err(Reason::BadTable);
     }
-    if r.len() < 8 {
-        return 7;
-    }
-    let size = wire::u16_at(r, 6);
-    let even = (8 <= size) & (size % 8 == 0);
-    if !even {
-        return 6;
-    }
-    let whole = size == r.len() as u64;
-    if !whole {
-        return 7;
-    }
-    0
+    answers::header_of_whole(r)?;
+    Ok(())
+}
+
+// What record check says under the attributes of the event that was found.
+fn check_found(r: &[u8], e: u64, events: &[Event], m: Result<usize, Reason>) -> Result<(), Reason>
+    requires { match_of m ≡ matched (known editions e) events.now r.now }
+    ensures { answer_of result ≡ check_event_answer editions e events.now r.now }
+{
+    let index = m?;
+    let own = events::attributes_at(events, index);
+    record::or_dirty(fast_check::check(r, e, own), r, own)
 }
 
 // What record check says under the attributes of the record's event; and how many events were inspected to find it.
-fn check_event(r: &[u8], e: u64, rows: &[[u64; 7]]) -> Judged
-    requires { (8 ≤ length r.now) × (length rows.now < 4294967296) }
-    ensures { result ≡ judged (check_event_answer editions e (events_of rows.now) r.now) (inspected (known editions e) (events_of rows.now) r.now) }
+fn check_event(r: &[u8], e: u64, events: &[Event]) -> Judged
+    requires { (8 ≤ length r.now) × (length events.now < 4294967296) }
+    ensures { result ≡ judged (check_event_answer editions e events.now r.now) (inspected (known editions e) events.now r.now) }
 {
-    let m = event_judge::match_event(r, e, rows);
-    let looked = event_judge::inspected(m, rows.len());
-    if m.answer != 0 {
-        return Judged {
-            answer: m.answer as u32,
-            inspected: looked,
-        };
-    }
-    let own = events::attributes_at(rows, m.index);
-    let answer = record::or_dirty(fast_check::check(r, e, own), r, own) as u32;
+    let m = event_judge::match_event(r, e, events);
+    let looked = event_judge::inspected(m, events.len());
+    let answer = check_found(r, e, events, m);
     Judged {
-        answer,
+        answer: meaning::answer_number(answer) as u32,
         inspected: looked,
     }
 }
 
 // Record check with a table: 2, 11, 7, 6, 7, then the record's answer, 44 in place of 0, and the number inspected.
-pub fn check_events(r: &[u8], e: u64, rows: &[[u64; 7]], limit: u32) -> Judged
-    ensures { result ≡ record_check_events limit editions e (events_of rows.now) r.now }
+pub fn check_events(r: &[u8], e: u64, events: &[Event], limit: u32) -> Judged
+    ensures { result ≡ record_check_events limit editions e events.now r.now }
 {
-    let why = unasked(r, e, rows, limit);
-    if why != 0 {
-        return Judged {
-            answer: why as u32,
+    match unasked(r, e, events, limit) {
+        Ok(()) => check_event(r, e, events),
+        Err(why) => Judged {
+            answer: why.number() as u32,
             inspected: 0,
-        };
+        },
     }
-    check_event(r, e, rows)
 }

@@ -11,8 +11,7 @@ use Rattle.meaning.specs.Refusals.{first}
 use Rattle.meaning.specs.Records.{kind_of}
 use Rattle.meaning.specs.Events.{identifiers, identifier_of, index_of, index_for, unmatched}
 use Rattle.laws.specs.Lookup.{in-there, in-none, identifiers-length}
-use Rattle.event_laws.specs.declared.Match.{Match}
-use Rattle.event_laws.specs.Match.{matched}
+use Rattle.event_laws.specs.Match.{Match, matched}
 
 abbrev pub says : ℕ → ℕ → Match
 says answer index = record { answer = answer; index = index }

@@ -13,14 +13,13 @@ use Rattle.meaning.specs.declared.Known.{Known}
 use Rattle.meaning.specs.Bytes.{put}
 use Rattle.meaning.specs.Refusals.{first, or_else}
 use Rattle.meaning.specs.Editions.{known, allowed}
-use Rattle.meaning.specs.Records.{layout, size_of, judge, check_by, check, flag_of, record_check}
+use Rattle.meaning.specs.Records.{layout, size_of, judge, checked_by, check_by, check, flag_of, record_check}
 use Rattle.meaning.specs.Values.{value_words, record_words}
 use Rattle.meaning.specs.Events.{attributes_of, event_at, event_for, sound, layout_for, unmatched, inspected, judged, unasked, check_events, record_check_events, read_events, read_events_words}
 use Rattle.laws.specs.Matched.{judge-matched}
 use Rattle.laws.specs.Inspected.{asked-refused, asked-own, looked}
 use Rattle.record.specs.Into.{read_into_answer, read_into_words}
-use Rattle.event_laws.specs.declared.Match.{Match}
-use Rattle.event_laws.specs.Match.{matched, match-event}
+use Rattle.event_laws.specs.Match.{Match, matched, match-event}
 use Rattle.event_laws.specs.Told.{read_event_answer, check_event_answer, read_event_words}
 
 module _ (rows : List Known) (e : ℕ) (es : List Event) (r : List ℕ) (m : Match) (em : m ≡ matched (known rows e) es r) where
@@ -71,6 +70,11 @@ module _ (limit : ℕ) (rows : List Known) (e : ℕ) (es : List Event) (xs : Lis
     asks-11 h = sym (simp (a, h))
 
     module _ (t : sound limit es ≡ true) where
+      -- the rest asks no edition and no table
+      pub asks-rest : checked_by (λ (ys : List ℕ). 0) xs ≡ unasked limit rows e es xs
+      unfolding unasked first
+      asks-rest = sym (simp (a, t))
+
       pub asks-short : length xs < 8 → 7 ≡ unasked limit rows e es xs
       unfolding unasked first
       asks-short h = sym (simp (a, t, lt-leb 8 (length xs) h))

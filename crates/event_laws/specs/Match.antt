@@ -1,5 +1,7 @@
 -- Where a record's event stands, or why it has none: a definition, and laws of it. Assumes nothing.
-use Rattle.std.specs.Prelude.{◌≡◌, refl, ℕ, ◌+◌, ◌<◌, Bool, true, false, not, ◌&&◌, ◌||◌, List, leb, ltb, eqb, length}
+use Rattle.std.specs.Prelude.{◌≡◌, refl, ℕ, ◌+◌, ◌<◌, Bool, true, false, not, ◌&&◌, ◌||◌, List, leb, ltb, eqb, length, Result, Ok, Err}
+use Rattle.meaning.specs.declared.Reason.{Reason}
+use Rattle.meaning.specs.Reasons.{number_of}
 use Rattle.std.proofs.Math.Path.{ap}
 use Rattle.std.proofs.Common.{ap₂, sym, ◌∙◌, subst, arith, eq-eqb, ne_eqb}
 use Rattle.std.proofs.Math.Bool.{cond}
@@ -14,7 +16,16 @@ use Rattle.laws.specs.Bytes.{and-true}
 use Rattle.laws.specs.Lookup.{identifiers-length, index_in}
 use Rattle.laws.specs.Matched.{judge-matched}
 use Rattle.laws.specs.Inspected.{inspected-is}
-use Rattle.event_laws.specs.declared.Match.{Match}
+
+-- where a record's event stands in the table, with 0; or why it has none (20, 21 by the edition, 27, 26)
+pub record Match : Type 0 where
+  pub answer : ℕ
+  pub index : ℕ
+
+-- as the code tells it
+abbrev pub match_of : Result ℕ Reason → Match
+match_of (Ok index) = record { answer = 0; index = index }
+match_of (Err reason) = record { answer = number_of reason; index = 0 }
 
 -- 20, 21 by the edition, 27 or 26 with index 0; else 0 with the index of the first event that has the record's identifier
 unfoldable pub matched : Known → List Event → List ℕ → Match

@@ -1,4 +1,5 @@
-// A lent list of events as structs, and thin functions over it. What is done with an event is a function that takes it by value.
+// A lent list of events as structs, and thin functions over it. What is done with an event is a function that takes it
+// by value.
 #![tactic(auto)]
 
 ghost use Rattle.std.specs.Prelude.{◌≡◌, length};
@@ -16,18 +17,19 @@ pub fn count(events: &[Event]) -> usize
 pub fn identifier_of(events: &[Event], i: usize) -> u64
     ensures { result ≡ (event_at events.now i).identifier }
 {
-    if events.len() <= i {
-        return 0;
+    match events.get(i) {
+        Some(event) => event.identifier,
+        None => 0,
     }
-    events[i].identifier
 }
 
 // Event i, and all zeros past the end.
 pub fn event_at(events: &[Event], i: usize) -> Event
     ensures { result ≡ event_at events.now i }
 {
-    if events.len() <= i {
-        return Event {
+    match events.get(i) {
+        Some(event) => *event,
+        None => Event {
             identifier: 0,
             sample: 0,
             format: 0,
@@ -35,22 +37,15 @@ pub fn event_at(events: &[Event], i: usize) -> Event
             interrupt: 0,
             branch: 0,
             all: 0,
-        };
+        },
     }
-    events[i]
 }
 
-// What C calls, by crate event_list_c: the index of the first event with this identifier; the count where there is none.
+// What C calls, by crate event_list_c: the index of the first event with this identifier; the count where there is
+// none.
 #[unsafe(no_mangle)]
 pub extern "C" fn ollskuvan_find_event(events: &[Event], identifier: u64) -> usize
     ensures { result ≡ index_of identifier (identifiers events.now) }
 {
-    let mut i = 0;
-    while i < events.len() {
-        if events[i].identifier == identifier {
-            break;
-        }
-        i += 1;
-    }
-    i
+    identifiers::find(events, identifier).unwrap_or(events.len())
 }

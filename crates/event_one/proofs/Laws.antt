@@ -1,7 +1,7 @@
 -- Laws of the reader of one record with a table: what is made of its frame. Assumes nothing.
 use Rattle.std.proofs.Common.{◌≡◌, ℕ, Bool, cond, List, sym, ap, ◌∙◌}
 use Rattle.meaning.specs.declared.Event.{Event}
-use Rattle.meaning.specs.declared.Frame.{Frame}
+use Rattle.meaning.specs.States.{Frame}
 use Rattle.meaning.specs.declared.Known.{Known}
 use Rattle.meaning.specs.Editions.{known}
 use Rattle.meaning.specs.Ring.{record_at, scratch_after}

@@ -14,8 +14,7 @@ use Rattle.meaning.specs.Schema.{item, selected, group_bytes, sample_first, read
 use Rattle.meaning.specs.Records.{room}
 use Rattle.laws.specs.Bytes.{and-true}
 use Rattle.laws.specs.Rows.{or-false}
-use Rattle.blocks.specs.declared.Place.{Place}
-use Rattle.blocks.specs.Seen.{Ends, Closes, one-refuses, both_end}
+use Rattle.blocks.specs.Seen.{Place, Ends, Closes, one-refuses, both_end}
 use Rattle.blocks.specs.Steady.{one_width, width_of, steady, total, sizes, steady-closes}
 use Rattle.blocks.specs.Blocks.{counted_list, counted_with, counted_place, branch_list, raw_bytes, aux_bytes, register_list, stack_bytes, counted-ends, off-ends}
 

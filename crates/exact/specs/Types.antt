@@ -9,7 +9,7 @@ use Rattle.std.proofs.Math.ListN.{length}
 use Rattle.std.proofs.lemmas.Bool.{lt-leb}
 use Rattle.laws.specs.Again.{stuck}
 use Rattle.laws.specs.Bytes.{le-or-lt}
-use Rattle.meaning.specs.declared.Cursor.{Cursor}
+use Rattle.meaning.specs.States.{Cursor}
 use Rattle.meaning.specs.declared.Item.{Item}
 use Rattle.meaning.specs.declared.Shape.TheVariants.{Number, Ignored, Count, Times, Earlier, Limit, Listed, Pad, Name}
 use Rattle.meaning.specs.declared.Width.TheVariants.{W2, W8}
@@ -18,8 +18,7 @@ use Rattle.meaning.specs.Items.{cursor, span, rule, holds, counted, before, shap
 use Rattle.meaning.specs.Schema.{item, always, u32, u64, group_bytes, mmap2}
 use Rattle.meaning.specs.Records.{closed}
 use Rattle.laws.specs.Shapes.{shape-out, shape-bad, shape-in, name_in, name-none, name-early}
-use Rattle.blocks.specs.declared.Place.{Place}
-use Rattle.blocks.specs.Seen.{place, Leaves, Closes, closed_at, walk-append, closes-then, closes-stuck, closes-end}
+use Rattle.blocks.specs.Seen.{Place, place, Leaves, Closes, closed_at, walk-append, closes-then, closes-stuck, closes-end}
 use Rattle.blocks.specs.Steady.{one_width, width_of, steady, total, steady-in, steady-leaves, steady-refused}
 use Rattle.blocks.specs.Blocks.{build_front, prot_flags, counted_with, counted_place, counted-leaves, count-in, count-out, times-in, times-out, goes, halts}
 use Rattle.blocks.specs.Scan.{name_ok}

@@ -1,20 +1,19 @@
 -- What an accepted record gives the chains of its fields and of its trailer, and that the words which they and the flag leave are the record's.
 -- Assumes nothing.
 use mathlib.Core.Path.{◌≡◌, refl, sym, ap, ◌∙◌}
-use mathlib.Core.List.{List, [], ◌∷◌, ◌++◌, append-nil}
+use mathlib.Core.List.{List, ◌∷◌, ◌++◌}
 use Prim.Native.Nat.{ℕ, ◌+◌, ◌-◌, ◌<◌, ◌≤◌}
-use native.Mathlib.Nat.{zero-add}
 use native.Mathlib.Omega.{arith}
-use lib.ListN.{length, take, drop, set, length-append, length-replicate, replicate-append-replicate, drop_of_length-le}
+use lib.ListN.{length, take, drop, set, length-append}
 use lib.Seq.{drop-drop, drop-append-add}
 use Rattle.meaning.specs.declared.Attributes.{Attributes}
-use Rattle.meaning.specs.declared.Cursor.{Cursor}
+use Rattle.meaning.specs.States.{Cursor}
 use Rattle.meaning.specs.declared.Item.{Item}
 use Rattle.meaning.specs.Bytes.{put, zeros}
 use Rattle.meaning.specs.Schema.{schema, trailer}
 use Rattle.meaning.specs.Records.{kind_of, misc_of, size_of, origin}
 use Rattle.meaning.specs.Values.{width, flag_words, body_words, trail_words, words, words_by}
-use Rattle.laws.specs.Put.{put-fits, put-snoc, put-start, length-put, length-head}
+use Rattle.laws.specs.Put.{put-fits, put-start, length-put, length-head}
 use Rattle.laws.specs.Told.{words-length, flag-length, fields-few, trailer-few}
 use Rattle.record.specs.Into.{record_flag}
 use Rattle.record.specs.Lent.{Header, walked, trailer-runs, flag-put, words_are}
@@ -32,25 +31,6 @@ drop-put d at s k l h =
     ∙ drop-append-add (take at d ++ s) (drop n d) (k - n)
     ∙ drop-drop (k - n) n d
     ∙ ap (λ (m : ℕ). drop m d) f
-
--- ---- words that are zeroed one after the other
-
-pub zero_more : (d₀ d : List ℕ) (k : ℕ) → d ≡ put d₀ 0 (zeros k) → k + 1 ≤ length d₀ → set d k 0 ≡ put d₀ 0 (zeros (k + 1))
-zero_more d₀ d k e h =
-    let n : length (zeros k) ≡ k = length-replicate k 0 in
-    ap (λ (l : List ℕ). set l k 0) e
-    ∙ ap (λ (m : ℕ). set (put d₀ 0 (zeros k)) m 0) (sym (zero-add (length (zeros k)) ∙ n))
-    ∙ put-snoc d₀ 0 (zeros k) 0 (omega (arith, n))
-    ∙ ap (put d₀ 0) (replicate-append-replicate k 1 0)
-
-pub all-zero : (d₀ d : List ℕ) (k : ℕ) → d ≡ put d₀ 0 (zeros k) → k ≡ length d₀ → d ≡ zeros (length d₀)
-all-zero d₀ d k e h =
-    let n : length (zeros k) ≡ k = length-replicate k 0 in
-    e
-    ∙ put-start d₀ (zeros k) (omega (arith, n, h))
-    ∙ ap (λ (r : List ℕ). zeros k ++ r) (let q : length d₀ ≤ length (zeros k) = omega (arith, n, h) in drop_of_length-le d₀ q)
-    ∙ append-nil (zeros k)
-    ∙ ap zeros h
 
 -- ---- the first of the words lent
 

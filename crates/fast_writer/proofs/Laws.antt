@@ -2,12 +2,12 @@
 use mathlib.Core.Path.{◌≡◌, refl, sym, ap, ◌∙◌, subst}
 use mathlib.Core.Bool.{Bool, true, false, cond, ◌&&◌}
 use mathlib.Core.List.{List, [], ◌∷◌, ◌++◌, append-nil}
-use Prim.Native.Nat.{ℕ, ◌+◌, ◌-◌, ◌%◌, ◌<◌, ◌≤◌}
+use Prim.Native.Nat.{ℕ, zero, suc, ◌+◌, ◌-◌, ◌%◌, ◌<◌, ◌≤◌}
 use native.Mathlib.Omega.{arith}
-use lib.ListN.{length, drop, get_or}
+use lib.ListN.{length, drop, get_or, drop_of_length-le}
 use lib.Dec.{leb, eqb}
 use Rattle.meaning.specs.declared.Attributes.{Attributes}
-use Rattle.meaning.specs.declared.Cursor.{Cursor}
+use Rattle.meaning.specs.States.{Cursor}
 use Rattle.meaning.specs.declared.Item.{Item}
 use Rattle.meaning.specs.Bytes.{all_zero, spell, put}
 use Rattle.meaning.specs.Writing.{next}
@@ -18,9 +18,8 @@ use Rattle.writer_items.specs.Tries.{unfit, good}
 use Rattle.writer_parts.specs.Parts.{try_items, slots_from}
 use Rattle.writer_parts.specs.Turns.{good-parts, no-state}
 use Rattle.writer_record.specs.Measures.{value_meant, measured, size_meant, bytes_meant}
-use Rattle.writer_record.specs.Measuring.{bad-body, bad-tail, measured-yes, measured-no}
+use Rattle.writer_record.specs.Measuring.{bad-body, bad-tail, end-at, long-enough, measured-yes, measured-no}
 use Rattle.writer_record.specs.Records.{Sized, sized, all-put}
-use Rattle.writer_record.specs.Spare.{zeros_from, zero_turn, zero-end}
 use Rattle.writer.specs.Known.{passes}
 use Rattle.writer.specs.Answers.{Known, known-41, known-42, known-40, known-0}
 use Rattle.write_fits.specs.declared.Walked.{Walked}
@@ -93,6 +92,13 @@ module _ (is ts : List Item) (src ws : List ℕ) (plain : fixed ts ≡ true) whe
           tail-is : state_of d₁ ≡ try_items src ts (slots_from ts (start_at trail_words) ws) (origin c₁.at)
           unfolding try_from
           tail-is = sym (chain-state from-there g₂)
+
+          -- a record has a header
+          pub size-some : 0 < d₁.at
+          size-some =
+              let e = end-at is ts src ws plain inside (state_of c₁) body_is refl (state_of d₁) tail-is refl t₁.place in
+              let l = long-enough is ts (value_meant is ts src ws) in
+              omega (arith, e, l)
 
           module _ (kind misc size : ℕ) (spare : Bool) (eₖ : kind ≡ get_or ws 0 0) (eₘ : misc ≡ get_or ws 1 0) (eₛ : size ≡ get_or ws 2 0) (eₚ : spare ≡ all_zero (spare_by is ts ws)) where
             abbrev tests : Bool
@@ -176,19 +182,29 @@ module _ (is ts : List Item) (src ws : List ℕ) (plain : fixed ts ≡ true) (in
 
 -- ---- the words that are zero
 
-abbrev pub zero_so_far : List ℕ → ℕ → ℕ → ℕ → Bool → Type 0
-zero_so_far ws from to k ok = ok && zeros_from ws to k ≡ zeros_from ws to from
+-- zero so far, and the rest decides
+abbrev pub zero_so_far : List ℕ → ℕ → Bool → Type 0
+zero_so_far xs k ok = ok && all_zero (drop k xs) ≡ all_zero xs
 
-pub zero-next : (ws : List ℕ) (from to k : ℕ) (ok r : Bool) → zero_so_far ws from to k ok → k < to → r ≡ eqb (get_or ws k 0) 0 → zero_so_far ws from to (k + 1) (ok && r)
-zero-next ws from to k ok r h l e =
-    go ok r (zeros_from ws to (k + 1)) ∙ ap (λ (b : Bool). ok && b) (ap (λ (b : Bool). b && zeros_from ws to (k + 1)) e ∙ sym (zero_turn ws to k l)) ∙ h
+zero_head : (xs : List ℕ) (k : ℕ) → k < length xs → all_zero (drop k xs) ≡ eqb (get_or xs k 0) 0 && all_zero (drop (k + 1) xs)
+unfolding all_zero
+zero_head [] k h = absurd (omega arith)
+zero_head (x ∷ xs) zero h = refl
+zero_head (x ∷ xs) (suc k) h =
+    let e : suc (k + 1) ≡ suc k + 1 = omega arith in
+    zero_head xs k (omega arith) ∙ ap (λ (n : ℕ). eqb (get_or xs k 0) 0 && all_zero (drop n (x ∷ xs))) e
+
+pub zero-next : (xs : List ℕ) (k : ℕ) (ok r : Bool) → zero_so_far xs k ok → k < length xs → r ≡ eqb (get_or xs k 0) 0 → zero_so_far xs (k + 1) (ok && r)
+zero-next xs k ok r h l e =
+    go ok r (all_zero (drop (k + 1) xs)) ∙ ap (λ (b : Bool). ok && b) (ap (λ (b : Bool). b && all_zero (drop (k + 1) xs)) e ∙ sym (zero_head xs k l)) ∙ h
   where
     go : (a b c : Bool) → (a && b) && c ≡ a && (b && c)
     go true b c = refl
     go false b c = refl
 
-pub zero-all : (ws : List ℕ) (from to k : ℕ) (ok : Bool) → zero_so_far ws from to k ok → to ≤ k → ok ≡ zeros_from ws to from
-zero-all ws from to k ok h l = go ok ∙ ap (λ (b : Bool). ok && b) (zero-end ws k to k refl l) ∙ h
+pub zero-all : (xs : List ℕ) (k : ℕ) (ok : Bool) → zero_so_far xs k ok → length xs ≤ k → ok ≡ all_zero xs
+unfolding all_zero
+zero-all xs k ok h l = go ok ∙ ap (λ (b : Bool). ok && b) (sym (ap all_zero (drop_of_length-le xs l))) ∙ h
   where
     go : (b : Bool) → b ≡ b && true
     go true = refl

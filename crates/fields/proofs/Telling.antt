@@ -1,5 +1,5 @@
 -- The words of an item whose step is accepted: its bytes are there, and its words are those of its shape. Assumes nothing.
-use mathlib.Core.Path.{◌≡◌, refl, subst}
+use mathlib.Core.Path.{◌≡◌, refl, sym, ap, subst, ◌∙◌}
 use mathlib.Core.List.{List}
 use mathlib.Core.Bool.{true, false}
 use Prim.Native.Nat.{ℕ, ◌+◌, ◌≤◌}
@@ -7,18 +7,16 @@ use native.Mathlib.Omega.{arith}
 use lib.Dec.{leb, ltb}
 use lib.ListN.{length, drop, length-drop}
 use borrow.Author.Tests.{ne_eqb, ltb-true}
-use Rattle.meaning.specs.declared.Cursor.{Cursor}
+use Rattle.meaning.specs.States.{Cursor}
 use Rattle.meaning.specs.declared.Item.{Item}
 use Rattle.meaning.specs.declared.Shape.{Shape}
 use Rattle.meaning.specs.declared.Shape.TheVariants.{Number, Ignored, Count, Size, Times, Earlier, Registers, Filled, Abi, Limit, Listed, Bytes, Pad, Name}
 use Rattle.meaning.specs.declared.Width.{Width}
 use Rattle.meaning.specs.declared.Width.TheVariants.{W1, W2, W4, W8}
-use Rattle.meaning.specs.Bytes.{zero_in}
+use Rattle.meaning.specs.Bytes.{zero_in, zeros}
 use Rattle.meaning.specs.Items.{bytes, span, rule, part, step}
-use Rattle.meaning.specs.Values.{slot, slot_shape, slot_item, tell}
+use Rattle.meaning.specs.Values.{slot, slot_shape, slot_item, tell, words_of}
 use Rattle.laws.specs.Bytes.{and-true, unbroken}
-use Rattle.fields.specs.declared.Words.{Words}
-use Rattle.fields.specs.Told.{told_of}
 use Rattle.laws.specs.Again.{ItemPassed}
 use Rattle.laws.specs.Walks.{step-taken}
 
@@ -75,7 +73,7 @@ module _ (xs : List ℕ) (i : Item) (c : Cursor) (h : (step xs i c).why ≡ 0) (
 
 -- ---- the words of each kind of shape
 
-blanks : (sh : Shape) → ◌≡◌ {A = Words} (record { n = length (tell sh (slot 0 0 0)); first = 0; second = 0 }) (told_of (tell sh (slot 0 0 0)))
+blanks : (sh : Shape) → tell sh (slot 0 0 0) ≡ zeros (words_of sh)
 unfolding tell
 blanks (Number w) = refl
 blanks (Ignored k) = refl
@@ -92,9 +90,13 @@ blanks (Bytes k) = refl
 blanks Pad = refl
 blanks Name = refl
 
-pub told-off : (xs : List ℕ) (i : Item) (c : Cursor) (n : ℕ) → i.on ≡ false → n ≡ length (tell i.shape (slot 0 0 0))
-    → ◌≡◌ {A = Words} (record { n = n; first = 0; second = 0 }) (told_of (tell i.shape (slot_item xs i c)))
-told-off xs i c n o e = rw (e, o) (blanks i.shape)
+-- as many zeros as a shape has words, by their number
+pub blank-is : (sh : Shape) (n : ℕ) → n ≡ words_of sh → zeros n ≡ tell sh (slot 0 0 0)
+blank-is sh n e = ap zeros e ∙ sym (blanks sh)
+
+-- an item that is not selected tells those
+pub told-off : (xs : List ℕ) (i : Item) (c : Cursor) → i.on ≡ false → tell i.shape (slot 0 0 0) ≡ tell i.shape (slot_item xs i c)
+told-off xs i c o = rw o
 
 -- the words of a selected item are its shape's, of its own bytes
 pub told-on : (xs : List ℕ) (i : Item) (c : Cursor) (sh : Shape) → i.on ≡ true → i.shape ≡ sh

@@ -1,19 +1,18 @@
--- The words of an item as a struct by value, and that they are the item's words. Assumes nothing.
-use Rattle.std.specs.Prelude.{◌≡◌, refl, List, [], ◌∷◌, ℕ, ◌≤◌, length, get_or, take}
+-- The words of an item as a value, and that they are the item's words. Assumes nothing.
+use Rattle.std.specs.Prelude.{◌≡◌, List, [], ◌∷◌, ℕ, ◌≤◌, length}
 use Rattle.std.proofs.Common.{ap, ◌∙◌, arith}
 use Rattle.meaning.specs.declared.Shape.{Shape}
 use Rattle.meaning.specs.declared.Shape.TheVariants.{Number, Ignored, Count, Size, Times, Earlier, Registers, Filled, Abi, Limit, Listed, Bytes, Pad, Name}
 use Rattle.meaning.specs.Values.{Slot, tell, words_of}
 use Rattle.laws.specs.Words.{tell-length}
 use Rattle.fields.specs.declared.Words.{Words}
+use Rattle.fields.specs.declared.Words.TheVariants.{None, One, Two}
 
--- how many words there are, the first and the second; a word that is not there is 0
-abbrev pub told_of : List ℕ → Words
-told_of ws = record { n = length ws; first = get_or ws 0 0; second = get_or ws 1 0 }
-
--- the words that a struct of them holds
+-- the words, in order
 abbrev pub words_in : Words → List ℕ
-words_in t = take t.n (t.first ∷ t.second ∷ [])
+words_in None = []
+words_in (One first) = first ∷ []
+words_in (Two first second) = first ∷ second ∷ []
 
 -- a shape has at most two words
 pub words-most : (sh : Shape) → words_of sh ≤ 2
@@ -33,25 +32,14 @@ words-most (Bytes k) = omega arith
 words-most Pad = omega arith
 words-most Name = omega arith
 
--- up to two words are held whole
-pub held_whole : (ws : List ℕ) → length ws ≤ 2 → words_in (told_of ws) ≡ ws
-held_whole [] h = refl
-held_whole (a ∷ []) h = refl
-held_whole (a ∷ b ∷ []) h = refl
-held_whole (a ∷ b ∷ c ∷ ws) h = absurd (omega arith)
-
--- what a caller wants of `told`: the words themselves, and how many they are
+-- what a caller wants of `told` beside the words themselves: how many they are
 pub record Tells (r : Words) (sh : Shape) (s : Slot) : Type 0 where
   pub held : words_in r ≡ tell sh s
-  pub count : r.n ≡ words_of sh
-  pub most : r.n ≤ 2
+  pub count : length (words_in r) ≡ words_of sh
+  pub most : length (words_in r) ≤ 2
 
-pub told-words : (r : Words) (sh : Shape) (s : Slot) → r ≡ told_of (tell sh s) → Tells r sh s
+pub told-words : (r : Words) (sh : Shape) (s : Slot) → words_in r ≡ tell sh s → Tells r sh s
 told-words r sh s e =
-    let k : r.n ≡ words_of sh = ap (λ (t : Words). t.n) e ∙ tell-length sh s in
+    let k : length (words_in r) ≡ words_of sh = ap (λ (ws : List ℕ). length ws) e ∙ tell-length sh s in
     let m = words-most sh in
-    record {
-      held = ap (λ (t : Words). words_in t) e ∙ held_whole (tell sh s) (omega (arith, tell-length sh s, m));
-      count = k;
-      most = omega (arith, k, m);
-    }
+    record { held = e; count = k; most = omega (arith, k, m) }

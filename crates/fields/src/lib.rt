@@ -1,17 +1,17 @@
 // The step over an item, by its shape, and the words that an item tells.
-// The cursor goes by value, with the record's fields beside it as a slice: the fields' end is the slice's length.
+// The spot goes by value, with the record's fields beside it as a slice: the fields' end is the slice's length.
 #![tactic(auto)]
 
-ghost use Rattle.std.specs.Prelude.{◌≡◌, [], ◌∷◌, ◌+◌, ◌≤◌, length, drop};
+ghost use Rattle.std.specs.Prelude.{◌≡◌, ◌+◌, ◌≤◌, length, drop};
 ghost use Rattle.meaning.specs.declared.Shape.TheVariants.{Filled};
 ghost use Rattle.meaning.specs.Bytes.{num, zero_in};
 ghost use Rattle.meaning.specs.Items.{part, step};
-ghost use Rattle.meaning.specs.Values.{tell, words_of, slot_item};
-ghost use Rattle.fields.specs.Told.{told_of};
+ghost use Rattle.meaning.specs.Reasons.{cursor_of, stepped};
+ghost use Rattle.meaning.specs.Values.{slot, tell, words_of, slot_item};
+ghost use Rattle.fields.specs.Told.{words_in};
 
-use meaning::{Cursor, Item, Shape};
+use meaning::{Item, Reason, Shape, Spot};
 pub use shapes::zero_from;
-pub use spans::width_of;
 
 // The words of a value: type, misc, size; the fields' from 3 on; the trailer's from 48 on, and the last one is free.
 pub const BODY_WORDS: usize = 3;
@@ -24,48 +24,56 @@ pub const VALUE_WORDS: usize = 56;
 
 // ---- the step
 
-// An item that is not selected, or comes after a refusal, changes nothing.
-pub fn step(s: &[u8], i: Item, c: Cursor) -> Cursor
-    ensures { result ≡ step s.now i c }
+// An item that is not selected changes nothing. (A walk stops at its first refusal, so no step comes after one.)
+pub fn step(s: &[u8], i: Item, c: Spot) -> Result<Spot, Reason>
+    ensures { stepped c result ≡ step s.now i (cursor_of c) }
 {
-    let why = c.why;
-    if why != 0 {
-        return c;
+    if !i.on {
+        return Ok(c);
     }
-    let on = i.on;
-    if !on {
-        return c;
-    }
-    let shape = i.shape;
-    match shape {
-        Shape::Number(w) => spans::number(s, c, w),
+    match i.shape {
+        Shape::Number(w) => spans::ignored(s, c, w.bytes()),
         Shape::Ignored(k) => spans::ignored(s, c, k),
         Shape::Count(w) => shapes::count(s, c, w),
         Shape::Size(w) => shapes::sized(s, c, w),
-        Shape::Times(k) => spans::times(s, c, k),
-        Shape::Earlier(k) => spans::earlier(s, c, k),
-        Shape::Registers => spans::registers(s, c),
+        Shape::Times(k) => spans::elements(s, c, c.n, k),
+        Shape::Earlier(k) => spans::elements(s, c, c.old, k),
+        Shape::Registers => spans::elements(s, c, c.n, 8),
         Shape::Filled => shapes::filled(s, c),
         Shape::Abi(mask) => shapes::abi(s, c, mask),
         Shape::Limit(most) => shapes::limit(s, c, most),
-        Shape::Listed(k) => spans::listed(s, c, k),
-        Shape::Bytes(k) => spans::bytes(s, c, k),
-        Shape::Pad => spans::pad(s, c),
+        Shape::Listed(k) => spans::ignored(s, c, k),
+        Shape::Bytes(k) => spans::ignored(s, c, k),
+        // up to the next multiple of 8: 0 to 7 bytes
+        Shape::Pad => spans::ignored(s, c, (8 - c.at % 8) % 8),
         Shape::Name => shapes::name(s, c),
     }
 }
 
 // ---- the words of an item
 
-// The words that an item tells: how many, the first and the second; a word that is not there is 0.
-#[derive(Clone, Copy)]
-pub struct Words {
-    pub n: usize,
-    pub first: u64,
-    pub second: u64,
+// The words that an item tells: at most two.
+#[derive(Clone, Copy, Debug, PartialEq, Eq)]
+pub enum Words {
+    None,
+    One(u64),
+    Two(u64, u64),
+}
+
+impl Words {
+    pub fn count(self) -> usize
+        ensures { (result ≡ length (words_in self)) × (result ≤ 2) }
+    {
+        match self {
+            Words::None => 0,
+            Words::One(_) => 1,
+            Words::Two(_, _) => 2,
+        }
+    }
 }
 
 // A number has one word; a list or a name its place, and its count where no count word of the record holds it.
+// kept: an arm for each shape, here and in `step` and `told`: the rows of the definitions' tables, one by one.
 pub fn words_of(shape: Shape) -> usize
     ensures { (result ≡ words_of shape) × (result ≤ 2) }
 {
@@ -87,47 +95,26 @@ pub fn words_of(shape: Shape) -> usize
     }
 }
 
-fn no_word() -> Words
-    ensures { result ≡ told_of [] }
+// As many words as a shape has, each of them 0.
+fn blank(shape: Shape) -> Words
+    ensures { words_in result ≡ tell shape (slot 0 0 0) }
 {
-    Words {
-        n: 0,
-        first: 0,
-        second: 0,
-    }
-}
-
-fn one_word(first: u64) -> Words
-    ensures { result ≡ told_of (first ∷ []) }
-{
-    Words {
-        n: 1,
-        first,
-        second: 0,
-    }
-}
-
-fn two_words(first: u64, second: u64) -> Words
-    ensures { result ≡ told_of (first ∷ second ∷ []) }
-{
-    Words {
-        n: 2,
-        first,
-        second,
+    match words_of(shape) {
+        0 => Words::None,
+        1 => Words::One(0),
+        _ => Words::Two(0, 0),
     }
 }
 
 // The filled length of a stack; 0 where the stack's size is 0, which has none.
-fn filled_length(s: &[u8], c: Cursor) -> u64
+fn filled_length(s: &[u8], c: Spot) -> u64
     requires { (c.n ≡ 0 → ⊥) → c.at + 8 ≤ length s.now }
-    ensures { result ≡ num (part Filled c (drop c.at s.now)) }
+    ensures { result ≡ num (part Filled (cursor_of c) (drop c.at s.now)) }
 {
-    let at = c.at;
-    let size = c.n;
-    if size == 0 {
+    if c.n == 0 {
         return 0;
     }
-    wire::u64_at(s, at)
+    wire::u64_at(s, c.at)
 }
 
 fn name_length(s: &[u8], at: usize) -> u64
@@ -137,36 +124,30 @@ fn name_length(s: &[u8], at: usize) -> u64
     (shapes::zero_from(s, at) - at) as u64
 }
 
-// The words of an item whose step is accepted. "An unselected field is zero or empty in the value. Lists and names are given as
-// a place and a count in the record."
-pub fn told(s: &[u8], i: Item, c: Cursor) -> Words
-    requires { (step s.now i c).why ≡ 0 }
-    ensures { result ≡ told_of (tell i.shape (slot_item s.now i c)) }
+// The words of an item whose step is accepted. "An unselected field is zero or empty in the value. Lists and names are
+// given as a place and a count in the record."
+pub fn told(s: &[u8], i: Item, c: Spot) -> Words
+    requires { (step s.now i (cursor_of c)).why ≡ 0 }
+    ensures { words_in result ≡ tell i.shape (slot_item s.now i (cursor_of c)) }
 {
-    let on = i.on;
-    let shape = i.shape;
-    if !on {
-        return Words {
-            n: words_of(shape),
-            first: 0,
-            second: 0,
-        };
+    if !i.on {
+        return blank(i.shape);
     }
     let at = c.at;
-    match shape {
-        Shape::Number(w) => one_word(shapes::word_at(s, at, w)),
-        Shape::Ignored(_) => no_word(),
-        Shape::Count(w) => one_word(shapes::word_at(s, at, w)),
-        Shape::Size(w) => one_word(shapes::word_at(s, at, w)),
-        Shape::Times(_) => one_word(at as u64),
-        Shape::Earlier(_) => one_word(at as u64),
-        Shape::Registers => two_words(at as u64, c.n),
-        Shape::Filled => one_word(filled_length(s, c)),
-        Shape::Abi(_) => one_word(wire::u64_at(s, at)),
-        Shape::Limit(_) => one_word(wire::u8_at(s, at)),
-        Shape::Listed(_) => one_word(at as u64),
-        Shape::Bytes(k) => two_words(at as u64, k as u64),
-        Shape::Pad => no_word(),
-        Shape::Name => two_words(at as u64, name_length(s, at)),
+    match i.shape {
+        Shape::Number(w) => Words::One(shapes::word_at(s, at, w)),
+        Shape::Ignored(_) => Words::None,
+        Shape::Count(w) => Words::One(shapes::word_at(s, at, w)),
+        Shape::Size(w) => Words::One(shapes::word_at(s, at, w)),
+        Shape::Times(_) => Words::One(at as u64),
+        Shape::Earlier(_) => Words::One(at as u64),
+        Shape::Registers => Words::Two(at as u64, c.n),
+        Shape::Filled => Words::One(filled_length(s, c)),
+        Shape::Abi(_) => Words::One(wire::u64_at(s, at)),
+        Shape::Limit(_) => Words::One(wire::u8_at(s, at)),
+        Shape::Listed(_) => Words::One(at as u64),
+        Shape::Bytes(k) => Words::Two(at as u64, k as u64),
+        Shape::Pad => Words::None,
+        Shape::Name => Words::Two(at as u64, name_length(s, at)),
     }
 }

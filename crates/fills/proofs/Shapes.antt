@@ -10,7 +10,7 @@ use lib.ListN.{length, take, drop, set, length-drop, length-replicate, take-appe
 use lib.Seq.{drop-drop, take-length}
 use lib.Dec.{eqb, leb, ltb}
 use borrow.Author.Tests.{eq-eqb, leb-true, ltb-true}
-use Rattle.meaning.specs.declared.Cursor.{Cursor}
+use Rattle.meaning.specs.States.{Cursor}
 use Rattle.meaning.specs.declared.Shape.{Shape}
 use Rattle.meaning.specs.declared.Shape.TheVariants.{Number, Ignored, Count, Size, Times, Earlier, Registers, Filled, Abi, Limit, Listed, Bytes, Pad, Name}
 use Rattle.meaning.specs.Bytes.{num, zero_in, put, zeros}

@@ -6,6 +6,7 @@ ghost use Rattle.given.specs.Given.{given};
 
 use meaning::Attributes;
 
+// kept: six numbers, as the C interface hands them one by one: no value of one type, which a `From` takes.
 pub fn attributes(
     sample: u64,
     format: u64,

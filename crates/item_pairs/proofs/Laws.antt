@@ -1,5 +1,5 @@
 -- Fields of two records that differ. Assumes nothing.
-use mathlib.Core.Path.{◌≡◌, refl, sym, ap, ◌∙◌}
+use mathlib.Core.Path.{◌≡◌, refl, sym, ap, ap₂, ◌∙◌}
 use mathlib.Core.List.{List, [], ◌∷◌}
 use mathlib.Core.Bool.{Bool, true, false, cond, not, ◌&&◌}
 use Prim.Native.Nat.{ℕ, suc, ◌+◌, ◌≤◌}
@@ -8,11 +8,14 @@ use lib.ListN.{length, take, drop, length-drop}
 use lib.Seq.{length-take-le}
 use lib.Dec.{eqb}
 use borrow.Author.Tests.{eq-eqb, ne_eqb}
-use Rattle.meaning.specs.Bytes.{num}
+use Rattle.std.proofs.lemmas.Bool.{not-true, not-false}
 use Rattle.meaning.specs.Items.{con}
 use Rattle.compare.specs.Compared.{same_bytes, same, alike}
-use Rattle.extents.specs.declared.Extent.{Extent}
-use Rattle.extents.specs.Extent.{field_in}
+use Rattle.std.specs.Prelude.{Option, Some, None}
+use Rattle.std.specs.Option.{is_some}
+use Rattle.extents.specs.declared.Stretch.{Stretch}
+use Rattle.extents.specs.declared.Told.{Told}
+use Rattle.extents.specs.Extent.{Extent, stretched, stretch_in, extent_of, field_in}
 
 -- parts of unlike length are not the same
 unlike : (xs ys : List ℕ) → (length xs ≡ length ys → ⊥) → same_bytes xs ys ≡ false
@@ -62,3 +65,24 @@ module _ (s t : List ℕ) (e g : Extent) where
       one-true : (b : Bool) → b && true ≡ b
       one-true true = refl
       one-true false = refl
+
+-- what two items tell: the fields that both have, or that one has, or none
+module _ (s t : List ℕ) (e g : Told) where
+  alike_at : Option Stretch → Option Stretch → Bool
+  alike_at o p = alike (field_in s (stretched o e.number)) (field_in t (stretched p g.number))
+
+  pub both_some : (l r : Stretch) → e.field ≡ Some l → g.field ≡ Some r → alike (field_in s (stretch_in l)) (field_in t (stretch_in r)) ≡ alike (field_in s (extent_of e)) (field_in t (extent_of g))
+  unfolding alike_at field_in
+  both_some l r p q = sym (ap₂ alike_at p q)
+
+  pub left_alone : (l : Stretch) → e.field ≡ Some l → g.field ≡ None → false ≡ alike (field_in s (extent_of e)) (field_in t (extent_of g))
+  unfolding alike_at field_in alike
+  left_alone l p q = sym (ap₂ alike_at p q)
+
+  pub right_by : (r : Bool) → e.field ≡ None → is_some g.field ≡ not r → r ≡ alike (field_in s (extent_of e)) (field_in t (extent_of g))
+  unfolding alike_at field_in alike
+  right_by r p q = by g.field q ∙ sym (ap (λ (o : Option Stretch). alike_at o g.field) p)
+    where
+      by : (o : Option Stretch) → is_some o ≡ not r → r ≡ alike_at None o
+      by None h = not-false r (sym h)
+      by (Some k) h = not-true r (sym h)

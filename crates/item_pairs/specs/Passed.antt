@@ -1,12 +1,27 @@
 -- One item of two records. Assumes nothing: this is a definition, and a law of it.
-use Rattle.std.specs.Prelude.{◌≡◌, refl, Bool, true, false, cond, List, ℕ, length}
+use Rattle.std.specs.Prelude.{◌≡◌, refl, Bool, true, false, cond, List, ℕ, Result, Ok, Err, length}
 use Rattle.std.proofs.Common.{sym, ◌∙◌, arith}
-use Rattle.meaning.specs.declared.Cursor.{Cursor}
+use Rattle.meaning.specs.States.{Cursor}
 use Rattle.meaning.specs.declared.Item.{Item}
 use Rattle.meaning.specs.Items.{step, content}
 use Rattle.compare.specs.Compared.{alike}
 use Rattle.compare.proofs.Inner.{fields_at}
-use Rattle.item_pairs.specs.declared.Both.{Both}
+use Rattle.meaning.specs.Reasons.{cursor_of}
+use Rattle.item_pairs.specs.declared.After.{After}
+
+-- what one item of two records is
+pub record Both : Type 0 where
+  pub c : Cursor
+  pub d : Cursor
+  pub w : ℕ
+  pub x : ℕ
+  pub told : Bool
+  pub same : Bool
+
+-- where both walks stand after an item, whose fields are the same or are not
+abbrev pub both_of : Result After After → Both
+both_of (Ok p) = record { c = cursor_of p.c; d = cursor_of p.d; w = p.w; x = p.x; told = p.told; same = true }
+both_of (Err p) = record { c = cursor_of p.c; d = cursor_of p.d; w = p.w; x = p.x; told = p.told; same = false }
 
 -- one item of two records: the next states, the items' numbers, whether it has a field, whether the fields are the same
 pub record Passed (s t : List ℕ) (i : Item) (w x : ℕ) (c d : Cursor) (r : Both) : Type 0 where

@@ -5,6 +5,7 @@ ghost use Rattle.std.specs.Prelude.{◌≡◌, false, ◌<◌, get_or};
 ghost use Rattle.meaning.specs.Schema.{trails};
 ghost use Rattle.table.specs.Rows.{rows, all_rows, guard, guards, shape, item_of};
 
+use layouts::types;
 use meaning::{Attributes, Item, Shape, Width};
 use table::rows;
 
@@ -13,7 +14,7 @@ fn in_trailer(a: Attributes, kind: u64, b: u64) -> bool
     requires { b < 64 }
     ensures { result ≡ trails kind a b }
 {
-    a.all & !(kind == 9) & wire::has_bit(a.sample, b)
+    a.all & (kind != types::SAMPLE) & wire::has_bit(a.sample, b)
 }
 
 // The guards that are no bit of the sample type.
@@ -57,27 +58,6 @@ fn guard_of(a: Attributes, misc: u64, kind: u64, g: u16) -> bool
     in_trailer(a, kind, (g % 64) as u64)
 }
 
-// Values of a read group have 8 bytes, 8 more with their ids and 8 more with their lost counts.
-fn group_values(a: Attributes) -> Shape
-    ensures { result ≡ shape a 11 }
-{
-    let ids = wire::has_bit(a.format, 2);
-    let lost = wire::has_bit(a.format, 4);
-    if ids {
-        if lost {
-            Shape::Times(24)
-        } else {
-            Shape::Times(16)
-        }
-    } else {
-        if lost {
-            Shape::Times(16)
-        } else {
-            Shape::Times(8)
-        }
-    }
-}
-
 fn shape_by(a: Attributes, k: u16) -> Shape
     ensures { result ≡ shape a k }
 {
@@ -93,7 +73,7 @@ fn shape_by(a: Attributes, k: u16) -> Shape
         rows::WORDS => Shape::Times(8),
         rows::PAIRS => Shape::Times(16),
         rows::BRANCHES => Shape::Times(24),
-        rows::VALUES => group_values(a),
+        rows::VALUES => Shape::Times(layouts::group_bytes(a.format)),
         rows::EARLIER_BYTES => Shape::Earlier(1),
         rows::REGISTERS => Shape::Registers,
         rows::FILLED => Shape::Filled,

@@ -23,3 +23,4 @@ pub mod Numbers
 pub mod Lookup
 pub mod Matched
 pub mod Inspected
+pub mod Reasons

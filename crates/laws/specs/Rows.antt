@@ -2,7 +2,7 @@
 -- number alone: a row that comes or goes elsewhere changes no proof that asks so. Assumes nothing.
 use Rattle.std.specs.Prelude.{◌≡◌, refl, List, [], ◌∷◌, ◌++◌, Bool, true, false, cond, not, ◌&&◌, ◌||◌, ℕ, eqb}
 use Rattle.std.proofs.Common.{sym, ap, ◌∙◌, subst, eq-eqb, eqb-true}
-use Rattle.meaning.specs.declared.Frame.{Frame}
+use Rattle.meaning.specs.States.{Frame}
 use Rattle.meaning.specs.Refusals.{Refusal, first}
 use Rattle.meaning.specs.Editions.{is_in}
 use Rattle.meaning.specs.Ring.{stop_at, stopped}

@@ -5,7 +5,7 @@ use Rattle.std.proofs.Common.{sym, ◌∙◌, le-div_iff_mul-le, lt_of_not-le, a
 use lib.ListN.{length, get_or, take, drop, length-drop}
 use Rattle.std.proofs.Math.Seq.{length-take-le}
 use borrow.Author.Tests.{lt-ltb, le-ltb, le-leb, lt-leb, eq-eqb, ne_eqb}
-use Rattle.meaning.specs.declared.Cursor.{Cursor}
+use Rattle.meaning.specs.States.{Cursor}
 use Rattle.meaning.specs.declared.Item.{Item}
 use Rattle.meaning.specs.declared.Shape.{Shape}
 use Rattle.meaning.specs.declared.Shape.TheVariants.{Number, Ignored, Size, Times, Earlier, Registers, Filled, Abi, Limit, Listed, Bytes, Pad, Name}

@@ -1,7 +1,7 @@
 -- What is written reads back: one step, and one induction over the items. Assumes nothing.
 use Rattle.std.specs.Prelude.{◌≡◌, refl, ℕ, ◌+◌, Bool, true, false, cond, ◌&&◌, ◌||◌, List, [], ◌∷◌, ◌++◌, length, take, drop}
 use Rattle.std.proofs.Common.{sym, ap, ap₂, ◌∙◌, add-zero, arith, length-append, take_at, drop_at, drop-drop, le-leb, eq-eqb}
-use Rattle.meaning.specs.declared.Cursor.{Cursor}
+use Rattle.meaning.specs.States.{Cursor}
 use Rattle.meaning.specs.declared.Item.{Item}
 use Rattle.meaning.specs.declared.Shape.{Shape}
 use Rattle.meaning.specs.Bytes.{small, stale}

@@ -18,6 +18,7 @@ use Rattle.meaning.specs.Records.{layout, kind_of, misc_of, room, fields_of, jud
 use Rattle.laws.specs.Bytes.{apart, and-true}
 use Rattle.laws.specs.Every.{sound}
 use Rattle.blocks.specs.Seen.{Closes}
+pub use Rattle.laws.specs.Reasons.{number-some}
 use Rattle.blocks.specs.Steady.{one_width, steady, one, total, sizes}
 use Rattle.exact.specs.Stretches.{weights, group-values}
 use Rattle.exact.specs.Types.{name_answer, named-closes, group_read, namespaces, text_poke}
@@ -222,6 +223,27 @@ unreadable-most k a kind misc =
     by false false false false true w = omega arith
     by false false false false false true = omega arith
     by false false false false false false = omega arith
+
+-- the numbers of the refusals that edition and attributes decide
+abbrev pub Refusal : ℕ → Type 0
+Refusal w = (w ≡ 20) ⊎ ((w ≡ 21) ⊎ ((w ≡ 22) ⊎ ((w ≡ 23) ⊎ ((w ≡ 24) ⊎ (w ≡ 25)))))
+
+pub unreadable-named : (k : Known) (a : Attributes) (kind misc : ℕ) → (unreadable k a kind misc ≡ 0 → ⊥) → Refusal (unreadable k a kind misc)
+unfolding unreadable first
+unreadable-named k a kind misc =
+    by (eqb kind 0 || ltb k.kinds kind) (leb (2 ^ k.samples) a.sample && (eqb kind 9 || a.all))
+    (leb (2 ^ k.formats) a.format && (eqb kind 8 || (eqb kind 9 && bit a.sample 4))) ((eqb kind 10 && bit misc 14) && not k.builds)
+    ((eqb kind 9 && bit a.sample 11) && strange_branch k a) (eqb kind 9 && weights a)
+  where
+    by : (x y z v s w : Bool) → (cond {A = ℕ} x 20 (cond y 21 (cond z 22 (cond v 23 (cond s 25 (cond w 24 0))))) ≡ 0 → ⊥)
+        → Refusal (cond {A = ℕ} x 20 (cond y 21 (cond z 22 (cond v 23 (cond s 25 (cond w 24 0))))))
+    by true y z v s w e = inl refl
+    by false true z v s w e = inr (inl refl)
+    by false false true v s w e = inr (inr (inl refl))
+    by false false false true s w e = inr (inr (inr (inl refl)))
+    by false false false false true w e = inr (inr (inr (inr (inr refl))))
+    by false false false false false true e = inr (inr (inr (inr (inl refl))))
+    by false false false false false false e = absurd (e refl)
 
 -- an edition that knows the build-id form
 build-unreadable : (k : Known) (a : Attributes) (kind misc : ℕ) → k.builds ≡ true → unreadable k a kind misc ≡ unreadable k a kind 0

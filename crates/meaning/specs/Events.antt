@@ -3,10 +3,9 @@
 use Rattle.std.specs.Prelude.{ℕ, suc, ◌-◌, Bool, true, cond, not, ◌&&◌, ◌||◌, List, [], ◌∷◌, map, leb, ltb, eqb, length, get_or}
 use Rattle.meaning.specs.declared.Attributes.{Attributes}
 use Rattle.meaning.specs.declared.Event.{Event}
-use Rattle.meaning.specs.declared.Frame.{Frame}
+use Rattle.meaning.specs.States.{Frame, One}
 use Rattle.meaning.specs.declared.Judged.{Judged}
 use Rattle.meaning.specs.declared.Known.{Known}
-use Rattle.meaning.specs.declared.One.{One}
 use Rattle.meaning.specs.Bytes.{bit, number_at, put}
 use Rattle.meaning.specs.Refusals.{Refusal, refusal, first, or_else}
 use Rattle.meaning.specs.Editions.{known, allowed, Thing, kind, sample_bit, knows, when, depends, is_in}

@@ -13,3 +13,6 @@ pub mod Misc
 pub mod WordNames
 pub mod Events
 pub mod Backward
+pub mod Reasons
+pub mod Kinds
+pub mod States

@@ -59,7 +59,7 @@ pub extern "C" fn ollskuvan_check(
     let a = given::attributes(sample, format, all, user, interrupt, branch);
     let e = edition as u64;
     let answer = fast_check::check(bytes, e, a);
-    record::or_dirty(answer, bytes, a) as u32
+    meaning::answer_number(record::or_dirty(answer, bytes, a)) as u32
 }
 
 // What a record's misc means, by its type: the CPU mode, and bits 13 and 14. The type is the whole word of the header.
@@ -80,7 +80,7 @@ pub extern "C" fn ollskuvan_copy_name(
     ensures value { result ≡ name_answer bytes.now place count buffer.old }
     ensures buffer_after { buffer.new ≡ name_buffer bytes.now place count buffer.old }
 {
-    names::copy_name(bytes, place, count, buffer) as u32
+    meaning::answer_number(names::copy_name(bytes, place, count, buffer)) as u32
 }
 
 // `words` are the caller's 56 or more: as record check answers, but for 44, where it is 0; then 40 if there are fewer.
@@ -101,7 +101,7 @@ pub extern "C" fn ollskuvan_read(
 {
     let a = given::attributes(sample, format, all, user, interrupt, branch);
     let e = edition as u64;
-    fast_read::read_into(bytes, e, a, words) as u32
+    meaning::answer_number(fast_read::read_into(bytes, e, a, words)) as u32
 }
 
 // The writer's answer: after 2, 42 also for fewer than 56 words.
@@ -123,7 +123,7 @@ pub extern "C" fn ollskuvan_write(
 {
     let a = given::attributes(sample, format, all, user, interrupt, branch);
     let e = edition as u64;
-    fast_writer::write(words, source, e, a, buffer) as u32
+    meaning::answer_number(fast_writer::write(words, source, e, a, buffer)) as u32
 }
 
 // Two readers of one ring, each with its own tail: the tail for the kernel.

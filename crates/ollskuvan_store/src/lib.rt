@@ -3,17 +3,19 @@
 
 ghost use Rattle.std.specs.Prelude.{◌≡◌, length};
 ghost use Rattle.meaning.specs.Editions.{editions};
+ghost use Rattle.settings.specs.Lent.{lent_rows};
 ghost use Rattle.settings.specs.Versions.{versions};
 ghost use Rattle.settings.specs.Reading.{read_store, rows_after};
 ghost use Rattle.settings.specs.Writing.{writes, write_store, buffer_after};
 
+use meaning::Event;
 use settings::{Settings, Stored};
 
 // A store of settings, read into the caller's table: the number of events, ring length, edition and budget, or a refusal.
 #[unsafe(no_mangle)]
-pub extern "C" fn ollskuvan_read_store(store: &[u8], events: &mut [[u64; 7]]) -> Settings
+pub extern "C" fn ollskuvan_read_store(store: &[u8], events: &mut [Event]) -> Settings
     ensures value { result ≡ read_store versions editions store.now (length events.old) }
-    ensures events_after { events.new ≡ rows_after versions editions store.now events.old }
+    ensures events_after { lent_rows events.new ≡ rows_after versions editions store.now (lent_rows events.old) }
 {
     settings_read::read_store(store, events)
 }
@@ -21,14 +23,14 @@ pub extern "C" fn ollskuvan_read_store(store: &[u8], events: &mut [[u64; 7]]) ->
 // Settings written into the caller's buffer: how many bytes, or a refusal.
 #[unsafe(no_mangle)]
 pub extern "C" fn ollskuvan_write_store(
-    events: &[[u64; 7]],
+    events: &[Event],
     ring: u64,
     edition: u32,
     budget: u32,
     buffer: &mut [u8],
 ) -> Stored
-    ensures value { result ≡ write_store writes editions events.now ring edition budget (length buffer.old) }
-    ensures buffer_after { buffer.new ≡ buffer_after writes editions events.now ring edition budget buffer.old }
+    ensures value { result ≡ write_store writes editions (lent_rows events.now) ring edition budget (length buffer.old) }
+    ensures buffer_after { buffer.new ≡ buffer_after writes editions (lent_rows events.now) ring edition budget buffer.old }
 {
     let e = edition as u64;
     settings_write::write_store(events, ring, e, budget, buffer)

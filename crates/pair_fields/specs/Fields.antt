@@ -8,7 +8,7 @@ use native.Mathlib.Omega.{arith}
 use Rattle.std.proofs.Math.Seq.{slice}
 use Rattle.std.proofs.Math.Dec.{eqb}
 use Rattle.meaning.specs.declared.Attributes.{Attributes}
-use Rattle.meaning.specs.declared.Cursor.{Cursor}
+use Rattle.meaning.specs.States.{Cursor}
 use Rattle.meaning.specs.declared.Item.{Item}
 use Rattle.meaning.specs.declared.Known.{Known}
 use Rattle.meaning.specs.Bytes.{small}
@@ -22,15 +22,13 @@ use Rattle.laws.specs.Every.{trailer-eights}
 use Rattle.table.specs.Rows.{rows, field_rows, all_rows, item_of}
 use Rattle.table.specs.Turns.{rows_next, rows-over}
 use Rattle.table.specs.Flags.{flag_at, flag-none, flag-some}
-use Rattle.record.specs.Into.{Accepted, record_flag, or_dirty}
+use Rattle.record.specs.Into.{Accepted, record_flag, name_dirty, or_dirty}
 use Rattle.compare.specs.Fields.{first, one, other_fields}
 use Rattle.compare.specs.Compared.{same, same_bytes, alike, agree}
 use Rattle.compare.proofs.Inner.{met, fields_at, Steady, step-fine, turn-other, turn-same, turn_on}
 use Rattle.compare.proofs.Others.{others-met, body-steady, tail-steady}
-use Rattle.item_pairs.specs.declared.Both.{Both}
-use Rattle.item_pairs.specs.Passed.{Passed}
-use Rattle.pair_fields.specs.declared.Pos.{Pos}
-use Rattle.pair_fields.specs.Inner.{trail, items, flags, later, to_left, to_right, is_alike, is_field, to_go, Settled, begun_at, Begun, moved, trailing, Pair, Ready, FieldsStand}
+use Rattle.item_pairs.specs.Passed.{Both, Passed}
+use Rattle.pair_fields.specs.Inner.{Pos, trail, items, flags, later, to_left, to_right, is_alike, is_field, to_go, Settled, begun_at, Begun, moved, trailing, Pair, Ready, FieldsStand}
 
 eight-less : (n t : ℕ) → n % 8 ≡ 0 → t % 8 ≡ 0 → t ≤ n → (n - t) % 8 ≡ 0
 eight-less n t a b l = omega (arith, a, b, l)
@@ -340,6 +338,25 @@ module _ (xs ys : List ℕ) where
               ap₂ (λ (m k : ℕ). eqb (cond (eqb m 0) 0 44) (cond (eqb k 0) 0 44)) flag-x flag-y
               ∙ two-flags (dirty (fields_of (room (trail p)) xs) (schema p.kind p.misc p.a) (origin 8)) (dirty (fields_of (room (trail p)) ys) (schema p.kind p.misc p.a) (origin 8))
               ∙ sym (flags-alike ∙ ap₂ (λ (a b : List Con). alike a b) (flags-are xs) (flags-are ys))
+
+          -- and so are the tests of the flags
+          same-flags : (u v : Bool) → u ≡ v → eqb (cond (eqb (cond u 1 0) 0) 0 44) (cond (eqb (cond v 1 0) 0) 0 44) ≡ true
+          same-flags u true e = rw e
+          same-flags u false e = rw e
+
+          other-flags : (u v : Bool) → (u ≡ v → ⊥) → eqb (cond (eqb (cond u 1 0) 0) 0 44) (cond (eqb (cond v 1 0) 0) 0 44) ≡ false
+          other-flags true true n = absurd (n refl)
+          other-flags true false n = refl
+          other-flags false true n = refl
+          other-flags false false n = absurd (n refl)
+
+          pub flags-same : name_dirty p.a xs ≡ name_dirty p.a ys → is_alike p xs ys ≡ true
+          unfolding or_dirty flag_by
+          flags-same e = sym flag-test ∙ same-flags (name_dirty p.a xs) (name_dirty p.a ys) e
+
+          pub flags-other : (name_dirty p.a xs ≡ name_dirty p.a ys → ⊥) → is_alike p xs ys ≡ false
+          unfolding or_dirty flag_by
+          flags-other n = sym flag-test ∙ other-flags (name_dirty p.a xs) (name_dirty p.a ys) n
 
           pub flag-number : is_alike p xs ys ≡ false → p.k ≡ is_field p xs ys
           flag-number e =

@@ -12,8 +12,27 @@ use Rattle.table.specs.Rows.{rows, field_rows, all_rows, item_of}
 use Rattle.compare.specs.Fields.{first, one}
 use Rattle.compare.specs.Compared.{alike, agree}
 use Rattle.compare.proofs.Inner.{met, Steady}
-use Rattle.item_pairs.specs.declared.Both.{Both}
-use Rattle.pair_fields.specs.declared.Pos.{Pos}
+use Rattle.meaning.specs.States.{Cursor}
+use Rattle.item_pairs.specs.Passed.{Both}
+
+-- where the loop over the fields of a pair stands: k of them are equal. `done`: there are no more or, where `same` is false, field k differs. Else
+-- both records are accepted, of one type, misc and event, and the rows from `row` up to `to` come next, in the first `end` bytes of both: those of
+-- the body or, where `last` is set, those of the trailer. w and x are the numbers of the items before, c and d the states of the two walks
+pub record Pos : Type 0 where
+  pub k : ℕ
+  pub same : Bool
+  pub done : Bool
+  pub last : Bool
+  pub row : ℕ
+  pub to : ℕ
+  pub end : ℕ
+  pub kind : ℕ
+  pub misc : ℕ
+  pub a : Attributes
+  pub w : ℕ
+  pub x : ℕ
+  pub c : Cursor
+  pub d : Cursor
 
 -- ---- what is still to come of a record
 

@@ -29,8 +29,7 @@ use Rattle.compare.specs.Compared.{same_bytes, alike, agree, event_reads}
 use Rattle.compare.proofs.Pairs.{same_bytes_lem, same_alike}
 use Rattle.compare.proofs.Others.{five}
 use Rattle.twins.specs.Twins.{Beside, Like}
-use Rattle.pair_fields.specs.declared.Pos.{Pos}
-use Rattle.pair_fields.specs.Inner.{Begun, Pair, FieldsStand}
+use Rattle.pair_fields.specs.Inner.{Pos, Begun, Pair, FieldsStand}
 use Rattle.pair_fields.specs.Fields.{begun-stands}
 
 -- ---- bytes

@@ -2,7 +2,7 @@
 -- set (Demand1) and for the drain with a table of events (EventDrains). Assumes nothing.
 use Rattle.std.specs.Prelude.{◌≡◌, List, true, ℕ, ◌+◌, ◌-◌, ◌*◌, ◌<◌, length}
 use Rattle.std.proofs.Common.{sym, ap, ap₂, ◌∙◌, arith, ltb-true, eqb-true}
-use Rattle.meaning.specs.declared.Frame.{Frame}
+use Rattle.meaning.specs.States.{Frame}
 use Rattle.meaning.specs.Ring.{Asked, stop_at, frame}
 use Rattle.meaning.specs.Drain.{End, start, ended, frame_at, run}
 use Rattle.laws.specs.Rows.{gives}

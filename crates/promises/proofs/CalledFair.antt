@@ -10,7 +10,7 @@ use Rattle.std.proofs.Math.Bool.{true, false}
 use Prim.Native.Nat.{ℕ, ◌≤◌}
 use Rattle.meaning.specs.declared.Attributes.{Attributes}
 use Rattle.meaning.specs.declared.Event.{Event}
-use Rattle.meaning.specs.declared.Frame.{Frame}
+use Rattle.meaning.specs.States.{Frame}
 use Rattle.meaning.specs.declared.Known.{Known}
 use Rattle.meaning.specs.Editions.{editions, allowed, known, outside, is_unknown}
 use Rattle.meaning.specs.Ring.{asking_with, asked_of, frame, record_at, scratch_after, one_frame, one_scratch}

@@ -8,7 +8,7 @@ use Rattle.std.proofs.Math.Bool.{Bool, cond}
 use Prim.Native.Nat.{ℕ, zero, suc, ◌-◌, ◌*◌, ◌^◌, ◌<◌, ◌≤◌}
 use borrow.Author.Tests.{ne_eqb, le-ltb}
 use Rattle.meaning.specs.declared.Event.{Event}
-use Rattle.meaning.specs.declared.Frame.{Frame}
+use Rattle.meaning.specs.States.{Frame}
 use Rattle.meaning.specs.Bytes.{put}
 use Rattle.meaning.specs.Editions.{editions, known}
 use Rattle.meaning.specs.Ring.{Asked, distance, frame}

@@ -8,7 +8,7 @@ use Rattle.meaning.specs.declared.Known.{Known}
 use Rattle.meaning.specs.Bytes.{small}
 use Rattle.meaning.specs.Editions.{editions, known, allowed, outside}
 use Rattle.meaning.specs.Records.{layout, check_by, flag_of, value, cleaned_record}
-use Rattle.meaning.specs.declared.Frame.{Frame}
+use Rattle.meaning.specs.States.{Frame}
 use Rattle.meaning.specs.Ring.{Asked, frame, stop_at}
 use Rattle.meaning.specs.Events.{sound, asked_events, judge_events, event_depends}
 use Rattle.laws.specs.Bytes.{apart}

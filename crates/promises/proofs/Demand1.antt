@@ -7,8 +7,7 @@ use Rattle.std.specs.Prelude.{◌≡◌, refl, List, [], Bool, true, false, ℕ,
 use Rattle.std.proofs.Common.{sym, ◌∙◌, arith}
 use Rattle.std.proofs.Math.Path.{ap}
 use Rattle.meaning.specs.declared.Attributes.{Attributes}
-use Rattle.meaning.specs.declared.Frame.{Frame}
-use Rattle.meaning.specs.declared.One.{One}
+use Rattle.meaning.specs.States.{Frame, One}
 use Rattle.meaning.specs.Bytes.{number_at, zeros, put}
 use Rattle.meaning.specs.Editions.{editions, allowed, known, is_in}
 use Rattle.meaning.specs.Records.{layout, judge, check, record_check}

@@ -5,7 +5,7 @@ use Rattle.std.specs.Prelude.{◌≡◌, List, true, false, ℕ, suc, ◌+◌, �
 use Rattle.std.proofs.Common.{ap, ◌∙◌, arith}
 use Rattle.std.proofs.Math.Path.{fun_ext}
 use Rattle.meaning.specs.declared.Event.{Event}
-use Rattle.meaning.specs.declared.Frame.{Frame}
+use Rattle.meaning.specs.States.{Frame}
 use Rattle.meaning.specs.Editions.{editions, known}
 use Rattle.meaning.specs.Ring.{Asked, stop_at, frame}
 use Rattle.meaning.specs.Drain.{End, start, frame_at, after, run}

@@ -11,7 +11,7 @@ use borrow.Author.Tests.{eqb-true, eqb-false, not-false}
 use Rattle.std.proofs.Math.Dec.{eqb}
 use Rattle.std.proofs.Math.ListN.{take}
 use Rattle.meaning.specs.declared.Event.{Event}
-use Rattle.meaning.specs.declared.Frame.{Frame}
+use Rattle.meaning.specs.States.{Frame}
 use Rattle.meaning.specs.declared.Known.{Known}
 use Rattle.meaning.specs.Bytes.{number_at}
 use Rattle.meaning.specs.Refusals.{Refusal, first}
@@ -31,8 +31,7 @@ use Rattle.backward.specs.Promise.{walk_cuts}
 use Rattle.backward.specs.Frames.{back-goes}
 use Rattle.editions.proofs.Demand3.{answer-in}
 use Rattle.editions.proofs.EventRecord.{event-small}
-use Rattle.entries.specs.declared.Entry.{Entry}
-use Rattle.entries.specs.Entries.{entry_at}
+use Rattle.entries.specs.Entries.{Entry, entry_at}
 use Rattle.replay.specs.declared.Replayed.{Replayed}
 use Rattle.replay.specs.Replay.{Happened, went_in, was_dropped, drained, Bench, bench, records_in, records_out, free, goes_in, goes_by, offer, drain_of, bench_cuts, drains_off, body_of, is_offer, fault_at, effect, Played, played, play, before, half, of_store, replay_told, replay_events}
 use Rattle.replay.specs.Drains.{bytes_of}

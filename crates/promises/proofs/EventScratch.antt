@@ -5,8 +5,7 @@ use Rattle.std.proofs.Math.Path.{refl, ap}
 use Rattle.std.proofs.Common.{◌∙◌, arith, ne_eqb}
 use Rattle.std.proofs.Math.Bool.{true, false, cond}
 use Rattle.meaning.specs.declared.Event.{Event}
-use Rattle.meaning.specs.declared.Frame.{Frame}
-use Rattle.meaning.specs.declared.One.{One}
+use Rattle.meaning.specs.States.{Frame, One}
 use Rattle.meaning.specs.Bytes.{zeros, put}
 use Rattle.meaning.specs.Editions.{editions, known, is_in}
 use Rattle.meaning.specs.Values.{read_answered}

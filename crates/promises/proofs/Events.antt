@@ -4,9 +4,8 @@ use Rattle.std.specs.Prelude.{◌≡◌, List, [], ◌∷◌, Bool, ℕ, ◌+◌
 use Rattle.std.proofs.Math.Path.{refl, ap}
 use Rattle.std.proofs.Math.Bool.{true, false, cond}
 use Rattle.meaning.specs.declared.Event.{Event}
-use Rattle.meaning.specs.declared.Frame.{Frame}
+use Rattle.meaning.specs.States.{Frame, One}
 use Rattle.meaning.specs.declared.Known.{Known}
-use Rattle.meaning.specs.declared.One.{One}
 use Rattle.meaning.specs.Editions.{editions, allowed, known, outside, is_in}
 use Rattle.meaning.specs.Records.{layout, judge}
 use Rattle.meaning.specs.Ring.{asked_of, frame, record_at, scratch_after, one_frame, not_taken, read_one}

@@ -6,7 +6,7 @@ use Rattle.std.proofs.Common.{sym, ap, ◌∙◌, subst, ⊎_elim, eq-zero-or-po
 use Rattle.std.proofs.lemmas.Bool.{not-true}
 use Rattle.meaning.specs.declared.Attributes.{Attributes}
 use Rattle.meaning.specs.declared.Event.{Event}
-use Rattle.meaning.specs.declared.Frame.{Frame}
+use Rattle.meaning.specs.States.{Frame}
 use Rattle.meaning.specs.Refusals.{Refusal}
 use Rattle.meaning.specs.Editions.{editions, known}
 use Rattle.meaning.specs.Records.{layout, judge}

@@ -10,8 +10,7 @@ use Prim.Native.Nat.{ℕ, ◌≤◌}
 use Rattle.std.proofs.Math.ListN.{length}
 use borrow.Author.Tests.{leb-true, le-leb, eq-eqb}
 use Rattle.meaning.specs.declared.Attributes.{Attributes}
-use Rattle.meaning.specs.declared.Frame.{Frame}
-use Rattle.meaning.specs.declared.One.{One}
+use Rattle.meaning.specs.States.{Frame, One}
 use Rattle.meaning.specs.Bytes.{small, put}
 use Rattle.meaning.specs.Editions.{editions, allowed, known}
 use Rattle.meaning.specs.Records.{Layout, layout, Value, judge, check_by, check, flag_of, value, cleaned_record}

@@ -4,7 +4,7 @@ use Rattle.std.specs.Prelude.{◌≡◌, refl, List, [], ◌∷◌, ◌++◌, tr
 use Rattle.std.proofs.Common.{ap, le-ltb}
 use Rattle.std.proofs.Math.Path.{fun_ext}
 use Rattle.meaning.specs.declared.Attributes.{Attributes}
-use Rattle.meaning.specs.declared.Frame.{Frame}
+use Rattle.meaning.specs.States.{Frame}
 use Rattle.meaning.specs.Bytes.{number_at}
 use Rattle.meaning.specs.Refusals.{Refusal, refusal}
 use Rattle.meaning.specs.Editions.{editions, known, is_in}

@@ -1,5 +1,6 @@
 -- M-106, "Replay of a recorded trace", in its own words, over what `ollskuvan_replay` tells and what is then in the slices that it was lent. `replay_events` is the
 -- replay, and each count that is told a sum over its history (`standing`). Assumes nothing.
+use Rattle.entries.specs.Entries.{Entry}
 use Rattle.std.specs.Prelude.{◌≡◌, List, [], ◌++◌, Bool, cond, ◌&&◌, ◌||◌, ℕ, suc, ◌+◌, ◌-◌, ◌%◌, ◌^◌, ◌<◌, ◌≤◌, leb, eqb, length, get_or, take, drop}
 use Rattle.std.proofs.Math.Path.{refl, ap}
 use Rattle.std.proofs.Common.{sym, ◌∙◌, subst, arith, le-leb, eq-eqb, length-append}
@@ -18,7 +19,6 @@ use Rattle.runs.proofs.Streams.{joined}
 use Rattle.runs.specs.Scratches.{distance_self}
 use Rattle.runs.proofs.Runs.{run-cut}
 use Rattle.runs.proofs.Forward.{Counted, run-counted, frame-roomy}
-use Rattle.entries.specs.declared.Entry.{Entry}
 use Rattle.settings.specs.Versions.{versions}
 use Rattle.settings.specs.Reading.{is_event_of, fits}
 use Rattle.promises.proofs.Scratch.{lies_whole, drain-all-whole, drain-copied, put_holds}

@@ -17,8 +17,7 @@ use Rattle.meaning.specs.Ring.{Asked}
 use Rattle.meaning.specs.Events.{asked_events, judge_events}
 use Rattle.laws.specs.Bytes.{apart}
 use Rattle.runs.proofs.Streams.{joined}
-use Rattle.entries.specs.declared.Entry.{Entry}
-use Rattle.entries.specs.Entries.{entry_at}
+use Rattle.entries.specs.Entries.{Entry, entry_at}
 use Rattle.replay.specs.declared.Replayed.{Replayed}
 use Rattle.replay.specs.Replay.{Happened, went_in, was_dropped, drained, Bench, bench, offered_by, sum, free, goes_in, goes_by, offer, drains_off, body_of, is_offer, is_drain, fault_at, effect, Played, played, play, before, half, of_store, standing, replay_told, replay_events}
 use Rattle.replay.proofs.Along.{no-fault}

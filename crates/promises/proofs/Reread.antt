@@ -5,7 +5,7 @@ use Rattle.std.proofs.Common.{sym, ap, ap₂, ◌∙◌, subst, ⊎_elim, eq-zer
 use Rattle.std.proofs.lemmas.Bool.{lt-leb}
 use Rattle.meaning.specs.declared.Attributes.{Attributes}
 use Rattle.meaning.specs.declared.Event.{Event}
-use Rattle.meaning.specs.declared.Frame.{Frame}
+use Rattle.meaning.specs.States.{Frame}
 use Rattle.meaning.specs.Bytes.{num, number_at, spell}
 use Rattle.meaning.specs.Refusals.{or_else}
 use Rattle.meaning.specs.Editions.{editions, known}

@@ -1,5 +1,5 @@
 -- M-103, "A store of settings", and its version 2 (M-112), for what C calls: `read_store` and `rows_after`, `write_store` and `buffer_after` are the right sides of the contracts of
--- `ollskuvan_read_store` and `ollskuvan_write_store`, with the versions and the editions of this build. Assumes nothing.
+-- `ollskuvan_read_store` and `ollskuvan_write_store`, with the versions and the editions of this build. Rows are those of the lent table, seven words an event (`lent_rows`). Assumes nothing.
 use Rattle.std.specs.Prelude.{◌≡◌, true, false, ℕ, ◌+◌, ◌^◌, ◌<◌, ◌≤◌, length, take, drop}
 use Rattle.std.proofs.Math.Path.{refl, ap, subst}
 use Rattle.std.proofs.Common.{sym, ◌∙◌, arith}
@@ -12,8 +12,7 @@ use Rattle.laws.specs.Rows.{gives, before, Passed}
 use Rattle.laws.specs.Lookup.{rows-length as table-length}
 use Rattle.event_laws.specs.Sound.{sound-limit}
 use Rattle.settings.specs.declared.Settings.{Settings}
-use Rattle.settings.specs.declared.Version.{Version}
-use Rattle.settings.specs.Versions.{one, versions, version_of, is_known}
+use Rattle.settings.specs.Versions.{Version, one, versions, version_of, is_known}
 use Rattle.settings.specs.Reading.{shown, count_of, rows_of, refused, read_store, rows_after}
 use Rattle.settings.specs.Writing.{writes, store_bytes, write_rows, write_store, buffer_after}
 use Rattle.settings.proofs.Turns.{kept_rows, Words}

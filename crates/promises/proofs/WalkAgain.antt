@@ -10,7 +10,7 @@ use Prim.Native.Nat.{ℕ, zero, suc, ◌+◌, ◌-◌, ◌*◌, ◌%◌, ◌^◌
 use Rattle.std.proofs.Math.ListN.{length}
 use Rattle.meaning.specs.declared.Attributes.{Attributes}
 use Rattle.meaning.specs.declared.Event.{Event}
-use Rattle.meaning.specs.declared.Frame.{Frame}
+use Rattle.meaning.specs.States.{Frame}
 use Rattle.meaning.specs.Bytes.{number_at}
 use Rattle.meaning.specs.Editions.{editions, known}
 use Rattle.meaning.specs.Records.{layout, judge}

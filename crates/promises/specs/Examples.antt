@@ -2,7 +2,7 @@
 -- is a theorem of proofs/Examples. Assumes nothing: these are definitions.
 use Rattle.std.specs.Prelude.{ℕ, ◌+◌, ◌-◌, ◌^◌, Bool, true, false, not, ◌&&◌, List, [], ◌∷◌, ◌++◌, length, take, drop, eqb}
 use Rattle.meaning.specs.declared.Attributes.{Attributes}
-use Rattle.meaning.specs.declared.One.{One}
+use Rattle.meaning.specs.States.{One}
 use Rattle.meaning.specs.Bytes.{spell, bit, zeros}
 use Rattle.meaning.specs.Editions.{editions}
 use Rattle.meaning.specs.Records.{kind_of, misc_of, room, check, record_check}

@@ -1,10 +1,36 @@
 -- What the reader's contracts cite: a field at a place, with the place after it; a place moved forward; the header.
 -- Assumes nothing: these are definitions.
-use Rattle.std.specs.Prelude.{ℕ, ◌+◌, Bool, cond, ◌&&◌, ◌||◌, List, leb, eqb, length}
+use Rattle.std.specs.Prelude.{ℕ, ◌+◌, Bool, cond, ◌&&◌, ◌||◌, List, Result, Ok, Err, leb, eqb, length}
 use Rattle.meaning.specs.Bytes.{number_at}
 use Rattle.meaning.specs.Refusals.{or_else}
-use Rattle.reader.specs.declared.Field.{Field}
-use Rattle.reader.specs.declared.Header.{Header}
+use Rattle.meaning.specs.declared.Reason.{Reason}
+use Rattle.meaning.specs.Reasons.{number_of}
+use Rattle.reader.specs.declared.Field.{Field as Read}
+use Rattle.reader.specs.declared.Header.{Header as Whole}
+use Rattle.reader.specs.declared.Cut.{Cut}
+
+-- a field: 0, its number and the place after it; or, where it would pass the record's end, 30, no number and its own place
+pub record Field : Type 0 where
+  pub why : ℕ
+  pub value : ℕ
+  pub next : ℕ
+
+-- "Header: type u32, misc u16, size u16", and the place after it
+pub record Header : Type 0 where
+  pub why : ℕ
+  pub kind : ℕ
+  pub misc : ℕ
+  pub size : ℕ
+  pub next : ℕ
+
+-- what the reader tells of the field at a place, and of a header
+abbrev pub field_told : ℕ → Result Read Reason → Field
+field_told at (Ok f) = record { why = 0; value = f.value; next = f.next }
+field_told at (Err reason) = record { why = number_of reason; value = 0; next = at }
+
+abbrev pub header_told : Result Whole Cut → Header
+header_told (Ok h) = record { why = 0; kind = h.kind; misc = h.misc; size = h.size; next = 8 }
+header_told (Err c) = record { why = 30; kind = c.kind; misc = c.misc; size = 0; next = c.next }
 
 abbrev pub field_found : ℕ → ℕ → Field
 field_found value next = record { why = 0; value = value; next = next }

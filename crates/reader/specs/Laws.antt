@@ -1,20 +1,23 @@
 -- The two cases of `field_at` and of `forward_at`, and a part that is longer than what is there; and that the reader reads as the definition of
 -- a record walks: a field is the step over an item that is a number, a header the record's. Assumes nothing.
-use Rattle.std.specs.Prelude.{◌≡◌, refl, Bool, true, false, ◌&&◌, List, [], ℕ, ◌+◌, ◌-◌, ◌≤◌, ◌<◌, leb, length, take, drop}
+use Rattle.std.specs.Prelude.{◌≡◌, refl, Bool, true, false, ◌&&◌, Ok, Err, List, [], ℕ, ◌+◌, ◌-◌, ◌≤◌, ◌<◌, leb, length, take, drop}
 use Rattle.std.proofs.Common.{sym, ap, ◌∙◌, arith, le-leb, leb-true, leb-false, eqb-true, ne_eqb, length-drop, drop_of_length-le, take_all, length-take-le}
 use Rattle.std.proofs.lemmas.Bool.{lt-leb}
 use Rattle.std.specs.Borrow.{Bor}
-use Rattle.meaning.specs.declared.Cursor.{Cursor}
+use Rattle.meaning.specs.States.{Cursor}
+use Rattle.meaning.specs.declared.Reason.{Reason}
 use Rattle.meaning.specs.declared.Shape.TheVariants.{Number}
 use Rattle.meaning.specs.declared.Width.{Width}
 use Rattle.meaning.specs.declared.Width.TheVariants.{W1, W2, W4, W8}
 use Rattle.meaning.specs.Bytes.{number_at}
 use Rattle.meaning.specs.Items.{con, cursor, bytes, span, rule, holds, counted, before, past, part, settle, shape_step, step, content}
+use Rattle.meaning.specs.Refusals.{or_else}
 use Rattle.meaning.specs.Records.{kind_of, misc_of, size_of}
 use Rattle.meaning.specs.Schema.{always}
-use Rattle.reader.specs.Field.{is_width, field_at, field_found, passes, forward_at, header_at}
-use Rattle.reader.specs.declared.Field.{Field}
-use Rattle.reader.specs.declared.Header.{Header}
+use Rattle.reader.specs.Field.{is_width, field_at, field_found, field_told, header_told, passes, forward_at, header_at, Field, Header}
+use Rattle.laws.specs.Bytes.{and-true}
+use Rattle.reader.specs.declared.Cut.{Cut}
+use Rattle.reader.specs.declared.Header.{Header as Whole}
 use Rattle.reader.specs.declared.Reader.{Reader}
 
 -- a sum that is not made
@@ -32,6 +35,31 @@ field-there k xs at e = simp e
 pub field-passes : (k : ℕ) (xs : List ℕ) (at : ℕ) → (is_width k && leb (at + k) (length xs)) ≡ false → field_at k xs at ≡ passes at
 unfolding field_at
 field-passes k xs at e = simp e
+
+-- a field that is refused is not there
+pub field_refused : (k : ℕ) (xs : List ℕ) (at : ℕ) (reason : Reason) → 0 < k → field_told at (Err reason) ≡ field_at k xs at → field_at k xs at ≡ passes at
+field_refused k xs at reason h e = go (is_width k && leb (at + k) (length xs)) refl
+  where
+    go : (t : Bool) → (is_width k && leb (at + k) (length xs)) ≡ t → field_at k xs at ≡ passes at
+    go true t =
+        let g : at ≡ at + k = ap (λ (f : Field). f.next) (e ∙ field-there k xs at t) in
+        absurd (omega (arith, h, g))
+    go false t = field-passes k xs at t
+
+or-30 : (k : ℕ) (xs : List ℕ) (at : ℕ) → or_else (field_at k xs at).why 30 ≡ 30
+or-30 k xs at = go (is_width k && leb (at + k) (length xs)) refl
+  where
+    go : (t : Bool) → (is_width k && leb (at + k) (length xs)) ≡ t → or_else (field_at k xs at).why 30 ≡ 30
+    go true t = rw (field-there k xs at t)
+    go false t = rw (field-passes k xs at t)
+
+-- a record that ends within its header: what was read before, and the place
+pub cut_short : (xs : List ℕ) (kind misc : Field) → kind ≡ field_at 4 xs 0 → misc ≡ field_at 2 xs kind.next → field_at 2 xs misc.next ≡ passes misc.next
+    → header_at xs 0 ≡ record { why = 30; kind = kind.value; misc = misc.value; size = 0; next = misc.next }
+cut_short xs kind misc k m p =
+    let a : or_else kind.why 30 ≡ 30 = ap (λ (f : Field). or_else f.why 30) k ∙ or-30 4 xs 0 in
+    let b : or_else misc.why 30 ≡ 30 = ap (λ (f : Field). or_else f.why 30) m ∙ or-30 2 xs kind.next in
+    rw (sym k, sym m, p, b, a)
 
 pub forward-there : (xs : List ℕ) (at n : ℕ) → leb (at + n) (length xs) ≡ true → forward_at xs at n ≡ at + n
 unfolding forward_at
@@ -121,3 +149,31 @@ pub headed : (xs : List ℕ) (h : Header) → h ≡ header_at xs 0 → 8 ≤ len
 headed xs h e l =
     let w = e ∙ header-whole xs l in
     record { kind-is = ap (λ (x : Header). x.kind) w; misc-is = ap (λ (x : Header). x.misc) w; size_is = ap (λ (x : Header). x.size) w }
+
+-- a field does not pass the end
+next-within : (k : ℕ) (xs : List ℕ) (at : ℕ) → at ≤ length xs → (field_at k xs at).next ≤ length xs
+next-within k xs at h = go (is_width k && leb (at + k) (length xs)) refl
+  where
+    go : (t : Bool) → (is_width k && leb (at + k) (length xs)) ≡ t → (field_at k xs at).next ≤ length xs
+    go true t =
+        let l = leb-true (at + k) (length xs) (and-true (is_width k) (leb (at + k) (length xs)) t).1 in
+        rw (field-there k xs at t) l
+    go false t = rw (field-passes k xs at t) h
+
+-- a header is read of a record that has one, and of no other
+pub header_there : (xs : List ℕ) (h : Whole) → header_told (Ok h) ≡ header_at xs 0 → 8 ≤ length xs
+header_there xs h e =
+    let k = next-within 4 xs 0 (omega arith) in
+    let m = next-within 2 xs _ k in
+    let s = next-within 2 xs _ m in
+    let n : 8 ≡ (header_at xs 0).next = ap (λ (x : Header). x.next) e in
+    omega (arith, n, s)
+
+pub header_missing : (xs : List ℕ) (c : Cut) → header_told (Err c) ≡ header_at xs 0 → length xs < 8
+header_missing xs c e = go (leb 8 (length xs)) refl
+  where
+    go : (t : Bool) → leb 8 (length xs) ≡ t → length xs < 8
+    go true t =
+        let n : 30 ≡ 0 = ap (λ (x : Header). x.why) (e ∙ header-whole xs (leb-true 8 (length xs) t)) in
+        absurd (omega (arith, n))
+    go false t = leb-false 8 (length xs) t

@@ -1,11 +1,13 @@
-// "Inside, field after field is taken by a reader that holds the record and its place": the struct over the record's slice.
-// Each function over it is thin: it takes the struct apart and calls a function over the slice and the place, which does the work.
+// "Inside, field after field is taken by a reader that holds the record and its place": the struct over the record's
+// slice. Each function over it is thin: it takes the struct apart and calls a function over the slice and the place,
+// which does the work.
 #![tactic(auto)]
 
-ghost use Rattle.std.specs.Prelude.{◌≡◌, true, ◌+◌, ◌-◌, ◌≤◌, leb, length, take, drop};
-ghost use Rattle.meaning.specs.Bytes.{number_at};
-ghost use Rattle.meaning.specs.Refusals.{or_else};
-ghost use Rattle.reader.specs.Field.{is_width, field_at, field_found, passes, forward_at, header_of, header_at};
+ghost use Rattle.std.specs.Prelude.{◌≡◌, ◌+◌, ◌-◌, ◌≤◌, leb, length, take, drop};
+ghost use Rattle.meaning.specs.Records.{kind_of, misc_of, size_of};
+ghost use Rattle.reader.specs.Field.{field_at, field_told, forward_at, header_at, header_told};
+
+use meaning::Reason;
 
 // The record's bytes, and the place of the next field.
 #[derive(Clone, Copy)]
@@ -14,21 +16,28 @@ pub struct Reader<'a> {
     pub at: usize,
 }
 
-// A field: 0, its number and the place after it; or, where it would pass the record's end, 30, no number and its own place.
-#[derive(Clone, Copy)]
+// A field that is there: its number, and the place after it.
+#[derive(Clone, Copy, Debug, PartialEq, Eq)]
 pub struct Field {
-    pub why: u16,
     pub value: u64,
     pub next: usize,
 }
 
-// "Header: type u32, misc u16, size u16", and the place after it.
-#[derive(Clone, Copy)]
+// "Header: type u32, misc u16, size u16"; the place after it is 8.
+#[derive(Clone, Copy, Debug, PartialEq, Eq)]
 pub struct Header {
-    pub why: u16,
     pub kind: u64,
     pub misc: u64,
     pub size: u64,
+}
+
+// A record that ends within its header: what was read before, with 0 for what was not, and the place of the field that
+// is not there.
+// kept: (a) 0 for what was not read: `header_at` tells it so
+#[derive(Clone, Copy, Debug, PartialEq, Eq)]
+pub struct Cut {
+    pub kind: u64,
+    pub misc: u64,
     pub next: usize,
 }
 
@@ -38,110 +47,55 @@ pub struct Header {
 fn holds(bytes: &[u8], at: usize, k: usize) -> bool
     ensures { result ≡ leb (at + k) (length bytes.now) }
 {
-    if bytes.len() < at {
-        return false;
+    at <= bytes.len() && k <= bytes.len() - at
+}
+
+// The field of k bytes at a place: 1, 2, 4 or 8. "30: a field would pass the record's end"; of another width there is
+// none.
+// kept: (a) k is any number, as a parameter may not be narrowed: `field_at` says what is told of each
+#[tactic(auto, unfolding(crate::specs::Field::field_at))]
+pub fn field_at(bytes: &[u8], at: usize, k: usize) -> Result<Field, Reason>
+    ensures { field_told at result ≡ field_at k bytes.now at }
+{
+    if !holds(bytes, at, k) {
+        return Err(Reason::TooShort);
     }
-    k <= bytes.len() - at
-}
-
-fn took(value: u64, next: usize) -> Field
-    ensures { result ≡ field_found value next }
-{
-    Field {
-        why: 0,
-        value,
-        next,
-    }
-}
-
-// "30: a field would pass the record's end"
-fn ends(at: usize) -> Field
-    ensures { result ≡ passes at }
-{
-    Field {
-        why: 30,
-        value: 0,
-        next: at,
-    }
-}
-
-// Numbers have 1, 2, 4 or 8 bytes.
-fn is_width(k: usize) -> bool
-    ensures { result ≡ is_width k }
-{
-    (k == 1) | ((k == 2) | ((k == 4) | (k == 8)))
-}
-
-fn number_at(bytes: &[u8], at: usize, k: usize) -> u64
-    requires { (is_width k ≡ true) × (at + k ≤ length bytes.now) }
-    ensures { result ≡ number_at k bytes.now at }
-{
-    match k {
+    let value = match k {
         1 => wire::u8_at(bytes, at),
         2 => wire::u16_at(bytes, at),
         4 => wire::u32_at(bytes, at),
-        _ => wire::u64_at(bytes, at),
-    }
-}
-
-// The field of k bytes at a place.
-pub fn field_at(bytes: &[u8], at: usize, k: usize) -> Field
-    ensures { result ≡ field_at k bytes.now at }
-{
-    let there = is_width(k) & holds(bytes, at, k);
-    if !there {
-        return ends(at);
-    }
-    took(number_at(bytes, at, k), at + k)
+        8 => wire::u64_at(bytes, at),
+        _ => return Err(Reason::TooShort),
+    };
+    Ok(Field {
+        value,
+        next: at + k,
+    })
 }
 
 // The bytes from a place on, at most n of them.
 pub fn part_at(bytes: &[u8], at: usize, n: usize) -> &[u8]
     ensures { result.now ≡ take n (drop at bytes.now) }
 {
-    if bytes.len() < at {
-        return &bytes[..0];
-    }
-    if bytes.len() - at < n {
-        return &bytes[at..];
-    }
-    &bytes[at..at + n]
+    let from = at.min(bytes.len());
+    let to = from + n.min(bytes.len() - from);
+    &bytes[from..to]
 }
 
 pub fn left_at(bytes: &[u8], at: usize) -> usize
     ensures { result ≡ length bytes.now - at }
 {
-    if bytes.len() < at {
-        return 0;
-    }
-    bytes.len() - at
+    bytes.len().saturating_sub(at)
 }
 
+#[tactic(auto, unfolding(crate::specs::Field::forward_at))]
 pub fn place_after(bytes: &[u8], at: usize, n: usize) -> usize
     ensures { result ≡ forward_at bytes.now at n }
 {
-    if !holds(bytes, at, n) {
-        return bytes.len();
-    }
-    at + n
-}
-
-// The first field's refusal stands before the second's.
-fn earlier(a: u16, b: u16) -> u16
-    ensures { result ≡ or_else a b }
-{
-    if a == 0 { b } else { a }
-}
-
-fn header_of(kind: Field, misc: Field, size: Field) -> Header
-    ensures { result ≡ header_of kind misc size }
-{
-    Header {
-        why: earlier(kind.why, earlier(misc.why, size.why)),
-        kind: kind.value,
-        misc: misc.value,
-        size: size.value,
-        next: size.next,
+    if holds(bytes, at, n) {
+        at + n
+    } else {
+        bytes.len()
     }
 }
 
@@ -159,8 +113,8 @@ impl<'a> Reader<'a> {
     }
 
     // The next field, of k bytes: 1, 2, 4 or 8.
-    pub fn next(self, k: usize) -> Field
-        ensures { result ≡ field_at k self.entry.record.now self.entry.at }
+    pub fn next(self, k: usize) -> Result<Field, Reason>
+        ensures { field_told self.entry.at result ≡ field_at k self.entry.record.now self.entry.at }
     {
         field_at(self.record, self.at, k)
     }
@@ -189,32 +143,60 @@ impl<'a> Reader<'a> {
     pub fn moved(self, at: usize) -> Reader<'a>
         ensures { (result.record ≡ self.entry.record) × (result.at ≡ at) }
     {
-        Reader {
-            record: self.record,
-            at,
-        }
+        Reader { at, ..self }
     }
 
     // n bytes on, and at most at the end.
     pub fn forward(self, n: usize) -> Reader<'a>
         ensures { (result.record ≡ self.entry.record) × (result.at ≡ forward_at self.entry.record.now self.entry.at n) }
     {
-        let at = place_after(self.record, self.at, n);
-        Reader {
-            record: self.record,
-            at,
-        }
+        self.moved(place_after(self.record, self.at, n))
     }
 }
 
 // ---- plain parameters again: whoever calls these sees the slice and the answer alone
 
-pub fn read_header(bytes: &[u8]) -> Header
-    ensures { result ≡ header_at bytes.now 0 }
+// A field, or no number and its own place, where the next field is looked for.
+fn or_none(field: Result<Field, Reason>, at: usize) -> Field
+    ensures value { result.value ≡ (field_told at field).value }
+    ensures next { result.next ≡ (field_told at field).next }
+{
+    field.unwrap_or(Field { value: 0, next: at })
+}
+
+// The header, or what is told of a record that ends before it does.
+#[tactic(auto, unfolding(crate::specs::Field::field_at))]
+pub fn read_header(bytes: &[u8]) -> Result<Header, Cut>
+    ensures { header_told result ≡ header_at bytes.now 0 }
 {
     let r = Reader::start(bytes);
-    let kind = r.next(4);
-    let misc = r.moved(kind.next).next(2);
-    let size = r.moved(misc.next).next(2);
-    header_of(kind, misc, size)
+    let kind = or_none(r.next(4), 0);
+    let misc = or_none(r.moved(kind.next).next(2), kind.next);
+    let before = Cut {
+        kind: kind.value,
+        misc: misc.value,
+        next: misc.next,
+    };
+    match r.moved(misc.next).next(2) {
+        // kept: a Cut is of another type, and a struct update copies from a value of the same type alone
+        Ok(size) => Ok(Header {
+            kind: before.kind,
+            misc: before.misc,
+            size: size.value,
+        }),
+        Err(_) => Err(before),
+    }
+}
+
+// The header of a record that is known to have one.
+pub fn whole_header(bytes: &[u8]) -> Header
+    requires { 8 ≤ length bytes.now }
+    ensures kind_is { result.kind ≡ kind_of bytes.now }
+    ensures misc_is { result.misc ≡ misc_of bytes.now }
+    ensures size_is { result.size ≡ size_of bytes.now }
+{
+    match read_header(bytes) {
+        Ok(h) => h,
+        Err(_) => unreachable!(),
+    }
 }

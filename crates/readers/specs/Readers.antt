@@ -1,5 +1,7 @@
 -- Two readers of one ring, in M-105's words: "each with its own tail", and "the tail handed to the kernel". Assumes nothing: these are definitions.
-use Rattle.std.specs.Prelude.{ℕ, ◌+◌, ◌%◌, ◌^◌, cond, not, List, [], ◌∷◌, ◌==◌, nat_lt}
+use Rattle.std.specs.Prelude.{ℕ, ◌+◌, ◌%◌, ◌^◌, cond, not, List, [], ◌∷◌, ◌==◌, nat_lt, Result, Ok, Err}
+use Rattle.meaning.specs.declared.Reason.{Reason}
+use Rattle.meaning.specs.Reasons.{number_of}
 use Rattle.meaning.specs.Refusals.{Refusal, refusal, first, or_else}
 use Rattle.meaning.specs.Ring.{length_allowed, distance}
 use Rattle.readers.specs.declared.Readers.{Readers}
@@ -38,3 +40,8 @@ further_tail head r = cond (nat_lt (distance head r.first) (distance head r.seco
 -- "and no tail is handed out": it is told as 0
 unfoldable pub published : ℕ → ℕ → Readers → Published
 published n head r = record { tail = cond (publish_answer n head r == 0) (further_tail head r) 0; answer = publish_answer n head r }
+
+-- a tail that is handed out, or the refusal that is told in its place
+abbrev pub published_of : Result ℕ Reason → Published
+published_of (Ok tail) = record { tail = tail; answer = 0 }
+published_of (Err reason) = record { tail = 0; answer = number_of reason }

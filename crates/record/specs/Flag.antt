@@ -1,5 +1,5 @@
 -- The flag of a record that is accepted, by the last eight bytes before its trailer, and its word: whoever looks at the bytes. Assumes nothing.
-use Rattle.std.specs.Prelude.{◌≡◌, Bool, false, ℕ, ◌+◌, ◌-◌, ◌<◌, ◌≤◌, length, set, drop}
+use Rattle.std.specs.Prelude.{◌≡◌, refl, Bool, true, false, ℕ, ◌+◌, ◌-◌, ◌<◌, ◌≤◌, length, set, drop}
 use Rattle.std.proofs.Math.Path.{sym, ap, ap₂}
 use Rattle.std.proofs.Common.{◌∙◌, arith, length-take-le}
 use Rattle.std.proofs.Math.Bool.{cond}
@@ -18,6 +18,7 @@ use Rattle.laws.specs.Told.{fields-few}
 use Rattle.laws.specs.Stale.{fields-dirty}
 use Rattle.table.specs.Flags.{flag_at, flag-none, flag-some}
 use Rattle.record.specs.Into.{Accepted, name_dirty, record_flag}
+use mir.Val.{bool_byte}
 
 module _ (a : Attributes) (xs : List ℕ) (kind : ℕ) (g : Accepted a xs kind) where
   abbrev trail : ℕ
@@ -84,3 +85,8 @@ module _ (a : Attributes) (xs : List ℕ) (kind : ℕ) (g : Accepted a xs kind) 
         put_one out (flag_at kind) f (omega (arith, l, h))
         ∙ ap₂ (λ (k v : ℕ). put out k (v ∷ [])) s.1 ef
         ∙ ap (λ (b : Bool). put out (body_words + width (schema kind misc a)) (cond b (record_flag a xs ∷ []) [])) (sym s.0)
+
+-- a flag as a byte
+pub byte_is : (b : Bool) → bool_byte b ≡ cond b 1 0
+byte_is true = refl
+byte_is false = refl

@@ -11,7 +11,7 @@ use Rattle.meaning.specs.Drain.{End}
 use Rattle.runs.specs.Cutting.{entries, total}
 use Rattle.runs.proofs.Runs.{run-cut}
 use Rattle.runs.proofs.Forward.{run-counted, frame-roomy}
-use Rattle.entries.specs.declared.Entry.{Entry}
+use Rattle.entries.specs.Entries.{Entry}
 use Rattle.entries.specs.Entries.{entry_at}
 use Rattle.replay.specs.Replay.{Happened, went_in, was_dropped, drained, Bench, bench, records_in, records_out, free, goes_in, goes_by, offer, journal_left, drain_of, bench_cuts, drains_off, body_of, is_offer, fault_at, effect, Played, played, play}
 use Rattle.replay.proofs.Round.{round-length}

@@ -1,12 +1,23 @@
-// What a replay counts at an entry (M-106), and an offered record: put into the ring whole, or dropped.
+// The bench of a replay (M-106), what it counts at an entry, and an offered record: put into the ring whole, or dropped.
 #![tactic(auto)]
 
-ghost use Rattle.std.specs.Prelude.{◌≡◌, ◌+◌, ◌^◌, ◌<◌, ◌≤◌, [], length};
-ghost use Rattle.replay.specs.Steps.{count_in, count_by, count_drain, lent, offered};
+ghost use Rattle.std.specs.Prelude.{◌≡◌, ◌+◌, ◌^◌, ◌<◌, ◌≤◌, length};
+ghost use Rattle.replay.specs.Steps.{count_in, count_by, count_drain, offered};
+ghost use Rattle.replay_offer.specs.Benches.{lent_of, SameBench};
 
 use meaning::Drained;
 use replay::Replayed;
 
+// Ring and scratch, the two halves of one lent slice; the journal, one over all drains; and what is counted so far.
+#[derive(Drop)]
+pub struct Bench<'a> {
+    pub rooms: &'a mut [u8],
+    pub half: usize,
+    pub journal: &'a mut [u8],
+    pub counts: Replayed,
+}
+
+// kept: each sum asks for its own bound: Replayed is C's struct, and holds whatever C reads of it.
 fn count_in(s: Replayed, n: u64) -> Replayed
     requires entries_bound { s.entries + 1 < 2 ^ 64 }
     requires n_bound { s.offered_bytes + n < 2 ^ 64 }
@@ -16,14 +27,9 @@ fn count_in(s: Replayed, n: u64) -> Replayed
     Replayed {
         entries: s.entries + 1,
         offered_bytes: s.offered_bytes + n,
-        drained_bytes: s.drained_bytes,
-        dropped_bytes: s.dropped_bytes,
         held_bytes: ring::distance(head, s.tail),
-        taken: s.taken,
-        dropped: s.dropped,
         head,
-        tail: s.tail,
-        answer: s.answer,
+        ..s
     }
 }
 
@@ -37,14 +43,9 @@ fn count_by(s: Replayed, n: u64) -> Replayed
     Replayed {
         entries: s.entries + 1,
         offered_bytes: s.offered_bytes + n,
-        drained_bytes: s.drained_bytes,
         dropped_bytes: s.dropped_bytes + n,
-        held_bytes: s.held_bytes,
-        taken: s.taken,
         dropped: s.dropped + 1,
-        head: s.head,
-        tail: s.tail,
-        answer: s.answer,
+        ..s
     }
 }
 
@@ -55,40 +56,38 @@ pub fn count_drain(s: Replayed, d: Drained) -> Replayed
     requires taken_bound { s.taken + d.taken < 2 ^ 64 }
     ensures { result ≡ count_drain s d }
 {
-    let answer = s.answer;
     Replayed {
         entries: s.entries + 1,
-        offered_bytes: s.offered_bytes,
         drained_bytes: s.drained_bytes + d.bytes,
-        dropped_bytes: s.dropped_bytes,
         held_bytes: ring::distance(s.head, d.tail),
         taken: s.taken + d.taken,
-        dropped: s.dropped,
-        head: s.head,
         tail: d.tail,
-        answer,
+        ..s
     }
 }
 
-// "An offered record goes in whole if its size fits the free room, and otherwise is dropped and counted": the free room is what
-// is not between tail and head.
-pub fn offer(rooms: &mut [u8], h: usize, s: Replayed, r: &[u8]) -> Replayed
-    requires h_nonzero { 0 < h }
-    requires h_in_bounds { h ≤ length rooms.old }
-    requires held_bytes_bound { s.held_bytes ≤ h }
-    requires entries_bound { s.entries + 1 < 2 ^ 64 }
-    requires r_bound { s.offered_bytes + length r.now < 2 ^ 64 }
-    requires r_bound_2 { s.dropped_bytes + length r.now < 2 ^ 64 }
-    requires dropped_bound { s.dropped + 1 < 2 ^ 64 }
-    ensures value { result ≡ (offered h (lent rooms.old [] s) r.now).counts }
-    ensures rooms_after { rooms.new ≡ (offered h (lent rooms.old [] s) r.now).rooms }
-{
-    let n = r.len() as u64;
-    let free = h as u64 - s.held_bytes;
-    if free < n {
-        return count_by(s, n);
+impl Bench<'_> {
+    // "An offered record goes in whole if its size fits the free room, and otherwise is dropped and counted": the free room is
+    // what is not between tail and head.
+    pub fn offer(&mut self, r: &[u8])
+        requires half_nonzero { 0 < self.old.half }
+        requires half_in_bounds { self.old.half ≤ length self.old.rooms.now }
+        requires held_bytes_bound { self.old.counts.held_bytes ≤ self.old.half }
+        requires entries_bound { self.old.counts.entries + 1 < 2 ^ 64 }
+        requires r_bound { self.old.counts.offered_bytes + length r.now < 2 ^ 64 }
+        requires r_bound_2 { self.old.counts.dropped_bytes + length r.now < 2 ^ 64 }
+        requires dropped_bound { self.old.counts.dropped + 1 < 2 ^ 64 }
+        ensures lent_after { lent_of self.new ≡ offered self.old.half (lent_of self.old) r.now }
+        ensures same { SameBench self.old self.new }
+    {
+        let n = r.len() as u64;
+        let free = self.half as u64 - self.counts.held_bytes;
+        if free < n {
+            self.counts = count_by(self.counts, n);
+            return;
+        }
+        let head = self.counts.head as usize;
+        rooms::put_round(&mut self.rooms[..self.half], head % self.half, r);
+        self.counts = count_in(self.counts, n);
     }
-    let head = s.head as usize;
-    rooms::put_round(&mut rooms[..h], head % h, r);
-    count_in(s, n)
 }

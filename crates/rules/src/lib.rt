@@ -1,11 +1,14 @@
-// What an edition knows, and the refusals 20 to 25, one Bool each, in document 01's order, with M-102's 25 between 23 and 24.
+// What an edition knows, and the refusals 20 to 25, one test each, in document 01's order, with M-102's 25 between 23
+// and 24.
 #![tactic(auto)]
 
-ghost use Rattle.std.specs.Prelude.{◌≡◌, ◌&&◌, ◌||◌, cond, not, ◌^◌, leb, ltb, eqb};
+ghost use Rattle.std.specs.Prelude.{◌≡◌, ◌&&◌, ◌||◌, not, ◌^◌, leb, ltb, eqb};
 ghost use Rattle.meaning.specs.Bytes.{bit};
 ghost use Rattle.meaning.specs.Editions.{editions, allowed, known, has_sample_bits, has_read_values, has_build_id, has_branches, strange_branch, unreadable};
+ghost use Rattle.meaning.specs.Reasons.{answer_of};
 
-use meaning::{Attributes, Known};
+use layouts::types::{MMAP2, READ, SAMPLE};
+use meaning::{Attributes, Known, Reason};
 
 // ---- editions
 
@@ -65,17 +68,7 @@ pub fn edition(e: u64) -> Known
 fn past(x: u64, known: u64) -> bool
     ensures { result ≡ leb (2 ^ known) x }
 {
-    if known < 64 {
-        return 1 <= (x >> known);
-    }
-    false
-}
-
-// The number of a rule that holds, else what the rules after it say.
-fn or(holds: bool, number: u16, rest: u16) -> u16
-    ensures { result ≡ cond holds number rest }
-{
-    if holds { number } else { rest }
+    known < 64 && 1 <= (x >> known)
 }
 
 // 20: "type 0 or above the edition's".
@@ -89,7 +82,7 @@ fn kind_unknown(k: Known, kind: u64) -> bool
 fn sample_unknown(k: Known, kind: u64, a: Attributes) -> bool
     ensures { result ≡ (leb (2 ^ k.samples) a.sample && has_sample_bits kind a) }
 {
-    past(a.sample, k.samples) & ((kind == 9) | a.all)
+    past(a.sample, k.samples) & ((kind == SAMPLE) | a.all)
 }
 
 // 22: "read format has bit 4 or higher, and the record is READ or a SAMPLE with bit 4 of the sample type"; M-110: "22
@@ -97,22 +90,22 @@ fn sample_unknown(k: Known, kind: u64, a: Attributes) -> bool
 fn format_unknown(k: Known, kind: u64, a: Attributes) -> bool
     ensures { result ≡ (leb (2 ^ k.formats) a.format && has_read_values kind a) }
 {
-    past(a.format, k.formats) & ((kind == 8) | ((kind == 9) & wire::has_bit(a.sample, 4)))
+    past(a.format, k.formats) & ((kind == READ) | ((kind == SAMPLE) & wire::has_bit(a.sample, 4)))
 }
 
 // 23: "MMAP2 with misc bit 14, edition below 3".
 fn build_id_unknown(k: Known, kind: u64, misc: u64) -> bool
     ensures { result ≡ (has_build_id kind misc && not k.builds) }
 {
-    ((kind == 10) & wire::has_bit(misc, 14)) & !k.builds
+    ((kind == MMAP2) & wire::has_bit(misc, 14)) & !k.builds
 }
 
-// 25 (M-102): "editions 1 and 2 refuse such a SAMPLE with 25; a SAMPLE with sample bit 11 and a branch bit from 19 up is 25
-// in every edition".
+// 25 (M-102): "editions 1 and 2 refuse such a SAMPLE with 25; a SAMPLE with sample bit 11 and a branch bit from 19 up
+// is 25 in every edition".
 fn branch_unknown(k: Known, kind: u64, a: Attributes) -> bool
     ensures { result ≡ (has_branches kind a && strange_branch k a) }
 {
-    ((kind == 9) & wire::has_bit(a.sample, 11))
+    ((kind == SAMPLE) & wire::has_bit(a.sample, 11))
         & ((wire::has_bit(a.branch, 17) & !k.index) | past(a.branch, 19))
 }
 
@@ -120,17 +113,31 @@ fn branch_unknown(k: Known, kind: u64, a: Attributes) -> bool
 fn two_weights(kind: u64, a: Attributes) -> bool
     ensures { result ≡ (eqb kind 9 && (bit a.sample 14 && bit a.sample 24)) }
 {
-    (kind == 9) & (wire::has_bit(a.sample, 14) & wire::has_bit(a.sample, 24))
+    (kind == SAMPLE) & (wire::has_bit(a.sample, 14) & wire::has_bit(a.sample, 24))
 }
 
-// The first of 20 to 23, 25 and 24 that holds, or 0.
-pub fn unreadable(k: Known, a: Attributes, kind: u64, misc: u64) -> u16
-    ensures { result ≡ unreadable k a kind misc }
+// The first of 20 to 23, 25 and 24 that holds, if one does.
+#[tactic(auto, unfolding(meaning::specs::Editions::unreadable, meaning::specs::Refusals::first))]
+pub fn unreadable(k: Known, a: Attributes, kind: u64, misc: u64) -> Result<(), Reason>
+    ensures { answer_of result ≡ unreadable k a kind misc }
 {
-    let r24 = or(two_weights(kind, a), 24, 0);
-    let r25 = or(branch_unknown(k, kind, a), 25, r24);
-    let r23 = or(build_id_unknown(k, kind, misc), 23, r25);
-    let r22 = or(format_unknown(k, kind, a), 22, r23);
-    let r21 = or(sample_unknown(k, kind, a), 21, r22);
-    or(kind_unknown(k, kind), 20, r21)
+    if kind_unknown(k, kind) {
+        return Err(Reason::UnknownType);
+    }
+    if sample_unknown(k, kind, a) {
+        return Err(Reason::SampleBits);
+    }
+    if format_unknown(k, kind, a) {
+        return Err(Reason::FormatBits);
+    }
+    if build_id_unknown(k, kind, misc) {
+        return Err(Reason::BuildIdForm);
+    }
+    if branch_unknown(k, kind, a) {
+        return Err(Reason::BranchBits);
+    }
+    if two_weights(kind, a) {
+        return Err(Reason::TwoWeights);
+    }
+    Ok(())
 }

@@ -1,5 +1,5 @@
 -- A turn of the walk, for both passes. Assumes nothing.
-use Rattle.std.specs.Prelude.{◌≡◌, Bool, ◌⊎◌}
+use Rattle.std.specs.Prelude.{◌≡◌, Bool, ◌⊎◌, Option, Some, None, unwrap_or, IfSome}
 use Rattle.std.proofs.Math.Path.{refl, sym, ap, subst}
 use Rattle.std.proofs.Common.{◌∙◌, length-append, length-drop, take_all, take-add, take_at}
 use Prim.Native.Nat.{ℕ, zero, suc, ◌+◌, ◌-◌, ◌*◌, ◌<◌, ◌≤◌}
@@ -20,7 +20,7 @@ use Rattle.salvage.specs.declared.Walk.{Walk}
 use Rattle.salvage.specs.Salvage.{keeps, step, Piece, piece, pieces, kept_in, output, Run, run, join, holes_in, holes, dropped, hole_bytes, changes, unready, salvage_answer, out_after, list_after, tells, salvaged}
 use Rattle.salvage.specs.declared.Salvaged.{Salvaged}
 use Rattle.meaning.specs.Refusals.{first}
-use Rattle.salvage.specs.Walks.{walk, closed, advanced, out_next, list_closed, list_next, from, pending, SalvageStands, Room, Wrote}
+use Rattle.salvage.specs.Walks.{walk, closed, advanced, advanced_by, out_next, out_by, list_by, list_closed, list_next, from, pending, SalvageStands, Room, Wrote}
 use Rattle.salvage.proofs.Steps.{Kept, says-keeps, keeps-says, step_kept, step-dropped, step-low, pieces_end}
 use Rattle.salvage.proofs.Holes.{Spaced, join-join, join-before, along-from}
 use Rattle.salvage.proofs.Promises.{changes-length, kept-and-dropped, holes-spaced, before-answer, room-suffices, no_room}
@@ -530,3 +530,13 @@ pub wrote_by : (judge : List ℕ → ℕ) (xs out₀ list₀ : List ℕ) (w w' :
 wrote_by judge xs out₀ list₀ w w' out out' list list' g p q r =
     subst (λ (x : Walk). Wrote judge xs out₀ list₀ x out' list') (sym p)
     (subst (λ (y : List ℕ). Wrote judge xs out₀ list₀ w y list') (sym q) (subst (Wrote judge xs out₀ list₀ w out) (sym r) g))
+
+-- a step by the record that is kept, if one is, is a step by its size
+pub by-kept : (w : Walk) (k : Option ℕ) (left : ℕ) → IfSome k (λ size. 0 < size) → advanced_by w k left ≡ advanced w (unwrap_or k 0) left
+by-kept w None left h = refl
+by-kept w (Some size) left h = sym (advanced-kept w size left h)
+
+pub wrote-kept : (xs : List ℕ) (w : Walk) (k : Option ℕ) (out list : List ℕ) → IfSome k (λ size. 0 < size)
+    → (out_by xs w k out ≡ out_next xs w (unwrap_or k 0) out) × (list_by w k list ≡ list_next w (unwrap_or k 0) list)
+wrote-kept xs w None out list h = step-none xs w 0 out list refl
+wrote-kept xs w (Some size) out list h = step-some xs w size out list h

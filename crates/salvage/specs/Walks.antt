@@ -1,5 +1,5 @@
 -- The salvage as it is walked, in two passes: the first measures, the second writes. Assumes nothing: these are definitions.
-use Rattle.std.specs.Prelude.{◌≡◌, ℕ, ◌+◌, ◌-◌, ◌*◌, ◌≤◌, cond, List, ltb, eqb, length, take, drop}
+use Rattle.std.specs.Prelude.{◌≡◌, ℕ, ◌+◌, ◌-◌, ◌*◌, ◌≤◌, cond, List, ltb, eqb, length, take, drop, Option, Some, None}
 use Rattle.meaning.specs.Bytes.{put}
 use Rattle.runs.proofs.Streams.{joined}
 use Rattle.salvage.specs.declared.Walk.{Walk}
@@ -19,6 +19,11 @@ advanced w size left =
     (walk (w.at + cond (ltb left 8) left 8) w.start w.kept w.holes)
     (walk (w.at + size) (w.at + size) (w.kept + size) (closed w))
 
+-- the same by the record that is kept, if one is
+abbrev pub advanced_by : Walk → Option ℕ → ℕ → Walk
+advanced_by w None left = advanced w 0 left
+advanced_by w (Some size) left = walk (w.at + size) (w.at + size) (w.kept + size) (closed w)
+
 -- what a step writes: the record, and the hole that ends there
 unfoldable pub out_next : List ℕ → Walk → ℕ → List ℕ → List ℕ
 out_next xs w size out = cond (eqb size 0) out (put out w.kept (take size (drop w.at xs)))
@@ -28,6 +33,14 @@ list_closed w list = cond (ltb w.start w.at) (put list (22 * w.holes) (hole_byte
 
 unfoldable pub list_next : Walk → ℕ → List ℕ → List ℕ
 list_next w size list = cond (eqb size 0) list (list_closed w list)
+
+abbrev pub out_by : List ℕ → Walk → Option ℕ → List ℕ → List ℕ
+out_by xs w None out = out
+out_by xs w (Some size) out = put out w.kept (take size (drop w.at xs))
+
+abbrev pub list_by : Walk → Option ℕ → List ℕ → List ℕ
+list_by w None list = list
+list_by w (Some size) list = list_closed w list
 
 -- ---- what holds between two steps: what is still to come is the whole
 

@@ -4,7 +4,7 @@
 
 // Where a salvage stands: the place, the start of the hole that ends there (the place itself where none does), the bytes kept and
 // the holes closed so far.
-#[derive(Clone, Copy)]
+#[derive(Clone, Copy, Debug, PartialEq, Eq)]
 pub struct Walk {
     pub at: usize,
     pub start: usize,
@@ -14,7 +14,7 @@ pub struct Walk {
 
 // What a salvage tells: bytes kept and written, bytes dropped, bytes of the list of changes, the answer.
 #[repr(C)]
-#[derive(Clone, Copy)]
+#[derive(Clone, Copy, Debug, PartialEq, Eq)]
 pub struct Salvaged {
     pub kept: u64,
     pub dropped: u64,

@@ -1,41 +1,33 @@
 // A step of a salvage: the place, the counts, and what is written: a record that is kept, the entry of a hole that ends.
 #![tactic(auto)]
 
-ghost use Rattle.std.specs.Prelude.{◌≡◌, cond, ◌+◌, ◌*◌, ◌^◌, ◌<◌, ◌≤◌, ltb, length};
-ghost use Rattle.meaning.specs.Bytes.{put};
+ghost use Rattle.std.specs.Prelude.{◌≡◌, cond, ◌+◌, ◌*◌, ◌^◌, ◌<◌, ◌≤◌, ltb, length, unwrap_or, IfSome};
 ghost use Rattle.salvage.specs.Salvage.{run, hole_bytes};
-ghost use Rattle.salvage.specs.Walks.{advanced, closed, out_next, list_closed, list_next};
+ghost use Rattle.salvage.specs.Walks.{advanced_by, closed, list_closed, out_by, list_by};
 
+use entries::EntryKind;
 use salvage::Walk;
 
-// 8 bytes, or all that is left if fewer.
-fn eight(left: usize) -> usize
-    ensures { (result ≡ cond (ltb left 8) left 8) × (result ≤ left) }
+// A step of the walk: a record is kept, or 8 bytes are dropped, or all that is left if fewer.
+pub fn advance(w: Walk, kept: Option<usize>, left: usize) -> Walk
+    requires { (w.at + left < 2 ^ 64) × (unwrap_or kept 0 ≤ left) × (w.kept + unwrap_or kept 0 < 2 ^ 64) × (w.holes + 1 < 2 ^ 64) }
+    ensures { result ≡ advanced_by w kept left }
 {
-    if left < 8 { left } else { 8 }
-}
-
-// A step of the walk.
-pub fn advance(w: Walk, size: usize, left: usize) -> Walk
-    requires { (w.at + left < 2 ^ 64) × (size ≤ left) × (w.kept + size < 2 ^ 64) × (w.holes + 1 < 2 ^ 64) }
-    ensures { result ≡ advanced w size left }
-{
-    let at = w.at;
-    if size == 0 {
-        let n = eight(left);
-        return Walk {
-            at: at + n,
-            start: w.start,
-            kept: w.kept,
-            holes: w.holes,
-        };
-    }
-    let holes = closed(w);
-    Walk {
-        at: at + size,
-        start: at + size,
-        kept: w.kept + size,
-        holes,
+    match kept {
+        None => {
+            let n = left.min(8);
+            Walk { at: w.at + n, ..w }
+        }
+        Some(size) => {
+            let at = w.at + size;
+            let holes = closed(w);
+            Walk {
+                at,
+                start: at,
+                kept: w.kept + size,
+                holes,
+            }
+        }
     }
 }
 
@@ -48,13 +40,14 @@ pub fn closed(w: Walk) -> usize
 }
 
 // The entry of a hole: kind 32, its start and its length.
-fn put_hole(list: &mut [u8], at: usize, start: u64, n: u64)
-    requires { at + 22 ≤ length list.old }
-    ensures { list.new ≡ put list.old at (hole_bytes (run start n)) }
+fn hole_entry(start: u64, n: u64) -> [u8; 22]
+    ensures { result ≡ hole_bytes (run start n) }
 {
-    entries::put_head(list, at, 32, 16);
-    put::put64(list, at + 6, start);
-    put::put64(list, at + 14, n);
+    let mut bytes = [0; 22];
+    entries::put_head(&mut bytes, 0, EntryKind::Hole.number(), 16);
+    put::put64(&mut bytes, 6, start);
+    put::put64(&mut bytes, 14, n);
+    bytes
 }
 
 // The hole that ends at the place is written, if one does.
@@ -65,23 +58,22 @@ pub fn write_closed(w: Walk, list: &mut [u8])
     let at = w.at;
     let start = w.start;
     if start < at {
-        let place = 22 * w.holes;
-        put_hole(list, place, start as u64, (at - start) as u64);
+        let hole = hole_entry(start as u64, (at - start) as u64);
+        put::copy_at(&hole, list, 22 * w.holes);
     }
 }
 
 // What a step writes: the record that is kept, and the hole that ends before it.
-pub fn write_step(xs: &[u8], w: Walk, size: usize, out: &mut [u8], list: &mut [u8])
-    requires size_in_bounds { w.at + size ≤ length xs.now }
-    requires holes_in_bounds { 0 < size → w.start < w.at → 22 * w.holes + 22 ≤ length list.old }
-    ensures out_after { out.new ≡ out_next xs.now w size out.old }
-    ensures list_after { list.new ≡ list_next w size list.old }
+pub fn write_step(xs: &[u8], w: Walk, kept: Option<usize>, out: &mut [u8], list: &mut [u8])
+    requires size_in_bounds { w.at + unwrap_or kept 0 ≤ length xs.now }
+    requires holes_in_bounds { IfSome kept (λ size. w.start < w.at → 22 * w.holes + 22 ≤ length list.old) }
+    ensures out_after { out.new ≡ out_by xs.now w kept out.old }
+    ensures list_after { list.new ≡ list_by w kept list.old }
 {
-    if size == 0 {
+    let Some(size) = kept else {
         return;
-    }
+    };
     let at = w.at;
-    let kept = w.kept;
-    put::copy_at(&xs[at..at + size], out, kept);
+    put::copy_at(&xs[at..at + size], out, w.kept);
     write_closed(w, list);
 }

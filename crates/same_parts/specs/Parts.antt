@@ -32,6 +32,10 @@ text_same s t = same_span s t 8 (20 + (number_at 2 s 16 + number_at 2 s 18))
 unfoldable pub name_at : ℕ → ℕ
 name_at kind = cond (eqb kind 1) 40 (cond (eqb kind 3 || eqb kind 19) 16 (cond (eqb kind 10) 72 (cond (eqb kind 17) 24 0)))
 
+-- the fields of a type whose only ignored bytes are those after its name's zero, if it has one
+unfoldable pub others_same : List ℕ → List ℕ → ℕ → Bool
+others_same s t kind = cond (eqb (name_at kind) 0) (same_span s t 8 (length s)) (name_same s t 8 (name_at kind))
+
 -- before a SAMPLE's res: identifier, ip, pid and tid, time, addr, id, stream id (16, 0 to 3, 6, 9)
 abbrev pub before_res : ℕ
 before_res = 66127

@@ -1,11 +1,15 @@
-// Are the fields of two records the same but for ignored bytes? The type and the attributes say where those lie: "res, bytes after a name's zero, build-id
-// padding, text padding, the reserved three". The bytes before and after them are compared as they stand; no field is read.
+// Are the fields of two records the same but for ignored bytes? The type and the attributes say where those lie: "res,
+// bytes after a name's zero, build-id padding, text padding, the reserved three". The bytes before and after them are
+// compared as they stand; no field is read.
 #![tactic(auto)]
 
-ghost use Rattle.std.specs.Prelude.{◌≡◌, ◌≤◌, length};
-ghost use Rattle.same_parts.specs.Parts.{same_span, same_but_four, around_res, name_same, build_same, text_same, name_at, body_same};
+ghost use Rattle.std.specs.Prelude.{◌≡◌, ◌<◌, ◌≤◌, length, unwrap_or, IfSome};
+ghost use Rattle.same_parts.specs.Parts.{same_span, same_but_four, around_res, name_same, build_same, text_same, name_at, others_same, body_same};
 
-// What stands before `res` in eights of bytes, but for the cpu's four: in a SAMPLE identifier (16), ip, pid and tid, time, addr (0 to 3), id, stream id (6, 9).
+use meaning::Kind;
+
+// What stands before `res` in eights of bytes, but for the cpu's four: in a SAMPLE identifier (16), ip, pid and tid,
+// time, addr (0 to 3), id, stream id (6, 9).
 const SAMPLE_BITS: u64 = 66127;
 
 // The bytes from i up to j, where both have them.
@@ -90,39 +94,42 @@ fn text_same(s: &[u8], t: &[u8]) -> bool
     same_span(s, t, 8, 20 + texts as usize)
 }
 
-// Where the name of a type starts; 0 for a type that has none.
-fn name_at(kind: u64) -> usize
-    ensures { result ≡ name_at kind }
+// Where the name of a type starts, where it has one.
+#[tactic(auto, unfolding(crate::specs::Parts::name_at))]
+fn name_at(kind: u64) -> Option<usize>
+    ensures value { unwrap_or result 0 ≡ name_at kind }
+    ensures some { IfSome result (λ from. 0 < from) }
 {
-    if kind == 1 {
-        return 40;
+    match Kind::try_from(kind) {
+        Ok(Kind::Mmap) => Some(40),
+        Ok(Kind::Comm) => Some(16),
+        Ok(Kind::Mmap2) => Some(72),
+        Ok(Kind::Ksymbol) => Some(24),
+        Ok(Kind::Cgroup) => Some(16),
+        _ => None,
     }
-    if (kind == 3) | (kind == 19) {
-        return 16;
+}
+
+// The fields of a type that has no ignored bytes but those after its name's zero, if it has a name.
+fn others_same(s: &[u8], t: &[u8], kind: u64) -> bool
+    ensures { result ≡ others_same s.now t.now kind }
+{
+    match name_at(kind) {
+        Some(from) => name_same(s, t, 8, from),
+        None => same_span(s, t, 8, s.len()),
     }
-    if kind == 10 {
-        return 72;
-    }
-    if kind == 17 { 24 } else { 0 }
 }
 
 // The fields, up to the trailer.
+#[tactic(auto, unfolding(crate::specs::Parts::body_same, crate::specs::Parts::others_same))]
 pub fn body_same(s: &[u8], t: &[u8], kind: u64, misc: u64, x: u64) -> bool
     requires { 8 ≤ length s.now }
     ensures { result ≡ body_same s.now t.now kind misc x }
 {
-    if kind == 9 {
-        return around_res(s, t, x, SAMPLE_BITS, 8);
+    match Kind::try_from(kind) {
+        Ok(Kind::Sample) => around_res(s, t, x, SAMPLE_BITS, 8),
+        Ok(Kind::TextPoke) => text_same(s, t),
+        Ok(Kind::Mmap2) if wire::has_bit(misc, 14) => build_same(s, t),
+        _ => others_same(s, t, kind),
     }
-    if kind == 20 {
-        return text_same(s, t);
-    }
-    if (kind == 10) & wire::has_bit(misc, 14) {
-        return build_same(s, t);
-    }
-    let from = name_at(kind);
-    if from == 0 {
-        return same_span(s, t, 8, s.len());
-    }
-    name_same(s, t, 8, from)
 }

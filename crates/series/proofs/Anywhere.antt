@@ -2,7 +2,7 @@
 use Rattle.std.specs.Prelude.{◌≡◌, refl, List, [], ◌∷◌, ◌++◌, true, ℕ, suc, ◌+◌, ◌-◌, ◌*◌, ◌%◌, ◌^◌, ◌<◌, ◌≤◌, length, take, drop}
 use Rattle.std.proofs.Common.{sym, ap, ◌∙◌, append-nil, mod-lt, arith, length-drop}
 use Rattle.std.proofs.Math.Seq.{take-append_seam}
-use Rattle.meaning.specs.declared.Frame.{Frame}
+use Rattle.meaning.specs.States.{Frame}
 use Rattle.meaning.specs.Editions.{is_in}
 use Rattle.meaning.specs.Ring.{Asked, stop_at, frame}
 use Rattle.meaning.specs.Drain.{State, End, start, frame_at}

@@ -4,7 +4,7 @@ use Rattle.std.proofs.Common.{sym, ap, ◌∙◌, subst, ⊎_elim, mod-lt, mod-e
 use Rattle.std.proofs.Math.Nat.{mod-eq-sub-mod}
 use Rattle.std.proofs.lemmas.List.{take-append-le, drop-append-le}
 use Rattle.std.proofs.Math.Seq.{drop-append-add}
-use Rattle.meaning.specs.declared.Frame.{Frame}
+use Rattle.meaning.specs.States.{Frame}
 use Rattle.meaning.specs.Bytes.{number_at}
 use Rattle.meaning.specs.Ring.{Asked, length_allowed, distance, record_at, go_at, frame}
 use Rattle.laws.specs.Bytes.{le-or-lt}

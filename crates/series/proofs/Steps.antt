@@ -4,7 +4,7 @@ use Rattle.std.proofs.Math.Path.{sym}
 use Rattle.std.proofs.Common.{ap, ◌∙◌, subst, mod-lt, length-append}
 use mathlib.Core.List.{List, [], ◌∷◌, ◌++◌}
 use native.Mathlib.Omega.{arith}
-use Rattle.meaning.specs.declared.Frame.{Frame}
+use Rattle.meaning.specs.States.{Frame}
 use Rattle.meaning.specs.Ring.{Asked, length_allowed, distance, frame, record_at}
 use Rattle.laws.specs.Rings.{length-bounds, frame-stop, going-length, record-length, scratch-length, distance-on}
 use Rattle.runs.specs.Cutting.{Cut, Spot, begin, spot_frame, cut_at, entries, Chained, All}

@@ -2,7 +2,7 @@
 use Rattle.std.specs.Prelude.{◌≡◌, refl, List, [], ◌∷◌, ◌++◌, Bool, true, false, cond, not, ◌&&◌, ◌||◌, ℕ, ◌+◌, ◌%◌, ◌^◌, ◌<◌, ◌≤◌, leb, ltb, eqb, length, take, drop}
 use Rattle.std.proofs.Common.{sym, ap, ◌∙◌, subst, arith, le-ltb, eq-eqb, ne_eqb, eqb-true, ltb-false, leb-true, leb-false}
 use Rattle.std.proofs.lemmas.Bool.{eqb-false, not-false}
-use Rattle.meaning.specs.declared.Frame.{Frame}
+use Rattle.meaning.specs.States.{Frame}
 use Rattle.meaning.specs.Bytes.{number_at}
 use Rattle.meaning.specs.Refusals.{Refusal, refusal}
 use Rattle.meaning.specs.Editions.{is_in}

@@ -9,16 +9,15 @@ use Rattle.meaning.specs.Ring.{length_allowed}
 use Rattle.laws.specs.Bytes.{and-true, true-and, length-spell}
 use Rattle.laws.specs.Lookup.{rows-length}
 use Rattle.laws.specs.Rings.{length-bounds}
-use Rattle.entries.specs.declared.Entry.{Entry}
+use Rattle.entries.specs.Entries.{Entry}
 use Rattle.entries.specs.Entries.{entry, entry_at, entry_bytes}
 use Rattle.entries.specs.Numbers.{ends_by}
 use Rattle.entries.specs.Laws.{entry_length, written}
 use Rattle.meaning.specs.declared.Attributes.{Attributes}
 use Rattle.meaning.specs.Events.{attributes_of, identifiers, event_of, events_of, distinct, marked, all_marked, sound}
 use Rattle.event_laws.specs.Sound.{sound-limit}
-use Rattle.settings.specs.declared.Version.{Version}
 use Rattle.settings.specs.declared.Settings.{Settings}
-use Rattle.settings.specs.Versions.{version_of, is_known, place_of}
+use Rattle.settings.specs.Versions.{Version, version_of, is_known, place_of}
 use Rattle.settings.specs.Reading.{shows_version, is_event, is_event_of, fits, in_turn, turns_from, count_of, rows_of, rest_answer, shown, store_answer, settings_at, refused, read_store, rows_after}
 use Rattle.settings.specs.Writing.{rows_bytes, last_bytes, store_bytes}
 use Rattle.laws.specs.Rows.{first-no, first-yes, first-none}

@@ -8,13 +8,12 @@ use Rattle.meaning.specs.declared.Known.{Known}
 use Rattle.meaning.specs.Editions.{allowed}
 use Rattle.meaning.specs.Ring.{length_allowed}
 use Rattle.laws.specs.Bytes.{apart, and-true, true-and}
-use Rattle.entries.specs.declared.Entry.{Entry}
+use Rattle.entries.specs.Entries.{Entry}
 use Rattle.entries.specs.Entries.{entry_at, entry_bytes}
 use Rattle.entries.specs.Numbers.{number-bytes, parts}
 use Rattle.entries.specs.Laws.{stands, bytes-again}
 use Rattle.meaning.specs.Events.{events_of, sound}
-use Rattle.settings.specs.declared.Version.{Version}
-use Rattle.settings.specs.Versions.{version_of, is_known, row_length, place_of}
+use Rattle.settings.specs.Versions.{Version, version_of, is_known, row_length, place_of}
 use Rattle.settings.specs.Reading.{shows_version, is_event, is_last, is_event_of, fits, in_turn, turns_from, count_of, row_from, rows_of, first_rows, last_rows, after_rows, table_rows, rest_answer, shown, store_answer}
 use Rattle.settings.specs.Writing.{word_bytes, row_bytes, rows_bytes, last_bytes, store_bytes}
 use Rattle.laws.specs.Rows.{or-false, passed-by, first-through, first-passed}

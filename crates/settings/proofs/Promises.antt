@@ -13,10 +13,9 @@ use Rattle.meaning.specs.declared.Known.{Known}
 use Rattle.meaning.specs.Editions.{allowed, is_in}
 use Rattle.meaning.specs.Ring.{length_allowed, stop_at, go_at, stopped}
 use Rattle.meaning.specs.Events.{events_of, sound}
-use Rattle.settings.specs.declared.Version.{Version}
 use Rattle.settings.specs.declared.Settings.{Settings}
 use Rattle.settings.specs.declared.Stored.{Stored}
-use Rattle.settings.specs.Versions.{one, two, version_of, place_of}
+use Rattle.settings.specs.Versions.{Version, one, two, version_of, place_of}
 use Rattle.settings.specs.Reading.{count_of, rows_of, first_rows, last_rows, after_rows, table_rows, rest_answer, shown, store_answer, settings_at, refused, read_store, rows_after}
 use Rattle.settings.specs.Writing.{store_bytes, write_rows, write_answer, stored, write_store, buffer_after}
 use Rattle.meaning.specs.Refusals.{Refusal, refusal, first}

@@ -13,10 +13,8 @@ use Rattle.laws.specs.Put.{put-put, put-nil}
 use Rattle.entries.specs.Entries.{entry_bytes}
 use Rattle.entries.specs.Laws.{entry_length}
 use Rattle.meaning.specs.Events.{events_of, sound}
-use Rattle.settings.specs.declared.Version.{Version}
-use Rattle.settings.specs.Versions.{row_length, place_of}
+use Rattle.settings.specs.Versions.{Version, row_length, place_of}
 use Rattle.settings.specs.Writing.{word_bytes, row_bytes, rows_bytes, last_bytes, store_bytes, write_answer, stored, write_store, buffer_after}
-use Rattle.settings.specs.Narrow.{Narrow}
 use Rattle.laws.specs.Rows.{first-no, first-yes, first-none}
 use Rattle.settings.proofs.Turns.{words-length}
 use Rattle.settings.proofs.Only.{rows_snoc}
@@ -117,10 +115,10 @@ store_length v rows ring edition budget =
       last-length ring edition budget,
     )
 
-pub place-bound : (v : Version) (n : ℕ) → Narrow v → place_of v n ≤ 8 + 56 * n
+pub place-bound : (v : Version) (n : ℕ) → v.width ≤ 2 → place_of v n ≤ 8 + 56 * n
 unfolding place_of
 place-bound v zero w = omega arith
-place-bound v (suc n) w = omega (arith, place-bound v n w, w.high)
+place-bound v (suc n) w = omega (arith, place-bound v n w, w)
 
 -- ---- the rows, one after the other
 

@@ -12,14 +12,12 @@ use Rattle.meaning.specs.declared.Known.{Known}
 use Rattle.meaning.specs.Editions.{allowed}
 use Rattle.meaning.specs.Ring.{length_allowed}
 use Rattle.laws.specs.Bytes.{apart, and-true, true-and}
-use Rattle.entries.specs.declared.Entry.{Entry}
+use Rattle.entries.specs.Entries.{Entry}
 use Rattle.entries.specs.Entries.{entry_at}
 use Rattle.meaning.specs.Events.{identifiers, event_of, events_of, marked, all_marked, sound}
 use Rattle.laws.specs.Lookup.{identifiers-length}
 use Rattle.laws.specs.Lookup as Lookup
-use Rattle.settings.specs.declared.Version.{Version}
-use Rattle.settings.specs.Versions.{versions, version_of, is_known, row_length, place_of}
-use Rattle.settings.specs.Narrow.{Narrow}
+use Rattle.settings.specs.Versions.{Version, versions, version_of, is_known, row_length, place_of}
 use Rattle.settings.specs.Reading.{shows_version, is_event, is_last, is_event_of, fits, in_turn, turns_from, count_of, row_from, rows_of, first_rows, last_rows, after_rows, table_rows, rest_answer, shown, store_answer, settings_at, refused, read_store, rows_after}
 use Rattle.laws.specs.Rows.{first-no, first-yes, first-none}
 use Rattle.settings.specs.Firsts.{first-or, first-app, or_left, and_no}
@@ -179,24 +177,6 @@ after-52 v xs at rest e f =
 pub event-one : (v : Version) (e : Entry) → is_event_of (v ∷ []) e ≡ is_event v e
 unfolding is_event_of
 event-one v e = or-false (is_event v e)
-
-abbrev pub AllNarrow : List Version → Type 0
-AllNarrow [] = Unit {0}
-AllNarrow (v ∷ vs) = Narrow v × AllNarrow vs
-
-pub narrow-of : (vs : List Version) (k : ℕ) → AllNarrow vs → is_known (version_of vs k) ≡ true → Narrow (version_of vs k)
-unfolding version_of
-narrow-of [] k a h = absurd (apart h)
-narrow-of (v ∷ vs) k a h = by (eqb k v.number) refl (narrow-of vs k a.1)
-  where
-    by : (t : Bool) → eqb k v.number ≡ t → (is_known (version_of vs k) ≡ true → Narrow (version_of vs k)) → Narrow (cond (eqb k v.number) v (version_of vs k))
-    by true q g = subst (λ (t : Bool). Narrow (cond t v (version_of vs k))) (sym q) a.0
-    by false q g =
-        subst (λ (t : Bool). Narrow (cond t v (version_of vs k))) (sym q) (g (sym (ap (λ (t : Bool). is_known (cond t v (version_of vs k))) q) ∙ h))
-
-pub all-narrow : AllNarrow versions
-all-narrow =
-    (record { low = omega arith; high = omega arith; most = omega arith }, (record { low = omega arith; high = omega arith; most = omega arith }, tt))
 
 -- the rows of the last entry and of what follows it, in one list
 abbrev pub end_rows : Version → List Known → List ℕ → ℕ → List Refusal

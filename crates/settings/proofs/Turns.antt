@@ -7,8 +7,7 @@ use Rattle.laws.specs.Bytes.{true-and, length-spell}
 use Rattle.entries.specs.Entries.{entry, entry_at}
 use Rattle.entries.specs.Numbers.{number-there, number-after}
 use Rattle.entries.specs.Laws.{written}
-use Rattle.settings.specs.declared.Version.{Version}
-use Rattle.settings.specs.Versions.{row_length, place_of}
+use Rattle.settings.specs.Versions.{Version, row_length, place_of}
 use Rattle.settings.specs.Reading.{is_event, in_turn, turns_from, row_from, rows_of}
 use Rattle.settings.specs.Writing.{word_bytes, row_bytes, rows_bytes}
 

@@ -3,18 +3,19 @@
 -- empty one too, is 51, a ring length or edition not allowed is 52. Last come 11, as in M-100, and 40 if the lent table is too short;
 -- refused, it is unchanged; accepted, rows past those read are."
 -- The versions and the editions that a build knows are arguments. Assumes nothing: these are definitions.
-use Rattle.std.specs.Prelude.{ℕ, zero, suc, ◌+◌, Bool, false, cond, not, ◌&&◌, ◌||◌, List, [], ◌∷◌, ◌++◌, eqb, ltb, length, drop}
+use Rattle.std.specs.Prelude.{ℕ, zero, suc, ◌+◌, Bool, false, cond, not, ◌&&◌, ◌||◌, List, [], ◌∷◌, ◌++◌, eqb, ltb, length, drop, Result, Ok, Err}
+use Rattle.meaning.specs.declared.Reason.{Reason}
+use Rattle.meaning.specs.Reasons.{number_of}
 use Rattle.meaning.specs.Bytes.{number_at}
 use Rattle.meaning.specs.Refusals.{Refusal, refusal, first}
 use Rattle.meaning.specs.declared.Known.{Known}
 use Rattle.meaning.specs.Editions.{allowed}
 use Rattle.meaning.specs.Ring.{length_allowed}
-use Rattle.entries.specs.declared.Entry.{Entry}
+use Rattle.entries.specs.Entries.{Entry}
 use Rattle.entries.specs.Entries.{entry_at}
 use Rattle.meaning.specs.Events.{events_of, sound}
-use Rattle.settings.specs.declared.Version.{Version}
 use Rattle.settings.specs.declared.Settings.{Settings}
-use Rattle.settings.specs.Versions.{version_of, is_known, row_length, place_of}
+use Rattle.settings.specs.Versions.{Version, version_of, is_known, row_length, place_of}
 
 -- ---- entries of a known kind
 
@@ -123,6 +124,11 @@ settings_at xs n at =
 
 abbrev pub refused : ℕ → Settings
 refused k = record { answer = k; events = 0; ring = 0; edition = 0; budget = 0 }
+
+-- what a reader that may be refused tells
+abbrev pub told : Result Settings Reason → Settings
+told (Ok s) = s
+told (Err reason) = refused (number_of reason)
 
 unfoldable pub read_store : List Version → List Known → List ℕ → ℕ → Settings
 read_store vs ks xs lent =

@@ -1,6 +1,8 @@
 -- The bytes of a store, and what writing it answers: "Writing refuses with 11, 1, 2, then 40 for no room, the buffer unchanged."
 -- Assumes nothing: these are definitions.
-use Rattle.std.specs.Prelude.{ℕ, suc, ◌+◌, cond, not, List, [], ◌∷◌, ◌++◌, eqb, ltb, length, get_or}
+use Rattle.std.specs.Prelude.{ℕ, suc, ◌+◌, cond, not, List, [], ◌∷◌, ◌++◌, eqb, ltb, length, get_or, Result, Ok, Err}
+use Rattle.meaning.specs.declared.Reason.{Reason}
+use Rattle.meaning.specs.Reasons.{number_of}
 use Rattle.meaning.specs.Bytes.{spell, put}
 use Rattle.meaning.specs.Refusals.{Refusal, refusal, first}
 use Rattle.meaning.specs.declared.Known.{Known}
@@ -8,9 +10,8 @@ use Rattle.meaning.specs.Editions.{allowed}
 use Rattle.meaning.specs.Ring.{length_allowed}
 use Rattle.entries.specs.Entries.{entry_bytes}
 use Rattle.meaning.specs.Events.{events_of, sound}
-use Rattle.settings.specs.declared.Version.{Version}
 use Rattle.settings.specs.declared.Stored.{Stored}
-use Rattle.settings.specs.Versions.{two}
+use Rattle.settings.specs.Versions.{Version, two}
 
 -- the version that this build writes: "New builds .. write version 2"
 abbrev pub writes : Version
@@ -50,6 +51,11 @@ write_answer v ks rows ring edition budget room = first (write_rows v ks rows ri
 
 abbrev pub stored : ℕ → ℕ → Stored
 stored answer bytes = record { answer = answer; bytes = bytes }
+
+-- what a writer that may be refused tells: the number of bytes, or its answer
+abbrev pub told : Result ℕ Reason → Stored
+told (Ok bytes) = stored 0 bytes
+told (Err reason) = stored (number_of reason) 0
 
 unfoldable pub write_store : Version → List Known → List (List ℕ) → ℕ → ℕ → ℕ → ℕ → Stored
 write_store v ks rows ring edition budget room =

@@ -1,13 +1,14 @@
-// The shapes of items that a rule looks at, or that later items are counted by: names, counts, sizes, registers. Each is proved against the
-// one definition `shape_step`.
+// The steps over items that a rule looks at, or that later items are counted by: names, counts, sizes, registers. Each
+// is proved against the one definition `shape_step`.
 #![tactic(auto)]
 
 ghost use Rattle.std.specs.Prelude.{◌≡◌, ◌+◌, ◌≤◌, length, drop};
 ghost use Rattle.meaning.specs.declared.Shape.TheVariants.{Count, Size, Filled, Abi, Limit, Name};
 ghost use Rattle.meaning.specs.Bytes.{number_at, zero_in};
 ghost use Rattle.meaning.specs.Items.{bytes, shape_step};
+ghost use Rattle.meaning.specs.Reasons.{cursor_of, stepped};
 
-use meaning::{Cursor, Width};
+use meaning::{Reason, Spot, Width};
 
 // ---- names
 
@@ -16,37 +17,28 @@ pub fn zero_from(s: &[u8], at: usize) -> usize
     requires { at ≤ length s.now }
     ensures { (result ≡ at + zero_in (drop at s.now)) × (result ≤ length s.now) }
 {
-    let mut i = at;
-    while i < s.len() {
-        if s[i] == 0 {
-            return i;
-        }
-        i += 1;
-    }
-    i
+    let rest = &s[at..];
+    at + rest
+        .iter()
+        .position(|&byte| byte == 0)
+        .unwrap_or(rest.len())
 }
 
 // "33: no zero byte in the name's room, or the first is not among its last 8 bytes". A room of no bytes has none.
-pub fn name(s: &[u8], c: Cursor) -> Cursor
-    ensures { result ≡ shape_step Name c (drop c.at s.now) }
+pub fn name(s: &[u8], c: Spot) -> Result<Spot, Reason>
+    ensures { stepped c result ≡ shape_step Name (cursor_of c) (drop c.at s.now) }
 {
-    let at = c.at;
-    if s.len() <= at {
-        return spans::refuse(c, 33);
+    if s.len() <= c.at {
+        return Err(Reason::NameZero);
     }
-    let z = zero_from(s, at);
+    let z = zero_from(s, c.at);
     if z == s.len() {
-        return spans::refuse(c, 33);
+        return Err(Reason::NameZero);
     }
     if 8 < s.len() - z {
-        return spans::refuse(c, 33);
+        return Err(Reason::NameZero);
     }
-    Cursor {
-        at: s.len(),
-        n: c.n,
-        old: c.old,
-        why: c.why,
-    }
+    Ok(Spot { at: s.len(), ..c })
 }
 
 // ---- numbers that later items are counted by, or that a rule looks at
@@ -65,107 +57,92 @@ pub fn word_at(s: &[u8], at: usize, w: Width) -> u64
 }
 
 // The count before it stays remembered too: TEXT_POKE has two before its two texts.
-pub fn count(s: &[u8], c: Cursor, w: Width) -> Cursor
-    ensures { result ≡ shape_step (Count w) c (drop c.at s.now) }
+pub fn count(s: &[u8], c: Spot, w: Width) -> Result<Spot, Reason>
+    ensures { stepped c result ≡ shape_step (Count w) (cursor_of c) (drop c.at s.now) }
 {
-    let at = c.at;
-    let k = spans::width_of(w);
-    if spans::left(s, at) < k {
-        return spans::refuse(c, 30);
+    let k = w.bytes();
+    if s.len().saturating_sub(c.at) < k {
+        return Err(Reason::TooShort);
     }
-    Cursor {
-        at: at + k,
-        n: word_at(s, at, w),
+    Ok(Spot {
+        at: c.at + k,
+        n: word_at(s, c.at, w),
         old: c.n,
-        why: c.why,
-    }
+    })
 }
 
-// "Raw size plus 4 is a multiple of 8; stack and aux sizes are multiples of 8": a size and its own bytes. "At one size word
-// 32 comes before 30": the bytes that it counts are the next item's.
-pub fn sized(s: &[u8], c: Cursor, w: Width) -> Cursor
-    ensures { result ≡ shape_step (Size w) c (drop c.at s.now) }
+// "Raw size plus 4 is a multiple of 8; stack and aux sizes are multiples of 8": a size and its own bytes. "At one size
+// word 32 comes before 30": the bytes that it counts are the next item's.
+pub fn sized(s: &[u8], c: Spot, w: Width) -> Result<Spot, Reason>
+    ensures { stepped c result ≡ shape_step (Size w) (cursor_of c) (drop c.at s.now) }
 {
-    let at = c.at;
-    let k = spans::width_of(w);
-    if spans::left(s, at) < k {
-        return spans::refuse(c, 30);
+    let k = w.bytes();
+    if s.len().saturating_sub(c.at) < k {
+        return Err(Reason::TooShort);
     }
-    let n = word_at(s, at, w);
+    let n = word_at(s, c.at, w);
     if (n % 8 + k as u64) % 8 != 0 {
-        return spans::refuse(c, 32);
+        return Err(Reason::InnerRule);
     }
-    Cursor {
-        at: at + k,
+    Ok(Spot {
+        at: c.at + k,
         n,
-        old: c.old,
-        why: c.why,
-    }
+        ..c
+    })
 }
 
 // "Filled length at most stack size"; a stack of size 0 has none.
-pub fn filled(s: &[u8], c: Cursor) -> Cursor
-    ensures { result ≡ shape_step Filled c (drop c.at s.now) }
+pub fn filled(s: &[u8], c: Spot) -> Result<Spot, Reason>
+    ensures { stepped c result ≡ shape_step Filled (cursor_of c) (drop c.at s.now) }
 {
-    let at = c.at;
     let size = c.n;
     if size == 0 {
-        return c;
+        return Ok(c);
     }
-    if spans::left(s, at) < 8 {
-        return spans::refuse(c, 30);
+    if s.len().saturating_sub(c.at) < 8 {
+        return Err(Reason::TooShort);
     }
-    if size < wire::u64_at(s, at) {
-        return spans::refuse(c, 32);
+    if size < wire::u64_at(s, c.at) {
+        return Err(Reason::InnerRule);
     }
-    Cursor {
-        at: at + 8,
-        n: size,
-        old: c.old,
-        why: c.why,
-    }
+    Ok(Spot { at: c.at + 8, ..c })
 }
 
 // "An abi word, then as many registers as the mask has ones; if the abi is 0, none follow."
-pub fn abi(s: &[u8], c: Cursor, mask: u64) -> Cursor
-    ensures { result ≡ shape_step (Abi mask) c (drop c.at s.now) }
+pub fn abi(s: &[u8], c: Spot, mask: u64) -> Result<Spot, Reason>
+    ensures { stepped c result ≡ shape_step (Abi mask) (cursor_of c) (drop c.at s.now) }
 {
-    let at = c.at;
-    if spans::left(s, at) < 8 {
-        return spans::refuse(c, 30);
+    if s.len().saturating_sub(c.at) < 8 {
+        return Err(Reason::TooShort);
     }
-    if wire::u64_at(s, at) == 0 {
-        return Cursor {
-            at: at + 8,
+    if wire::u64_at(s, c.at) == 0 {
+        return Ok(Spot {
+            at: c.at + 8,
             n: 0,
-            old: c.old,
-            why: c.why,
-        };
+            ..c
+        });
     }
-    Cursor {
-        at: at + 8,
+    Ok(Spot {
+        at: c.at + 8,
         n: wire::count_ones(mask) as u64,
-        old: c.old,
-        why: c.why,
-    }
+        ..c
+    })
 }
 
 // "Build id size at most 20": 32 even where the record ends inside the bytes that follow.
-pub fn limit(s: &[u8], c: Cursor, most: u64) -> Cursor
-    ensures { result ≡ shape_step (Limit most) c (drop c.at s.now) }
+pub fn limit(s: &[u8], c: Spot, most: u64) -> Result<Spot, Reason>
+    ensures { stepped c result ≡ shape_step (Limit most) (cursor_of c) (drop c.at s.now) }
 {
-    let at = c.at;
-    if spans::left(s, at) < 1 {
-        return spans::refuse(c, 30);
+    if s.len() <= c.at {
+        return Err(Reason::TooShort);
     }
-    let n = wire::u8_at(s, at);
+    let n = wire::u8_at(s, c.at);
     if most < n {
-        return spans::refuse(c, 32);
+        return Err(Reason::InnerRule);
     }
-    Cursor {
-        at: at + 1,
+    Ok(Spot {
+        at: c.at + 1,
         n,
-        old: c.old,
-        why: c.why,
-    }
+        ..c
+    })
 }

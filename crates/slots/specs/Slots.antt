@@ -12,13 +12,16 @@ use borrow.Author.Tests.{eqb-true, eqb-false, ne_eqb, le-ltb, lt-ltb, le-leb, lt
 use Rattle.meaning.specs.declared.Attributes.{Attributes}
 use Rattle.meaning.specs.declared.Event.{Event}
 use Rattle.meaning.specs.declared.Known.{Known}
+use Rattle.slots.specs.declared.Slot.{Slot}
+use Rattle.slots.specs.declared.State.{State}
+use Rattle.slots.specs.declared.State.TheVariants.{Empty, Indexed, InTable, UnknownBit, Absent}
 use Rattle.meaning.specs.Bytes.{bit, ones}
 use Rattle.meaning.specs.Refusals.{first}
 use Rattle.meaning.specs.Editions.{is_in, unreadable}
 use Rattle.meaning.specs.Records.{layout, kind_of, judge}
-use Rattle.meaning.specs.Events.{attributes_of, event_at, event_of, events_of, identifiers, distinct, identifier_of, index_of, layout_for, judge_events}
+use Rattle.meaning.specs.Events.{attributes_of, event_at, identifiers, distinct, identifier_of, index_of, layout_for, judge_events}
 use Rattle.laws.specs.Bytes.{apart}
-use Rattle.laws.specs.Lookup.{identifiers-length, identifier-at, in-there, in-none, index-unique, rows-length, row_at}
+use Rattle.laws.specs.Lookup.{identifiers-length, identifier-at, in-there, in-none, index-unique}
 use Rattle.sums.specs.Sums.{sum_over, early_bits, after_bits, time_bits, sums_of, ones-most, trail-small, first_small, last-small}
 use Rattle.marks.specs.Marks.{Marked}
 
@@ -49,8 +52,8 @@ pub slot-inside : (id n : ℕ) → 1 ≤ n → bit_and id (n - 1) < n
 slot-inside id n h = omega (arith, h, and_le_r id (n - 1))
 
 -- the sums in a slot
-abbrev pub sums_in : List ℕ → List ℕ
-sums_in s = unpacked (get_or s 6 0) (get_or s 7 0)
+abbrev pub sums_in : Slot → List ℕ
+sums_in s = unpacked s.early s.late
 
 module _ (a : Attributes) (sums : List ℕ) (e : sums ≡ sums_of a) where
   -- each sum fits
@@ -102,24 +105,45 @@ module _ (a : Attributes) (sums : List ℕ) (e : sums ≡ sums_of a) where
 
 -- ---- what is noted
 
--- what the second word says of an identifier: 21, since the edition does not know bit 16; 26, since it is not in the table; 2
-unfoldable pub standing : Known → List Event → ℕ → ℕ
-standing k es id = cond (ltb 16 k.samples) (cond (is_in id (identifiers es)) 2 26) 21
+-- a slot that names no identifier
+abbrev pub empty_slot : Slot
+empty_slot = record { identifier = 0; state = Empty; why = 0; sample = 0; read = 0; index = 0; early = 0; late = 0 }
 
-pub standing-small : (k : Known) (es : List Event) (id : ℕ) → standing k es id ≤ 26
+-- whether it is known of the slot's identifier what its records are
+abbrev pub is_filled : State → Bool
+is_filled Empty = false
+is_filled Indexed = false
+is_filled InTable = true
+is_filled UnknownBit = true
+is_filled Absent = true
+
+-- the answer of the records of an identifier that has no event, by its slot's state
+abbrev pub refused_by : State → ℕ
+refused_by Empty = 0
+refused_by Indexed = 0
+refused_by InTable = 0
+refused_by UnknownBit = 21
+refused_by Absent = 26
+
+-- what the state says of an identifier: the edition does not know bit 16; it is not in the table; it is there
+unfoldable pub standing : Known → List Event → ℕ → State
+standing k es id = cond (ltb 16 k.samples) (cond (is_in id (identifiers es)) InTable Absent) UnknownBit
+
+-- no slot of these is empty, nor one in which the index alone is noted
+pub standing-filled : (k : Known) (es : List Event) (id : ℕ) → is_filled (standing k es id) ≡ true
 unfolding standing
-standing-small k es id = by (ltb 16 k.samples) (is_in id (identifiers es))
+standing-filled k es id = by (ltb 16 k.samples) (is_in id (identifiers es))
   where
-    by : (b c : Bool) → cond b (cond c 2 26) 21 ≤ 26
-    by true true = omega arith
-    by true false = omega arith
-    by false c = omega arith
+    by : (b c : Bool) → is_filled (cond b (cond c InTable Absent) UnknownBit) ≡ true
+    by true true = refl
+    by true false = refl
+    by false c = refl
 
 -- what edition and attributes fix of an event
-pub record Planned (k : Known) (a : Attributes) (s : List ℕ) : Type 0 where
-  pub why : get_or s 2 0 ≡ unreadable k a 1 0
-  pub sample : Marked k a 9 (get_or s 3 0)
-  pub read : Marked k a 8 (get_or s 4 0)
+pub record Planned (k : Known) (a : Attributes) (s : Slot) : Type 0 where
+  pub why : s.why ≡ unreadable k a 1 0
+  pub sample : Marked k a 9 s.sample
+  pub read : Marked k a 8 s.read
   pub sums : sums_in s ≡ sums_of a
 
 -- the attributes of an identifier's event
@@ -127,118 +151,117 @@ abbrev pub attributes_for : List Event → ℕ → Attributes
 attributes_for es id = attributes_of (event_at es (index_of id (identifiers es)))
 
 -- the slot of an identifier
-pub record SlotOf (k : Known) (es : List Event) (id : ℕ) (s : List ℕ) : Type 0 where
-  pub whose : get_or s 0 0 ≡ id
-  pub stands : get_or s 1 0 ≡ standing k es id
-  pub index : get_or s 1 0 ≡ 2 → (get_or s 5 0 ≡ index_of id (identifiers es)) × (index_of id (identifiers es) < length es)
-  pub planned : get_or s 1 0 ≡ 2 → Planned k (attributes_for es id) s
+pub record SlotOf (k : Known) (es : List Event) (id : ℕ) (s : Slot) : Type 0 where
+  pub whose : s.identifier ≡ id
+  pub stands : s.state ≡ standing k es id
+  pub index : s.state ≡ InTable → (s.index ≡ index_of id (identifiers es)) × (index_of id (identifiers es) < length es)
+  pub planned : s.state ≡ InTable → Planned k (attributes_for es id) s
 
 -- a slot in which the index of its identifier alone is noted: the edition knows bit 16, and the identifier is in the table
-pub record Noted (k : Known) (es : List Event) (id : ℕ) (s : List ℕ) : Type 0 where
+pub record Noted (k : Known) (es : List Event) (id : ℕ) (s : Slot) : Type 0 where
   pub known-there : 16 < k.samples
-  pub index : get_or s 5 0 ≡ index_of id (identifiers es)
+  pub index : s.index ≡ index_of id (identifiers es)
   pub inside : index_of id (identifiers es) < length es
 
 -- a slot that is not filled says nothing, or its index alone; any other is its identifier's
-pub record SlotHolds (k : Known) (es : List Event) (s : List ℕ) : Type 0 where
-  pub filled : 1 < get_or s 1 0 → SlotOf k es (get_or s 0 0) s
-  pub noted : get_or s 1 0 ≡ 1 → Noted k es (get_or s 0 0) s
+pub record SlotHolds (k : Known) (es : List Event) (s : Slot) : Type 0 where
+  pub filled : is_filled s.state ≡ true → SlotOf k es s.identifier s
+  pub noted : s.state ≡ Indexed → Noted k es s.identifier s
 
 -- every slot of a drain is the slot of the identifier that it names
-pub record Memo (k : Known) (es : List Event) (m : List (List ℕ)) : Type 0 where
-  pub at : (i : ℕ) → i < length m → SlotHolds k es (get_or m i [])
+pub record Memo (k : Known) (es : List Event) (m : List Slot) : Type 0 where
+  pub at : (i : ℕ) → i < length m → SlotHolds k es (get_or m i empty_slot)
 
 -- ---- the slots of a drain
 
 -- all are empty
-pub memo-first : (k : Known) (es : List Event) (n : ℕ) → Memo k es (replicate n (replicate 8 0))
-memo-first k es n = record { at = λ i h. subst (SlotHolds k es) (sym (get_or-replicate n i (replicate 8 0) [] (subst (λ (l : ℕ). i < l) (length-replicate n _) h))) none }
+pub memo-first : (k : Known) (es : List Event) (n : ℕ) → Memo k es (replicate n empty_slot)
+memo-first k es n = record { at = λ i h. subst (SlotHolds k es) (sym (get_or-replicate n i empty_slot empty_slot (subst (λ (l : ℕ). i < l) (length-replicate n _) h))) none }
   where
-    none : SlotHolds k es (replicate 8 0)
-    none = record { filled = λ z. absurd (omega (arith, z)); noted = λ e. absurd (omega (arith, e)) }
+    unfilled : ◌≡◌ {A = State} Empty Indexed → ⊥
+    unfilled e = cc
+
+    none : SlotHolds k es empty_slot
+    none = record { filled = λ z. absurd (apart z); noted = λ e. absurd (unfilled e) }
 
 -- the slot at a place is another's
-pub memo-put : (k : Known) (es : List Event) (m : List (List ℕ)) (h : ℕ) (s : List ℕ) → Memo k es m → SlotHolds k es s → Memo k es (set m h s)
+pub memo-put : (k : Known) (es : List Event) (m : List Slot) (h : ℕ) (s : Slot) → Memo k es m → SlotHolds k es s → Memo k es (set m h s)
 memo-put k es m h s w f = record { at = λ i l. by i (subst (λ (n : ℕ). i < n) (length-set m h s) l) (eqb i h) refl }
   where
-    by : (i : ℕ) → i < length m → (b : Bool) → eqb i h ≡ b → SlotHolds k es (get_or (set m h s) i [])
+    by : (i : ℕ) → i < length m → (b : Bool) → eqb i h ≡ b → SlotHolds k es (get_or (set m h s) i empty_slot)
     by i l true e =
         let q = eqb-true i h e in
-        subst (λ (j : ℕ). SlotHolds k es (get_or (set m h s) j [])) (sym q) (subst (SlotHolds k es) (sym (get_or-set_same m h s [] (subst (λ (j : ℕ). j < length m) q l))) f)
-    by i l false e = subst (SlotHolds k es) (sym (get_or-set_other m h i s [] (eqb-false i h e))) (w.at i l)
+        subst (λ (j : ℕ). SlotHolds k es (get_or (set m h s) j empty_slot)) (sym q) (subst (SlotHolds k es) (sym (get_or-set_same m h s empty_slot (subst (λ (j : ℕ). j < length m) q l))) f)
+    by i l false e = subst (SlotHolds k es) (sym (get_or-set_other m h i s empty_slot (eqb-false i h e))) (w.at i l)
 
 -- a slot of this identifier, which is filled
-pub memo-held : (k : Known) (es : List Event) (m : List (List ℕ)) (h id : ℕ) → Memo k es m → h < length m → get_or (get_or m h []) 0 0 ≡ id
-    → 1 < get_or (get_or m h []) 1 0 → SlotOf k es id (get_or m h [])
-memo-held k es m h id w l e z = subst (λ (n : ℕ). SlotOf k es n (get_or m h [])) e ((w.at h l).filled z)
+pub memo-held : (k : Known) (es : List Event) (m : List Slot) (h id : ℕ) → Memo k es m → h < length m → (get_or m h empty_slot).identifier ≡ id
+    → is_filled (get_or m h empty_slot).state ≡ true → SlotOf k es id (get_or m h empty_slot)
+memo-held k es m h id w l e z = subst (λ (n : ℕ). SlotOf k es n (get_or m h empty_slot)) e ((w.at h l).filled z)
 
 -- a slot of this identifier, in which its index is noted
-pub slot-noted : (k : Known) (es : List Event) (id : ℕ) (s : List ℕ) → SlotHolds k es s → get_or s 0 0 ≡ id → get_or s 1 0 ≡ 1 → Noted k es id s
+pub slot-noted : (k : Known) (es : List Event) (id : ℕ) (s : Slot) → SlotHolds k es s → s.identifier ≡ id → s.state ≡ Indexed → Noted k es id s
 slot-noted k es id s w e f = subst (λ (n : ℕ). Noted k es n s) e (w.noted f)
 
 -- what is filled says what its identifier's records are
-filled-some : (k : Known) (es : List Event) (id : ℕ) (s : List ℕ) → SlotOf k es id s → get_or s 1 0 ≡ 1 → ⊥
-unfolding standing
-filled-some k es id s f e = by (ltb 16 k.samples) (is_in id (identifiers es)) (sym f.stands ∙ e)
-  where
-    by : (b c : Bool) → ◌≡◌ {A = ℕ} (cond b (cond c 2 26) 21) 1 → ⊥
-    by true true q = omega (arith, q)
-    by true false q = omega (arith, q)
-    by false c q = omega (arith, q)
+filled-some : (k : Known) (es : List Event) (id : ℕ) (s : Slot) → SlotOf k es id s → s.state ≡ Indexed → ⊥
+filled-some k es id s f e = apart (sym (ap is_filled e) ∙ ap is_filled f.stands ∙ standing-filled k es id)
 
-filled-slot : (k : Known) (es : List Event) (id : ℕ) (s : List ℕ) → SlotOf k es id s → SlotHolds k es s
+filled-slot : (k : Known) (es : List Event) (id : ℕ) (s : Slot) → SlotOf k es id s → SlotHolds k es s
 filled-slot k es id s f = record { filled = λ z. subst (λ (n : ℕ). SlotOf k es n s) (sym f.whose) f; noted = λ e. absurd (filled-some k es id s f e) }
 
 -- the index of an event of a table whose identifiers are distinct, noted at a place
-pub memo-entered : (k : Known) (rows : List (List ℕ)) (m : List (List ℕ)) (h i : ℕ) (s : List ℕ) → Memo k (events_of rows) m → 16 < k.samples
-    → distinct (identifiers (events_of rows)) ≡ true → i < length rows → get_or s 0 0 ≡ get_or (get_or rows i []) 0 0 → get_or s 1 0 ≡ 1 → get_or s 5 0 ≡ i
-    → Memo k (events_of rows) (set m h s)
-unfolding event_of
-memo-entered k rows m h i s w b d l e f g =
-    memo-put k (events_of rows) m h s w
-    (record { filled = λ z. absurd (omega (arith, z, f)); noted = λ q. record { known-there = b; index = g ∙ sym its; inside = omega (arith, its, l, rows-length rows) } })
+pub memo-entered : (k : Known) (es : List Event) (m : List Slot) (h i : ℕ) (s : Slot) → Memo k es m → 16 < k.samples → distinct (identifiers es) ≡ true → i < length es
+    → s.identifier ≡ (event_at es i).identifier → s.state ≡ Indexed → s.index ≡ i → Memo k es (set m h s)
+memo-entered k es m h i s w b d l e f g =
+    memo-put k es m h s w
+    (record { filled = λ z. absurd (apart (sym (ap is_filled f) ∙ z)); noted = λ q. record { known-there = b; index = g ∙ sym its; inside = omega (arith, its, l) } })
   where
-    same : get_or (identifiers (events_of rows)) i 0 ≡ get_or s 0 0
-    same = identifier-at (events_of rows) i ∙ ap (λ (v : Event). v.identifier) (row_at rows i [] l) ∙ sym e
+    same : get_or (identifiers es) i 0 ≡ s.identifier
+    same = identifier-at es i ∙ sym e
 
-    its : index_of (get_or s 0 0) (identifiers (events_of rows)) ≡ i
-    its =
-        ap (λ (n : ℕ). index_of n (identifiers (events_of rows))) (sym same)
-        ∙ index-unique (identifiers (events_of rows)) i d (omega (arith, identifiers-length (events_of rows), rows-length rows, l))
+    its : index_of s.identifier (identifiers es) ≡ i
+    its = ap (λ (n : ℕ). index_of n (identifiers es)) (sym same) ∙ index-unique (identifiers es) i d (omega (arith, identifiers-length es, l))
 
-pub memo-filled : (k : Known) (es : List Event) (m : List (List ℕ)) (h id : ℕ) (s : List ℕ) → Memo k es m → h < length m → SlotOf k es id s
-    → Memo k es (set m h s) × SlotOf k es id (get_or (set m h s) h [])
-memo-filled k es m h id s w l f = (memo-put k es m h s w (filled-slot k es id s f), subst (SlotOf k es id) (sym (get_or-set_same m h s [] l)) f)
+pub memo-filled : (k : Known) (es : List Event) (m : List Slot) (h id : ℕ) (s : Slot) → Memo k es m → h < length m → SlotOf k es id s
+    → Memo k es (set m h s) × SlotOf k es id (get_or (set m h s) h empty_slot)
+memo-filled k es m h id s w l f = (memo-put k es m h s w (filled-slot k es id s f), subst (SlotOf k es id) (sym (get_or-set_same m h s empty_slot l)) f)
 
 -- ---- a slot that is made
 
+known-bit : (x : State) → x ≡ UnknownBit → x ≡ InTable → ⊥
+known-bit x e f = cc
+
+there : (x : State) → x ≡ Absent → x ≡ InTable → ⊥
+there x e f = cc
+
 module _ (k : Known) (es : List Event) (id : ℕ) where
   -- the edition does not know bit 16
-  pub filled-unknown : (s : List ℕ) → k.samples ≤ 16 → get_or s 0 0 ≡ id → get_or s 1 0 ≡ 21 → SlotOf k es id s
+  pub filled-unknown : (s : Slot) → k.samples ≤ 16 → s.identifier ≡ id → s.state ≡ UnknownBit → SlotOf k es id s
   unfolding standing
   filled-unknown s h e f =
       record {
         whose = e;
         stands = f ∙ rw (le-ltb 16 k.samples h) refl;
-        index = λ q. absurd (omega (arith, q, f));
-        planned = λ q. absurd (omega (arith, q, f));
+        index = λ q. absurd (known-bit s.state f q);
+        planned = λ q. absurd (known-bit s.state f q);
       }
 
   module _ (h : 16 < k.samples) (i : ℕ) (ei : i ≡ index_of id (identifiers es)) where
     -- it is not in the table
-    pub filled-absent : (s : List ℕ) → length es ≤ i → get_or s 0 0 ≡ id → get_or s 1 0 ≡ 26 → SlotOf k es id s
+    pub filled-absent : (s : Slot) → length es ≤ i → s.identifier ≡ id → s.state ≡ Absent → SlotOf k es id s
     unfolding standing
     filled-absent s l e f =
         let n : length (identifiers es) ≤ index_of id (identifiers es) = omega (arith, identifiers-length es, ei, l) in
         record {
           whose = e;
           stands = f ∙ rw (lt-ltb 16 k.samples h, in-none id (identifiers es) n) refl;
-          index = λ q. absurd (omega (arith, q, f));
-          planned = λ q. absurd (omega (arith, q, f));
+          index = λ q. absurd (there s.state f q);
+          planned = λ q. absurd (there s.state f q);
         }
 
     -- it is
-    pub filled-found : (s : List ℕ) → i < length es → get_or s 0 0 ≡ id → get_or s 1 0 ≡ 2 → get_or s 5 0 ≡ i
+    pub filled-found : (s : Slot) → i < length es → s.identifier ≡ id → s.state ≡ InTable → s.index ≡ i
         → Planned k (attributes_of (event_at es i)) s → SlotOf k es id s
     unfolding standing
     filled-found s l e f g p =
@@ -279,7 +302,7 @@ module _ (k : Known) (es : List Event) (r : List ℕ) (from : 1 ≤ kind_of r) (
   unfolding judge_events first
   short-judged h l = rw (typed, lt-ltb 16 k.samples h, lt-leb 16 (length r) l) refl
 
-  module _ (long : 16 ≤ length r) (s : List ℕ) (f : SlotOf k es (identifier_of r) s) where
+  module _ (long : 16 ≤ length r) (s : Slot) (f : SlotOf k es (identifier_of r) s) where
     -- what the slot says of its identifier, before its event is asked
     by-standing : judge_events k es r ≡ cond (ltb 16 k.samples) (cond (is_in (identifier_of r) (identifiers es)) (judge (layout_for k es r) r) 26) 21
     unfolding judge_events first
@@ -291,21 +314,25 @@ module _ (k : Known) (es : List Event) (r : List ℕ) (from : 1 ≤ kind_of r) (
         by false c n = refl
 
     -- refused by it
-    pub slot-refused : (get_or s 1 0 ≡ 2 → ⊥) → get_or s 1 0 ≡ judge_events k es r
+    pub slot-refused : (s.state ≡ InTable → ⊥) → refused_by s.state ≡ judge_events k es r
     unfolding standing
-    slot-refused z = f.stands ∙ by (ltb 16 k.samples) (is_in (identifier_of r) (identifiers es)) (λ q. z (f.stands ∙ q)) (judge (layout_for k es r) r) ∙ sym by-standing
+    slot-refused z =
+        ap refused_by f.stands
+        ∙ by (ltb 16 k.samples) (is_in (identifier_of r) (identifiers es)) (λ q. z (f.stands ∙ q)) (judge (layout_for k es r) r)
+        ∙ sym by-standing
       where
-        by : (b c : Bool) → (◌≡◌ {A = ℕ} (cond b (cond c 2 26) 21) 2 → ⊥) → (n : ℕ) → ◌≡◌ {A = ℕ} (cond b (cond c 2 26) 21) (cond b (cond c n 26) 21)
+        by : (b c : Bool) → (◌≡◌ {A = State} (cond b (cond c InTable Absent) UnknownBit) InTable → ⊥) → (n : ℕ)
+            → refused_by (cond b (cond c InTable Absent) UnknownBit) ≡ cond b (cond c n 26) 21
         by true true z n = absurd (z refl)
         by true false z n = refl
         by false c z n = refl
 
     -- its event's own
-    pub slot-judged : get_or s 1 0 ≡ 2 → judge (layout k (attributes_for es (identifier_of r))) r ≡ judge_events k es r
+    pub slot-judged : s.state ≡ InTable → judge (layout k (attributes_for es (identifier_of r))) r ≡ judge_events k es r
     unfolding standing
     slot-judged e = by (ltb 16 k.samples) (is_in (identifier_of r) (identifiers es)) (sym f.stands ∙ e) (judge (layout_for k es r) r) ∙ sym by-standing
       where
-        by : (b c : Bool) → ◌≡◌ {A = ℕ} (cond b (cond c 2 26) 21) 2 → (n : ℕ) → n ≡ cond b (cond c n 26) 21
+        by : (b c : Bool) → ◌≡◌ {A = State} (cond b (cond c InTable Absent) UnknownBit) InTable → (n : ℕ) → n ≡ cond b (cond c n 26) 21
         by true true q n = refl
-        by true false q n = absurd (omega (arith, q))
-        by false c q n = absurd (omega (arith, q))
+        by true false q n = absurd (there Absent refl q)
+        by false c q n = absurd (known-bit UnknownBit refl q)

@@ -5,7 +5,7 @@ use Rattle.std.proofs.Math.ListN.{get_or-eq_default}
 use Rattle.std.proofs.Math.Seq.{slice}
 use Rattle.meaning.specs.declared.Attributes.{Attributes}
 use Rattle.meaning.specs.declared.Item.{Item}
-use Rattle.meaning.specs.Schema.{schema, schemas, trailer}
+use Rattle.meaning.specs.Schema.{schemas, trailer}
 use Rattle.laws.specs.Bytes.{and-true}
 use Rattle.table.specs.declared.Part.{Part}
 use Rattle.table.specs.Rows.{rows, field_rows, all_rows, types, ends, item_of, cut}

@@ -1,14 +1,10 @@
 -- The rows of each record type are its layout, for all attributes: by one computation over the whole table. Assumes nothing.
-use Rattle.std.specs.Prelude.{◌≡◌, refl, Bool, true, ◌&&◌, List, [], ◌∷◌, map, ℕ, zero, suc, ◌+◌, ◌-◌, ◌<◌, ◌≤◌, length, get_or, leb}
-use Rattle.std.proofs.Common.{sym, ap, ◌∙◌, arith, leb-true}
-use Rattle.std.proofs.Math.ListN.{get_or-eq_default}
+use Rattle.std.specs.Prelude.{◌≡◌, map, ℕ, ◌≤◌}
 use Rattle.std.proofs.Math.Seq.{slice}
 use Rattle.meaning.specs.declared.Attributes.{Attributes}
-use Rattle.meaning.specs.declared.Item.{Item}
-use Rattle.meaning.specs.Schema.{schema, schemas, trailer}
-use Rattle.laws.specs.Bytes.{and-true}
+use Rattle.meaning.specs.Schema.{schema}
 use Rattle.table.specs.declared.Part.{Part}
-use Rattle.table.specs.Rows.{rows, field_rows, all_rows, types, ends, item_of, cut}
+use Rattle.table.specs.Rows.{rows, field_rows, item_of}
 
 -- what a part of the rows is, as the part of a type
 pub record LaidOut (kind : ℕ) (p : Part) : Type 0 where

@@ -1,15 +1,19 @@
-// The layouts of the record types as a table of rows: which rows a type has. Crate items has the item that a row stands for.
+// The layouts of the record types as a table of rows: which rows a type has. Crate items has the item that a row stands
+// for.
 #![tactic(auto)]
 
-ghost use Rattle.std.specs.Prelude.{◌≡◌, ◌<◌, get_or};
+ghost use Rattle.std.specs.Prelude.{◌≡◌, ◌<◌, get_or, unwrap_or, IfSome};
 ghost use Rattle.table.specs.Rows.{rows, all_rows};
 ghost use Rattle.table.specs.Flags.{flag_at};
 ghost use Rattle.table.specs.Same.{LaidOut};
 
+use meaning::Kind;
+
 pub mod rows;
 
 // The rows from `from` up to, and not with, `to`.
-#[derive(Clone, Copy)]
+// kept: a struct, and no `Range`: `LaidOut` speaks of it.
+#[derive(Clone, Copy, Debug, PartialEq, Eq)]
 pub struct Part {
     pub from: usize,
     pub to: usize,
@@ -30,15 +34,19 @@ pub fn part_of(kind: u64) -> Part
     }
 }
 
-// The word of the flag, of a type that has a name: the next after the words of its fields (M-107). 0 for the other types.
-pub fn flag_at(kind: u64) -> usize
-    ensures { result ≡ flag_at kind }
+// "MMAP, MMAP2, COMM, KSYMBOL and CGROUP records gain a flag": its word, the next after the words of the type's fields
+// (M-107). The padding of TEXT_POKE is no name.
+pub fn flag_at(kind: u64) -> Option<usize>
+    ensures value { unwrap_or result 0 ≡ flag_at kind }
+    ensures some { IfSome result (λ word. 0 < word) }
 {
-    if kind < rows::TYPES {
-        let k = kind as usize;
-        rows::FLAGS[k]
-    } else {
-        0
+    match Kind::try_from(kind) {
+        Ok(Kind::Mmap) => Some(10),
+        Ok(Kind::Comm) => Some(7),
+        Ok(Kind::Mmap2) => Some(18),
+        Ok(Kind::Ksymbol) => Some(9),
+        Ok(Kind::Cgroup) => Some(6),
+        _ => None,
     }
 }
 

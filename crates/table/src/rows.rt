@@ -1,5 +1,6 @@
-// The layouts of document 01 as one table of numbers: a row is a guard (when the item is selected) and a shape.
-// That the rows are the layouts, for all attributes, is proved by computation (specs/Same.antt): a row that is wrong is refused.
+// The layouts of document 01 as one table of numbers: a row is a guard (when the item is selected) and a shape. That
+// the rows are the layouts, for all attributes, is proved by computation (specs/Same.antt): a row that is wrong is
+// refused.
 
 // ---- guards: below 32 a bit of the sample type; from 32 on one of these; from 64 on a bit of the sample type, in the trailer
 pub const IF_ALWAYS: u16 = 0;
@@ -37,6 +38,8 @@ pub const IF_INDEX: u16 = 15;
 pub const IF_SAMPLE_LOST: u16 = 16;
 
 // A row is a guard times 32, and a shape.
+// kept: a number, and no struct of two enums: `LaidOut` and `trailer-rows` compute with the list of these numbers, and
+// the contracts of those who walk the table name a row by its number; a walk copies all rows, of two bytes each.
 const SAMPLE_BIT: u16 = 32;
 
 const ALWAYS: u16 = 32 * (32 + IF_ALWAYS);
@@ -289,15 +292,4 @@ pub const ROWS: [u16; ALL_ROWS] = [
 // Where a type's rows start, from type 0 on; they end where the next one's start.
 pub const STARTS: [usize; 23] = [
     0, 0, 6, 8, 11, 16, 19, 22, 27, 36, 77, 92, 95, 97, 98, 98, 100, 104, 109, 113, 115, 121, 122,
-];
-
-// "MMAP, MMAP2, COMM, KSYMBOL and CGROUP records gain a flag": its word by type, from type 0 on; 0 where there is none.
-pub const FLAGS: [usize; 22] = [
-    0, 10, // MMAP
-    0, 7, // COMM
-    0, 0, 0, 0, 0, 0, 18, // MMAP2
-    0, 0, 0, 0, 0, 0, 9, // KSYMBOL
-    0, 6, // CGROUP
-    0, // TEXT_POKE: its padding is no name
-    0,
 ];

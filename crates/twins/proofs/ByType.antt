@@ -10,7 +10,7 @@ use Rattle.std.specs.Int.Bits.{bit_and}
 use Rattle.std.proofs.Math.Dec.{eqb}
 use Rattle.std.proofs.lemmas.Bool.{lt-leb}
 use Rattle.meaning.specs.declared.Attributes.{Attributes}
-use Rattle.meaning.specs.declared.Cursor.{Cursor}
+use Rattle.meaning.specs.States.{Cursor}
 use Rattle.meaning.specs.declared.Item.{Item}
 use Rattle.meaning.specs.declared.Shape.TheVariants.{Number, Ignored, Count, Times, Earlier, Limit, Listed, Pad, Name}
 use Rattle.meaning.specs.declared.Width.TheVariants.{W2, W4, W8}

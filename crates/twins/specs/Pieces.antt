@@ -9,7 +9,7 @@ use Rattle.std.proofs.Math.ListN.{length, take, drop, length-take, length-drop}
 use Rattle.std.proofs.Math.Seq.{take_all, take-take}
 use Rattle.std.proofs.Math.Dec.{leb, ltb}
 use borrow.Author.Tests.{eq-eqb, eqb-true, eqb-false, ne_eqb, ltb-true, leb-true}
-use Rattle.meaning.specs.declared.Cursor.{Cursor}
+use Rattle.meaning.specs.States.{Cursor}
 use Rattle.meaning.specs.declared.Item.{Item}
 use Rattle.meaning.specs.declared.Shape.{Shape}
 use Rattle.meaning.specs.declared.Shape.TheVariants.{Ignored, Listed, Pad, Name}

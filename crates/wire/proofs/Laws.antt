@@ -10,7 +10,10 @@ use lib.Count.{ones_step, ones-le}
 use lib.Count
 use lib.ListN.{get_or}
 use Rattle.meaning.specs.Bytes.{num, number_at, bit, ones}
-pub use Rattle.laws.specs.Numbers.{halves}
+use Rattle.laws.specs.Numbers.{num-split}
+use Rattle.std.specs.Int.{sum_through, byte_worth}
+use Rattle.std.proofs.Common.{slice_index, take-take, take, drop, sym, ◌∙◌, add-one, ◌+◌, ◌*◌}
+use Rattle.std.proofs.Math.Nat.{mul_comm}
 
 -- ---- numbers
 -- a number of one byte is the byte
@@ -20,6 +23,23 @@ number-one [] zero = refl
 number-one [] (suc at) = refl
 number-one (x ∷ xs) zero = omega arith
 number-one (x ∷ xs) (suc at) = number-one xs at
+
+-- the bytes of a list, each by its worth, up to the one at k
+worths : (xs : List ℕ) (k : ℕ) → sum_through (λ i. byte_worth i (slice_index xs i)) k ≡ num (take (suc k) xs)
+unfolding num
+worths xs zero = sym (number-one xs 0)
+worths xs (suc k) =
+    let n : num (take (suc k + 1) xs) ≡ num (take (suc k) xs) + 256 ^ suc k * num (take 1 (drop (suc k) xs)) = num-split (suc k) 1 xs in
+    let w : num (take 1 (drop (suc k) xs)) ≡ slice_index xs (suc k) = number-one xs (suc k) in
+    let m : slice_index xs (suc k) * 256 ^ suc k ≡ 256 ^ suc k * slice_index xs (suc k) = mul_comm (slice_index xs (suc k)) (256 ^ suc k) in
+    (λ j. worths xs k j + m j)
+    ∙ ap (λ (b : ℕ). num (take (suc k) xs) + 256 ^ suc k * b) (sym w)
+    ∙ sym n
+    ∙ ap (λ (i : ℕ). num (take i xs)) (add-one (suc k))
+
+-- the number that the machine makes of as many bytes as its width has, taken from a list
+pub number-of : (k : ℕ) (s : List ℕ) (at : ℕ) (xs : List ℕ) → xs ≡ take (suc k) (drop at s) → sum_through (λ i. byte_worth i (slice_index xs i)) k ≡ number_at (suc k) s at
+number-of k s at xs e = worths xs k ∙ ap (λ (l : List ℕ). num (take (suc k) l)) e ∙ ap num (take-take (suc k) (suc k) (drop at s) (omega arith))
 
 -- ---- bits
 -- a shift and a mask take the bit, whatever its index

@@ -6,7 +6,7 @@ use Rattle.std.proofs.Math.Bool.{true, false, cond, and-false, or-false}
 use mathlib.Core.List.{List, [], ◌∷◌}
 use native.Mathlib.Omega.{arith}
 use Rattle.std.proofs.lemmas.Bool.{lt-leb, not-true}
-use Rattle.meaning.specs.declared.Cursor.{Cursor}
+use Rattle.meaning.specs.States.{Cursor}
 use Rattle.meaning.specs.declared.Item.{Item}
 use Rattle.meaning.specs.declared.Shape.{Shape}
 use Rattle.meaning.specs.declared.Shape.TheVariants.{Number, Ignored, Count, Size, Times, Earlier, Registers, Filled, Abi, Limit, Listed, Bytes, Pad, Name}
@@ -16,8 +16,7 @@ use Rattle.meaning.specs.Writing.{next}
 use Rattle.meaning.specs.Values.{Slot, slot, held, beyond, words_of, width, slot_told, slot_off, last_told, before_told}
 use Rattle.laws.specs.Bytes.{apart, and-true}
 use Rattle.writer_words.specs.Tellings.{given_slot, reached_after}
-use Rattle.writer_forms.specs.declared.Form.{Form}
-use Rattle.writer_forms.specs.Forms.{shape_form, form, blank_form, number_form, list_form, name_form, fits_form, passes_end, list_bytes, form_next}
+use Rattle.writer_forms.specs.Forms.{Form, shape_form, form, blank_form, number_form, list_form, name_form, fits_form, passes_end, list_bytes, form_next}
 use Rattle.writer_items.specs.Tries.{unfit, fits_item, good, most_bytes}
 use Rattle.writer_items.specs.Fitting.{same_test, zero_test, fits-is, next-is, passes-is}
 use Rattle.writer_parts.specs.Parts.{try_items, slots_from}

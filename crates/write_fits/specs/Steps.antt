@@ -2,7 +2,7 @@
 use Rattle.std.specs.Prelude.{◌≡◌, refl, Bool, true, false, List, [], ◌∷◌, ◌++◌, ℕ, ◌+◌, ◌≤◌}
 use Rattle.std.proofs.Common.{sym, ap, ◌∙◌, subst, append_assoc, add-zero, arith}
 use Rattle.laws.specs.Bytes.{apart}
-use Rattle.meaning.specs.declared.Cursor.{Cursor}
+use Rattle.meaning.specs.States.{Cursor}
 use Rattle.meaning.specs.declared.Item.{Item}
 use Rattle.meaning.specs.declared.Shape.{Shape}
 use Rattle.meaning.specs.Items.{cursor}
@@ -10,7 +10,7 @@ use Rattle.meaning.specs.Schema.{item}
 use Rattle.meaning.specs.Writing.{write}
 use Rattle.meaning.specs.Values.{Slot, means, width}
 use Rattle.fills.specs.Chains.{width-append}
-use Rattle.writer_words.specs.declared.Reached.{Reached}
+use Rattle.meaning.specs.declared.Spot.{Spot}
 use Rattle.writer_items.specs.Tries.{unfit, most_bytes}
 use Rattle.writer_parts.specs.Parts.{try_items, slots_from}
 use Rattle.write_fits.specs.declared.Walked.{Walked}
@@ -25,7 +25,7 @@ refused c = walked c.at c.n c.old c.told c.before true
 abbrev pub state_of : Walked → Cursor
 state_of c = cursor c.at c.n c.old 0
 
-abbrev pub told_to : ℕ → Walked → Reached
+abbrev pub told_to : ℕ → Walked → Spot
 told_to w c = record { at = w; n = c.told; old = c.before }
 
 -- the slots of items whose words begin at w, the walk over them, and their bytes

@@ -1,5 +1,5 @@
-// Whether what the words give of one item fits it, and the state after it: one function for each shape, given its guard and the number of its first
-// word. A refusal stays; from it on nothing else counts. Nothing is written.
+// Whether what the words give of one item fits it, and the state after it: one function for each shape, given its guard
+// and the number of its first word. A refusal stays; from it on nothing else counts. Nothing is written.
 #![tactic(auto)]
 
 ghost use Rattle.std.specs.Prelude.{◌≡◌, cond, ◌&&◌, [], ◌∷◌, ◌+◌, ◌-◌, ◌*◌, ◌≤◌, ◌<◌, length, leb, eqb};
@@ -7,7 +7,7 @@ ghost use Rattle.meaning.specs.declared.Shape.TheVariants.{Number, Ignored, Coun
 ghost use Rattle.meaning.specs.Items.{bytes};
 ghost use Rattle.meaning.specs.Schema.{item, group_bytes};
 ghost use Rattle.writer_items.specs.Tries.{most_bytes};
-ghost use Rattle.write_fits.specs.Steps.{walked, refused, Tried};
+ghost use Rattle.write_fits.specs.Steps.{refused, Tried};
 ghost use Rattle.write_fits.specs.Items.{stay, list_ok};
 
 use meaning::Width;
@@ -15,9 +15,12 @@ use meaning::Width;
 // A count above this no record has room for: an element has at least one byte.
 const MOST_COUNT: u64 = writer_items::MOST_BYTES as u64;
 
-// The place in the record; the last count and the one before it; the same two as the words tell them, which the abi words do not change; and whether
-// something did not fit.
-#[derive(Clone, Copy)]
+// The place in the record; the last count and the one before it; the same two as the words tell them, which the abi
+// words do not change; and whether something did not fit.
+// kept: `bad` is a flag (a: `Tried` and the theorems over it speak of it, and from a refusal on no step asks again).
+// kept: words and source stand side by side in each function (c: a struct of both by value was tried; what is known of
+// the numbers of a lent slice is not known of a slice in a struct, and no step's proof closed).
+#[derive(Clone, Copy, Debug, PartialEq, Eq)]
 pub struct Walked {
     pub at: usize,
     pub n: u64,
@@ -31,41 +34,26 @@ pub struct Walked {
 fn refuse(c: Walked) -> Walked
     ensures { result ≡ refused c }
 {
-    Walked {
-        at: c.at,
-        n: c.n,
-        old: c.old,
-        told: c.told,
-        before: c.before,
-        bad: true,
-    }
+    Walked { bad: true, ..c }
 }
 
-// Past so many bytes with these counts where the item fits, unless that lies past every record's end: "a size above 65,528" is 42.
-fn past(c: Walked, fits: bool, k: usize, n: u64, old: u64, told: u64, before: u64) -> Walked
-    requires { (c.at ≤ most_bytes) × (k ≤ 1099511627776) }
-    ensures { result ≡ cond (fits && leb (c.at + k) most_bytes) (walked (c.at + k) n old told before c.bad) (refused c) }
+// The state after an item that fits, unless that lies past every record's end: "a size above 65,528" is 42.
+fn past(c: Walked, fits: bool, next: Walked) -> Walked
+    ensures { result ≡ cond (fits && leb next.at most_bytes) next (refused c) }
 {
-    let at = c.at + k;
-    if fits & (at <= writer_items::MOST_BYTES) {
-        return Walked {
-            at,
-            n,
-            old,
-            told,
-            before,
-            bad: c.bad,
-        };
+    if fits & (next.at <= writer_items::MOST_BYTES) {
+        next
+    } else {
+        refuse(c)
     }
-    refuse(c)
 }
 
-// The same, where the counts stay.
+// Past so many bytes, where the counts stay.
 fn over(c: Walked, fits: bool, k: usize) -> Walked
     requires { (c.at ≤ most_bytes) × (k ≤ 1099511627776) }
     ensures { result ≡ cond (fits && leb (c.at + k) most_bytes) (stay k c) (refused c) }
 {
-    past(c, fits, k, c.n, c.old, c.told, c.before)
+    past(c, fits, Walked { at: c.at + k, ..c })
 }
 
 // An item that is not selected: nothing is told of it.
@@ -85,11 +73,7 @@ pub fn number(ws: &[u64], source: &[u8], c: Walked, on: bool, w: usize, width: W
     if !on {
         return none(c, v);
     }
-    over(
-        c,
-        v <= writer_forms::largest(width),
-        fields::width_of(width),
-    )
+    over(c, v <= width.largest(), width.bytes())
 }
 
 // A count leaves the one before it remembered too: TEXT_POKE has two before its two texts.
@@ -101,15 +85,15 @@ pub fn count(ws: &[u64], source: &[u8], c: Walked, on: bool, w: usize, width: Wi
     if !on {
         return none(c, v);
     }
-    past(
-        c,
-        v <= writer_forms::largest(width),
-        fields::width_of(width),
-        v,
-        c.n,
-        v,
-        c.told,
-    )
+    let next = Walked {
+        at: c.at + width.bytes(),
+        n: v,
+        old: c.n,
+        told: v,
+        before: c.told,
+        ..c
+    };
+    past(c, v <= width.largest(), next)
 }
 
 // "Raw size plus 4 is a multiple of 8; stack and aux sizes are multiples of 8."
@@ -121,17 +105,16 @@ pub fn size(ws: &[u64], source: &[u8], c: Walked, on: bool, w: usize, width: Wid
     if !on {
         return none(c, v);
     }
-    let k = fields::width_of(width);
+    let k = width.bytes();
     let over = (v % 8 + k as u64) % 8;
-    past(
-        c,
-        (v <= writer_forms::largest(width)) & (over == 0),
-        k,
-        v,
-        c.old,
-        v,
-        c.before,
-    )
+    let fits = (v <= width.largest()) & (over == 0);
+    let next = Walked {
+        at: c.at + k,
+        n: v,
+        told: v,
+        ..c
+    };
+    past(c, fits, next)
 }
 
 // "Build id size at most 20."
@@ -143,7 +126,13 @@ pub fn limit(ws: &[u64], source: &[u8], c: Walked, on: bool, w: usize) -> Walked
     if !on {
         return none(c, v);
     }
-    past(c, v <= 20, 1, v, c.old, v, c.before)
+    let next = Walked {
+        at: c.at + 1,
+        n: v,
+        told: v,
+        ..c
+    };
+    past(c, v <= 20, next)
 }
 
 pub fn abi(ws: &[u64], source: &[u8], c: Walked, on: bool, w: usize, mask: u64) -> Walked
@@ -154,15 +143,12 @@ pub fn abi(ws: &[u64], source: &[u8], c: Walked, on: bool, w: usize, mask: u64) 
     if !on {
         return none(c, v);
     }
-    past(
-        c,
-        v <= writer_forms::largest(Width::W8),
-        8,
-        fills::registers_by(v, mask),
-        c.old,
-        c.told,
-        c.before,
-    )
+    let next = Walked {
+        at: c.at + 8,
+        n: fills::registers_by(v, mask),
+        ..c
+    };
+    past(c, v <= Width::W8.largest(), next)
 }
 
 // "Filled length at most stack size"; a stack of size 0 has none.
@@ -199,14 +185,13 @@ pub fn pad(ws: &[u64], source: &[u8], c: Walked, on: bool, w: usize) -> Walked
     if !on {
         return c;
     }
-    let at = c.at;
-    over(c, true, (8 - at % 8) % 8)
+    over(c, true, (8 - c.at % 8) % 8)
 }
 
 // ---- lists
 
-// Inside the source, as many elements as are wanted, then so many zero bytes. "41 .. by place plus bytes unwrapped": the place is subtracted, so that
-// nothing wraps; and a count that no record has room for is not multiplied.
+// Inside the source, as many elements as are wanted, then so many zero bytes. "41 .. by place plus bytes unwrapped":
+// the place is subtracted, so that nothing wraps; and a count that no record has room for is not multiplied.
 fn list(
     c: Walked,
     room: usize,
@@ -243,7 +228,7 @@ pub fn values(ws: &[u64], source: &[u8], c: Walked, on: bool, w: usize, f: u64) 
     requires { (c.at ≤ most_bytes) × (w + 2 ≤ length ws.now) }
     ensures { Tried (item on (Times (group_bytes f)) ∷ []) source.now ws.now w c result }
 {
-    times(ws, source, c, on, w, fills::group_bytes(f))
+    times(ws, source, c, on, w, layouts::group_bytes(f))
 }
 
 // As many bytes as the count before the last one says.
@@ -277,7 +262,7 @@ pub fn listed(ws: &[u64], source: &[u8], c: Walked, on: bool, w: usize) -> Walke
     if !on {
         return c;
     }
-    let want = writer_forms::smaller(20, c.n);
+    let want = c.n.min(20);
     list(c, source.len(), ws[w], c.told, want, 1, 20 - want as usize)
 }
 
@@ -313,7 +298,6 @@ pub fn name(ws: &[u64], source: &[u8], c: Walked, on: bool, w: usize) -> Walked
     if room - from < many {
         return refuse(c);
     }
-    let at = c.at;
     let fits = writer_items::no_zero(&source[from..from + many]);
-    over(c, fits, many + (8 - (at + many) % 8))
+    over(c, fits, many + (8 - (c.at + many) % 8))
 }

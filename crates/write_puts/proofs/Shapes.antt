@@ -8,7 +8,7 @@ use native.Mathlib.Omega.{arith}
 use lib.ListN.{length, take, drop, get_or}
 use lib.Dec.{leb, eqb, ltb}
 use borrow.Author.Tests.{leb-true, ltb-false, eqb-true, ne_eqb, not-true}
-use Rattle.meaning.specs.declared.Cursor.{Cursor}
+use Rattle.meaning.specs.States.{Cursor}
 use Rattle.meaning.specs.declared.Item.{Item}
 use Rattle.meaning.specs.declared.Shape.{Shape}
 use Rattle.meaning.specs.Bytes.{small, nonzero, spell, zeros, put}
@@ -18,8 +18,7 @@ use Rattle.meaning.specs.Values.{Slot, slot, means, words_of, width, last_told, 
 use Rattle.laws.specs.Bytes.{apart, and-true}
 use Rattle.laws.specs.Put.{put-nil, put-put, length-put}
 use Rattle.writer_words.specs.Tellings.{reached_after}
-use Rattle.writer_forms.specs.declared.Form.{Form}
-use Rattle.writer_forms.specs.Forms.{form, blank_form, number_form, list_form, name_form, list_bytes, form_bytes, form_next}
+use Rattle.writer_forms.specs.Forms.{Form, form, blank_form, number_form, list_form, name_form, list_bytes, form_bytes, form_next}
 use Rattle.writer_items.specs.Tries.{most_bytes}
 use Rattle.writer_items.specs.Fitting.{bytes-is, next-is, passes-is, form-length}
 use Rattle.writer_parts.specs.Parts.{slots_from}

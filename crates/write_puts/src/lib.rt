@@ -1,5 +1,5 @@
-// The bytes of one item that fits: one function for each shape, given its guard and the number of its first word. Nothing is tested again. An item
-// that is not selected has no bytes.
+// The bytes of one item that fits: one function for each shape, given its guard and the number of its first word.
+// Nothing is tested again. An item that is not selected has no bytes.
 #![tactic(auto)]
 
 ghost use Rattle.std.specs.Prelude.{◌≡◌, [], ◌∷◌, ◌++◌, ◌+◌, ◌*◌, ◌≤◌, length, take, drop};
@@ -16,6 +16,7 @@ use write_fits::Walked;
 
 // ---- numbers, each width two halves of the one below
 
+// kept: put's functions of the same widths test the slice's end, these ask for it (d: a test more on each number).
 fn store2(d: &mut [u8], at: usize, x: u64)
     requires { at + 2 ≤ length d.old }
     ensures { d.new ≡ put d.old at (spell 2 x) }
@@ -75,15 +76,7 @@ fn past(c: Walked, k: usize) -> Walked
     requires { c.at + k ≤ most_bytes }
     ensures { result ≡ stay k c }
 {
-    let at = c.at;
-    Walked {
-        at: at + k,
-        n: c.n,
-        old: c.old,
-        told: c.told,
-        before: c.before,
-        bad: c.bad,
-    }
+    Walked { at: c.at + k, ..c }
 }
 
 pub fn number(
@@ -101,9 +94,8 @@ pub fn number(
     if !on {
         return c;
     }
-    let at = c.at;
-    store(buffer, at, ws[w], width);
-    past(c, fields::width_of(width))
+    store(buffer, c.at, ws[w], width);
+    past(c, width.bytes())
 }
 
 // A count leaves the one before it remembered too.
@@ -122,17 +114,16 @@ pub fn count(
     if !on {
         return c;
     }
-    let at = c.at;
     let v = ws[w];
-    store(buffer, at, v, width);
-    let k = fields::width_of(width);
+    store(buffer, c.at, v, width);
+    let k = width.bytes();
     Walked {
-        at: at + k,
+        at: c.at + k,
         n: v,
         old: c.n,
         told: v,
         before: c.told,
-        bad: c.bad,
+        ..c
     }
 }
 
@@ -151,17 +142,14 @@ pub fn size(
     if !on {
         return c;
     }
-    let at = c.at;
     let v = ws[w];
-    store(buffer, at, v, width);
-    let k = fields::width_of(width);
+    store(buffer, c.at, v, width);
+    let k = width.bytes();
     Walked {
-        at: at + k,
+        at: c.at + k,
         n: v,
-        old: c.old,
         told: v,
-        before: c.before,
-        bad: c.bad,
+        ..c
     }
 }
 
@@ -172,17 +160,12 @@ pub fn limit(ws: &[u64], source: &[u8], c: Walked, on: bool, w: usize, buffer: &
     if !on {
         return c;
     }
-    let at = c.at;
     let v = ws[w];
-    store(buffer, at, v, Width::W1);
-    let d = past(c, 1);
+    store(buffer, c.at, v, Width::W1);
     Walked {
-        at: d.at,
         n: v,
-        old: c.old,
         told: v,
-        before: c.before,
-        bad: c.bad,
+        ..past(c, 1)
     }
 }
 
@@ -201,16 +184,12 @@ pub fn abi(
     if !on {
         return c;
     }
-    let at = c.at;
     let v = ws[w];
-    store8(buffer, at, v);
+    store8(buffer, c.at, v);
     Walked {
-        at: at + 8,
+        at: c.at + 8,
         n: fills::registers_by(v, mask),
-        old: c.old,
-        told: c.told,
-        before: c.before,
-        bad: c.bad,
+        ..c
     }
 }
 
@@ -225,8 +204,7 @@ pub fn filled(ws: &[u64], source: &[u8], c: Walked, on: bool, w: usize, buffer: 
     if c.n == 0 {
         return c;
     }
-    let at = c.at;
-    store8(buffer, at, ws[w]);
+    store8(buffer, c.at, ws[w]);
     past(c, 8)
 }
 
@@ -240,27 +218,25 @@ pub fn ignored(
     buffer: &mut [u8],
     k: usize,
 ) -> Walked
-    requires { Ready (item on (Ignored k) ∷ []) source.now ws.now w c buffer.old × (w + 2 ≤ length ws.now) }
+    requires { Ready (item on (Ignored k) ∷ []) source.now ws.now w c buffer.old }
     ensures { Placed (item on (Ignored k) ∷ []) source.now ws.now w c buffer.old buffer.new result }
 {
     if !on {
         return c;
     }
-    let at = c.at;
-    wire::zero_at(buffer, at, k);
+    wire::zero_at(buffer, c.at, k);
     past(c, k)
 }
 
 pub fn pad(ws: &[u64], source: &[u8], c: Walked, on: bool, w: usize, buffer: &mut [u8]) -> Walked
-    requires { Ready (item on Pad ∷ []) source.now ws.now w c buffer.old × (w + 2 ≤ length ws.now) }
+    requires { Ready (item on Pad ∷ []) source.now ws.now w c buffer.old }
     ensures { Placed (item on Pad ∷ []) source.now ws.now w c buffer.old buffer.new result }
 {
     if !on {
         return c;
     }
-    let at = c.at;
-    let k = (8 - at % 8) % 8;
-    wire::zero_at(buffer, at, k);
+    let k = (8 - c.at % 8) % 8;
+    wire::zero_at(buffer, c.at, k);
     past(c, k)
 }
 
@@ -289,9 +265,8 @@ pub fn times(
     if !on {
         return c;
     }
-    let at = c.at;
     let many = c.told as usize * k;
-    copy(source, ws[w], many, buffer, at);
+    copy(source, ws[w], many, buffer, c.at);
     past(c, many)
 }
 
@@ -307,7 +282,7 @@ pub fn values(
     requires { Ready (item on (Times (group_bytes f)) ∷ []) source.now ws.now w c buffer.old × (w + 2 ≤ length ws.now) }
     ensures { Placed (item on (Times (group_bytes f)) ∷ []) source.now ws.now w c buffer.old buffer.new result }
 {
-    times(ws, source, c, on, w, buffer, fills::group_bytes(f))
+    times(ws, source, c, on, w, buffer, layouts::group_bytes(f))
 }
 
 pub fn earlier(
@@ -324,9 +299,8 @@ pub fn earlier(
     if !on {
         return c;
     }
-    let at = c.at;
     let many = c.before as usize;
-    copy(source, ws[w], many, buffer, at);
+    copy(source, ws[w], many, buffer, c.at);
     past(c, many)
 }
 
@@ -344,9 +318,8 @@ pub fn registers(
     if !on {
         return c;
     }
-    let at = c.at;
     let many = ws[w + 1] as usize * 8;
-    copy(source, ws[w], many, buffer, at);
+    copy(source, ws[w], many, buffer, c.at);
     past(c, many)
 }
 
@@ -358,10 +331,9 @@ pub fn listed(ws: &[u64], source: &[u8], c: Walked, on: bool, w: usize, buffer: 
     if !on {
         return c;
     }
-    let at = c.at;
     let many = c.told as usize;
-    copy(source, ws[w], many, buffer, at);
-    wire::zero_at(buffer, at + many, 20 - many);
+    copy(source, ws[w], many, buffer, c.at);
+    wire::zero_at(buffer, c.at + many, 20 - many);
     past(c, 20)
 }
 
@@ -372,9 +344,8 @@ pub fn bytes(ws: &[u64], source: &[u8], c: Walked, on: bool, w: usize, buffer: &
     if !on {
         return c;
     }
-    let at = c.at;
     let many = ws[w + 1] as usize;
-    copy(source, ws[w], many, buffer, at);
+    copy(source, ws[w], many, buffer, c.at);
     past(c, many)
 }
 
@@ -386,10 +357,9 @@ pub fn name(ws: &[u64], source: &[u8], c: Walked, on: bool, w: usize, buffer: &m
     if !on {
         return c;
     }
-    let at = c.at;
     let many = ws[w + 1] as usize;
-    let zeros = 8 - (at + many) % 8;
-    copy(source, ws[w], many, buffer, at);
-    wire::zero_at(buffer, at + many, zeros);
+    let zeros = 8 - (c.at + many) % 8;
+    copy(source, ws[w], many, buffer, c.at);
+    wire::zero_at(buffer, c.at + many, zeros);
     past(c, many + zeros)
 }

@@ -1,7 +1,7 @@
 -- The writer's answers, as the code finds them. Assumes nothing.
 use Rattle.std.specs.Prelude.{◌≡◌, ℕ, ◌+◌, ◌<◌, ◌≤◌, Bool, not, length, take, drop, get_or, leb}
 use Rattle.std.proofs.Math.Path.{refl, sym, ap, ap₂}
-use Rattle.std.proofs.Common.{◌∙◌, arith, length-append}
+use Rattle.std.proofs.Common.{◌∙◌, arith}
 use Rattle.std.proofs.Math.Bool.{true, false, cond}
 use mathlib.Core.List.{List}
 use Rattle.std.proofs.Math.Dec.{eqb}
@@ -11,27 +11,27 @@ use Rattle.meaning.specs.declared.Item.{Item}
 use Rattle.meaning.specs.Bytes.{put}
 use Rattle.meaning.specs.Editions.{editions, known, allowed, unreadable}
 use Rattle.meaning.specs.Schema.{schema}
-use Rattle.meaning.specs.Writing.{named, write}
-use Rattle.meaning.specs.Records.{Layout, origin, layout, Value, header, field_bytes, written, write_record, fits}
+use Rattle.meaning.specs.Writing.{named}
+use Rattle.meaning.specs.Records.{Layout, layout, write_record, fits}
 use Rattle.meaning.specs.Values.{any_beyond, slots_told, width, flag_told, meant, spare, flagged, writable, write_by, write_answer, write_buffer, body_words, value_words}
-use Rattle.laws.specs.Whole.{header-length}
 use Rattle.laws.specs.Answer42.{buffer-kept, flagged-43}
 use Rattle.table.specs.Flags.{flag_at, flag-none, flag-some}
-use Rattle.writer_words.specs.declared.Reached.{Reached}
+use Rattle.meaning.specs.declared.Spot.{Spot}
 use Rattle.writer_words.specs.Tellings.{start_at}
 use Rattle.writer_parts.specs.declared.TypePart.{TypePart}
 use Rattle.writer_parts.specs.Parts.{Lays, items_from, slots_from}
+use Rattle.writer_record.specs.Measuring.{long-enough}
 use Rattle.writer_record.specs.Measures.{value_meant, measured, size_meant, bytes_meant}
 use Rattle.writer.specs.Known.{flag_set, passes, known_answer, known_buffer}
 use Rattle.writer.specs.Writer.{write_words_answer, write_words_buffer}
 
 -- the code's loop over the fields is the test of their slots
-pub beyond-lays : (src ws : List ℕ) (p : TypePart) (a : Attributes) (kind : ℕ) (is : List Item) (first : Reached) (r : Bool) → Lays p a kind is → first ≡ start_at body_words
+pub beyond-lays : (src ws : List ℕ) (p : TypePart) (a : Attributes) (kind : ℕ) (is : List Item) (first : Spot) (r : Bool) → Lays p a kind is → first ≡ start_at body_words
     → r ≡ any_beyond src (items_from p p.from) (slots_from (items_from p p.from) first ws) → r ≡ any_beyond src is (slots_told is (drop body_words ws) 0 0)
 unfolding slots_from
 beyond-lays src ws p a kind is first r l e h =
     h ∙ ap (λ (x : List Item). any_beyond src x (slots_told x (drop first.at ws) first.n first.old)) l.items
-    ∙ ap (λ (x : Reached). any_beyond src is (slots_told is (drop x.at ws) x.n x.old)) e
+    ∙ ap (λ (x : Spot). any_beyond src is (slots_told is (drop x.at ws) x.n x.old)) e
 
 -- ---- the flag
 
@@ -104,16 +104,6 @@ module _ (src ws buffer : List ℕ) (a : Attributes) (kind misc : ℕ) where
         known-0 l b q = (sym (is-0 l), q ∙ rw (eq-eqb answer 0 (is-0 l)))
 
 -- ---- as the definitions have it
-
--- a record has a header
-long-enough : (is ts : List Item) (v : Value) → 8 ≤ length (written is ts v)
-unfolding written field_bytes
-long-enough is ts v =
-    let h = header-length v in
-    let F : List ℕ = field_bytes is v in
-    let e = length-append F (write ts v.tail (origin (length F))) in
-    let d = length-append (header v) (write is v.body (origin 8)) in
-    omega (arith, h, e, d)
 
 -- a size of 0 says that nothing can be written
 size-test : (b : Bool) (n space : ℕ) → 8 ≤ n

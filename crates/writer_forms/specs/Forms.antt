@@ -1,14 +1,51 @@
 -- An item at a place, as it is written: a table over the shapes. Not what must be believed: proofs/Fitting says that it is what the definitions
 -- of `meaning` say. Assumes nothing: these are definitions.
 use Rattle.std.specs.Prelude.{ℕ, ◌+◌, ◌-◌, ◌*◌, ◌%◌, ◌^◌, Bool, true, false, cond, ◌&&◌, ◌||◌, List, ◌++◌, length, take, drop, leb, eqb, ltb}
-use Rattle.meaning.specs.declared.Cursor.{Cursor}
+use Rattle.meaning.specs.States.{Cursor}
 use Rattle.meaning.specs.declared.Item.{Item}
 use Rattle.meaning.specs.declared.Shape.{Shape}
 use Rattle.meaning.specs.declared.Shape.TheVariants.{Number, Ignored, Count, Size, Times, Earlier, Registers, Filled, Abi, Limit, Listed, Bytes, Pad, Name}
 use Rattle.meaning.specs.Bytes.{ones, spell, zeros, nonzero}
 use Rattle.meaning.specs.Items.{bytes, cursor}
 use Rattle.meaning.specs.Values.{Slot}
-use Rattle.writer_forms.specs.declared.Form.{Form}
+use Rattle.writer_forms.specs.declared.Form.{Form as CodeForm}
+use Rattle.writer_forms.specs.declared.Content.{Content}
+use Rattle.writer_forms.specs.declared.Content.TheVariants.{Blank, Number as NumberContent, List as ListContent, Name as NameContent}
+
+-- an item at a place, as it is written: a number of so many bytes, at most so large (and, with its own bytes, a multiple of 8 or not); then the bytes
+-- of a list of `want` elements (a name has no zero among them); then zero bytes. And the counts that are remembered after it
+pub record Form : Type 0 where
+  pub width : ℕ
+  pub top : ℕ
+  pub eights : Bool
+  pub list : Bool
+  pub name : Bool
+  pub unit : ℕ
+  pub want : ℕ
+  pub pad : ℕ
+  pub n : ℕ
+  pub old : ℕ
+
+-- the code's content as such a row, before no zero bytes; and the code's form
+abbrev pub content_form : Content → Form
+content_form Blank = record { width = 0; top = 0; eights = false; list = false; name = false; unit = 1; want = 0; pad = 0; n = 0; old = 0 }
+content_form (NumberContent width top eights) = record { width = bytes width; top = top; eights = eights; list = false; name = false; unit = 1; want = 0; pad = 0; n = 0; old = 0 }
+content_form (ListContent unit want) = record { width = 0; top = 0; eights = false; list = true; name = false; unit = unit; want = want; pad = 0; n = 0; old = 0 }
+content_form (NameContent want) = record { width = 0; top = 0; eights = false; list = true; name = true; unit = 1; want = want; pad = 0; n = 0; old = 0 }
+
+abbrev pub form_of : CodeForm → Form
+form_of f = record {
+  width = (content_form f.content).width;
+  top = (content_form f.content).top;
+  eights = (content_form f.content).eights;
+  list = (content_form f.content).list;
+  name = (content_form f.content).name;
+  unit = (content_form f.content).unit;
+  want = (content_form f.content).want;
+  pad = f.pad;
+  n = f.n;
+  old = f.old;
+}
 
 -- zero bytes alone; a number; a list; a name
 abbrev pub blank_form : Cursor → ℕ → Form

@@ -1,5 +1,5 @@
 -- The loop that tests: one item, all of them, and what its end says of `fits`. Assumes nothing.
-use mathlib.Core.Path.{◌≡◌, sym, ap, ◌∙◌}
+use mathlib.Core.Path.{◌≡◌, refl, sym, ap, ◌∙◌}
 use Prim.Native.Nat.{ℕ, ◌+◌, ◌*◌, ◌^◌, ◌<◌, ◌≤◌}
 use native.Mathlib.Nat.{mul-one}
 use native.Mathlib.Omega.{arith}
@@ -8,13 +8,12 @@ use mathlib.Core.List.{List}
 use lib.ListN.{length}
 use lib.Dec.{leb}
 use borrow.Author.Tests.{le-leb, lt-leb}
-use Rattle.meaning.specs.declared.Cursor.{Cursor}
+use Rattle.meaning.specs.States.{Cursor}
 use Rattle.meaning.specs.declared.Item.{Item}
 use Rattle.meaning.specs.Bytes.{small}
 use Rattle.meaning.specs.Items.{cursor}
 use Rattle.meaning.specs.Values.{Slot, beyond}
-use Rattle.writer_forms.specs.declared.Form.{Form}
-use Rattle.writer_forms.specs.Forms.{form, fits_form, passes_end, list_bytes, form_next}
+use Rattle.writer_forms.specs.Forms.{Form, form, fits_form, passes_end, list_bytes, form_next}
 use Rattle.writer_items.specs.Tries.{unfit, fits_item, good, try_item, most_bytes}
 use Rattle.writer_items.specs.Fitting.{inside-source, fits-is, next-is, passes-is, width-most, name-lists}
 
@@ -56,6 +55,14 @@ list_on f s e = rw e
 pub list-off : (f : Form) (s : Slot) → f.list ≡ false → 0 ≡ list_bytes f s
 unfolding list_bytes
 list-off f s e = rw e
+
+pub bytes-few : (f : Form) (s : Slot) → (f.list ≡ true → s.count * f.unit < 2 ^ 63) → list_bytes f s < 2 ^ 63
+unfolding list_bytes
+bytes-few f s h = go f.list h
+  where
+    go : (t : Bool) → (t ≡ true → s.count * f.unit < 2 ^ 63) → cond t (s.count * f.unit) 0 < 2 ^ 63
+    go true h = h refl
+    go false h = omega arith
 
 -- the form that the code has is the item's
 module _ (i : Item) (c : Cursor) (s : Slot) (src : List ℕ) (f : Form) (e : f ≡ form i c s) where

@@ -10,7 +10,7 @@ use mathlib.Core.List.{List, [], ◌++◌, append-nil}
 use Rattle.std.proofs.Math.ListN.{length, take}
 use Rattle.std.proofs.lemmas.List.{length-replicate}
 use Rattle.std.proofs.Math.Dec.{leb-suc-suc, eqb-suc-zero}
-use Rattle.meaning.specs.declared.Cursor.{Cursor}
+use Rattle.meaning.specs.States.{Cursor}
 use Rattle.meaning.specs.declared.Item.{Item}
 use Rattle.meaning.specs.declared.Shape.{Shape}
 use Rattle.meaning.specs.declared.Shape.TheVariants.{Number, Ignored, Count, Size, Times, Earlier, Registers, Filled, Abi, Limit, Listed, Bytes, Pad, Name}
@@ -23,8 +23,7 @@ use Rattle.meaning.specs.Values.{Slot, lists, unit, held, beyond}
 use Rattle.laws.specs.Bytes.{apart, and-true, true-and, small-take, small-drop, length-spell}
 use Rattle.laws.specs.There.{item}
 use Rattle.writer_items.specs.Tries.{fits_item}
-use Rattle.writer_forms.specs.declared.Form.{Form}
-use Rattle.writer_forms.specs.Forms.{top, shape_form, form, fits_form, passes_end, list_bytes, form_bytes, form_next}
+use Rattle.writer_forms.specs.Forms.{Form, top, shape_form, form, fits_form, passes_end, list_bytes, form_bytes, form_next}
 
 -- two tests that say the same
 pub same_test : (a b : Bool) → (a ≡ true → b ≡ true) → (b ≡ true → a ≡ true) → a ≡ b

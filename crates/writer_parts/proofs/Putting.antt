@@ -1,38 +1,35 @@
 -- Turns of the loop that puts: the bytes still to come, put where the state says, make the whole. Assumes nothing.
-use mathlib.Core.Path.{◌≡◌, sym, ap, ap₂, ◌∙◌, subst}
+use mathlib.Core.Path.{◌≡◌, refl, sym, ap, ap₂, ◌∙◌, subst}
 use Prim.Native.Nat.{ℕ, ◌+◌, ◌^◌, ◌<◌, ◌≤◌}
 use native.Mathlib.Omega.{arith}
-use mathlib.Core.Bool.{Bool, true, false, cond}
+use mathlib.Core.Bool.{true, false, cond}
 use mathlib.Core.List.{List, [], ◌++◌}
 use lib.ListN.{length}
-use lib.Dec.{leb}
-use borrow.Author.Tests.{le-leb}
-use Rattle.meaning.specs.declared.Cursor.{Cursor}
+use Rattle.meaning.specs.States.{Cursor}
 use Rattle.meaning.specs.declared.Item.{Item}
 use Rattle.meaning.specs.Bytes.{small, put}
 use Rattle.meaning.specs.Items.{Con}
 use Rattle.meaning.specs.Writing.{emit, next, write}
-use Rattle.meaning.specs.Values.{Slot, held, means}
+use Rattle.meaning.specs.Values.{Slot, held, means, trail_words}
 use Rattle.table.specs.Rows.{all_rows}
 use Rattle.laws.specs.Put.{put-put, length-put, put-nil}
-use Rattle.writer_forms.specs.declared.Form.{Form}
 use Rattle.writer_parts.specs.declared.TypePart.{TypePart}
-use Rattle.writer_words.specs.declared.Reached.{Reached}
-use Rattle.writer_forms.specs.Forms.{form, fits_form, passes_end, list_bytes, form_bytes, form_next}
+use Rattle.meaning.specs.declared.Spot.{Spot}
+use Rattle.writer_forms.specs.Forms.{Form, form, fits_form, passes_end, list_bytes, form_bytes, form_next}
 use Rattle.writer_words.specs.Tellings.{given_slot, reached_after}
 use Rattle.writer_items.specs.Tries.{unfit, good, most_bytes}
 use Rattle.writer_parts.specs.Parts.{try_items, item_here, items_from, slots_from}
 use Rattle.writer_items.specs.Fitting.{fits-is, bytes-is, next-is, passes-is, width-most, form-length}
 use Rattle.writer_parts.specs.Turns.{tried-at, to_come, one_on, none-on, Within, within_on, good-parts, no-state, tried}
 
-module _ (src ws : List ℕ) (p : TypePart) (first : Reached) (start : Cursor) (b₀ : List ℕ) where
-  abbrev pub bytes_to_come : ℕ → Reached → Cursor → List ℕ
+module _ (src ws : List ℕ) (p : TypePart) (first : Spot) (start : Cursor) (b₀ : List ℕ) where
+  abbrev pub bytes_to_come : ℕ → Spot → Cursor → List ℕ
   bytes_to_come k t c = to_come (λ (is : List Item) (ss : List Slot). write is (means src is ss) c) p ws k t
 
-  abbrev ends : ℕ → Reached → Cursor → Cursor
+  abbrev ends : ℕ → Spot → Cursor → Cursor
   ends k t c = tried src ws p first start k t c
 
-  pub record Putting (k : ℕ) (t : Reached) (c : Cursor) (b : List ℕ) : Type 0 where
+  pub record Putting (k : ℕ) (t : Spot) (c : Cursor) (b : List ℕ) : Type 0 where
     pub same : put b c.at (bytes_to_come k t c) ≡ put b₀ start.at (bytes_to_come p.from first start)
     pub fine : (ends k t c).why ≡ 0
     pub room : (ends k t c).at ≤ length b₀
@@ -40,7 +37,22 @@ module _ (src ws : List ℕ) (p : TypePart) (first : Reached) (start : Cursor) (
     pub within : Within p k t
     pub place : c.at ≤ most_bytes
 
-  module _ (k : ℕ) (t : Reached) (c : Cursor) (b : List ℕ) (l : Putting k t c b) where
+  pub put-start : p.from ≤ p.to → first.at ≤ trail_words → start.at ≤ most_bytes → (ends p.from first start).why ≡ 0 → (ends p.from first start).at ≤ length b₀
+      → Putting (p.from + 0) first start b₀
+  put-start o w m z r =
+      let n : p.from ≡ p.from + 0 = omega arith in
+      let e : ends (p.from + 0) first start ≡ ends p.from first start = ap (λ (k : ℕ). ends k first start) (sym n) in
+      let a = ap (λ (x : Cursor). x.at) e in
+      record {
+        same = ap (λ (k : ℕ). put b₀ start.at (bytes_to_come k first start)) (sym n);
+        fine = ap (λ (x : Cursor). x.why) e ∙ z;
+        room = omega (arith, a, r);
+        long = refl;
+        within = record { rows = omega (arith, o); words = omega (arith, w) };
+        place = m;
+      }
+
+  module _ (k : ℕ) (t : Spot) (c : Cursor) (b : List ℕ) (l : Putting k t c b) where
     module _ (i : Item) (s : Slot) (f : Form) (eᵢ : i ≡ item_here p k) (eₛ : s ≡ given_slot ws t i) (e : f ≡ form i c s) (h : k < p.to) (m : p.to ≤ all_rows)
         (bytes_only : small src ≡ true) (narrow : s.num < 2 ^ 64) where
       ends-turn : ends k t c ≡ cond (good src i s c) (ends (k + 1) (reached_after ws t i) (next i (held src i s) c)) unfit
@@ -94,17 +106,17 @@ module _ (src ws : List ℕ) (p : TypePart) (first : Reached) (start : Cursor) (
             rest = rest;
           }
 
-      pub put_on : (b' : List ℕ) (c' : Cursor) (t' : Reached) → b' ≡ put b c.at (form_bytes f src s)
-          → c' ≡ cond (leb (form_next f s c).at most_bytes) (form_next f s c) unfit → t' ≡ reached_after ws t i → Putting (k + 1) t' c' b'
+      pub put_on : (b' : List ℕ) (c' : Cursor) (t' : Spot) → b' ≡ put b c.at (form_bytes f src s)
+          → c' ≡ form_next f s c → t' ≡ reached_after ws t i → Putting (k + 1) t' c' b'
       unfolding form_next
       put_on b' c' t' eb ec et =
           let v : Con = held src i s in
           let d : Cursor = next i v c in
-          let t₁ : Reached = reached_after ws t i in
+          let t₁ : Spot = reached_after ws t i in
           let A : List ℕ = form_bytes f src s in
           let W : List ℕ = bytes_to_come (k + 1) t₁ d in
           let r : Cursor = ends (k + 1) t₁ d in
-          let q : c' ≡ d = ec ∙ ap (λ (x : Bool). cond x (form_next f s c) unfit) (le-leb (form_next f s c).at most_bytes ready.place) ∙ ready.after in
+          let q : c' ≡ d = ec ∙ ready.after in
           let z : r.why ≡ 0 = ap (λ (x : Cursor). x.why) (sym ready.rest) ∙ l.fine in
           let la : length A ≡ f.width + list_bytes f s + f.pad = form-length f src s ready.inside in
           let at : d.at ≡ c.at + (f.width + list_bytes f s + f.pad) = ap (λ (x : Cursor). x.at) (sym ready.after) in
@@ -113,10 +125,10 @@ module _ (src ws : List ℕ) (p : TypePart) (first : Reached) (start : Cursor) (
           let w : (ends k t c).at ≡ r.at = ap (λ (x : Cursor). x.at) ready.rest in
           let n = l.room in
           let y = l.long in
-          let E : ends (k + 1) t' c' ≡ r = ap₂ (λ (x : Reached) (a : Cursor). ends (k + 1) x a) et q in
+          let E : ends (k + 1) t' c' ≡ r = ap₂ (λ (x : Spot) (a : Cursor). ends (k + 1) x a) et q in
           let lb = ap length eb ∙ length-put b c.at A in
           record {
-            same = ap₂ (λ (x : Reached) (a : Cursor). put b' a.at (bytes_to_come (k + 1) x a)) et q
+            same = ap₂ (λ (x : Spot) (a : Cursor). put b' a.at (bytes_to_come (k + 1) x a)) et q
                 ∙ ap₂ (λ (x : List ℕ) (a : ℕ). put x a W) eb at₁
                 ∙ put-put b c.at A W (omega (arith, at₁, end, w, n, y))
                 ∙ ap (λ (x : List ℕ). put b c.at x) (ap (λ (x : List ℕ). x ++ W) (sym ready.bytes) ∙ sym bytes-turn)

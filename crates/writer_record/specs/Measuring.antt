@@ -5,23 +5,24 @@ use Rattle.std.proofs.Common.{ap₂, ◌∙◌, arith, leb-true, le-leb, ltb-tru
 use Prim.Native.Nat.{ℕ, suc, ◌%◌, ◌^◌, ◌≤◌}
 use Rattle.std.proofs.Math.Bool.{true, and-false}
 use mathlib.Core.List.{List, [], ◌∷◌}
-use Rattle.std.proofs.Math.ListN.{length}
+use Rattle.std.proofs.Math.ListN.{length, length-append}
 use Rattle.meaning.specs.declared.Attributes.{Attributes}
-use Rattle.meaning.specs.declared.Cursor.{Cursor}
+use Rattle.meaning.specs.States.{Cursor}
 use Rattle.meaning.specs.declared.Item.{Item}
 use Rattle.meaning.specs.declared.Shape.{Shape}
 use Rattle.meaning.specs.declared.Shape.TheVariants.{Number, Ignored, Count, Size, Times, Earlier, Registers, Filled, Abi, Limit, Listed, Bytes, Pad, Name}
 use Rattle.meaning.specs.Bytes.{all_zero}
 use Rattle.meaning.specs.Items.{Con}
-use Rattle.meaning.specs.Writing.{next, nexts, fit}
-use Rattle.meaning.specs.Records.{Value, fixed_shape, fixed, origin, field_bytes, written, fits_by}
+use Rattle.meaning.specs.Writing.{next, nexts, fit, write}
+use Rattle.meaning.specs.Records.{Value, fixed_shape, fixed, origin, header, field_bytes, written, fits_by}
 use Rattle.meaning.specs.Values.{Slot, lists, held, means, beyond, any_beyond, slots_told, spare_by, body_words, trail_words}
 use Rattle.laws.specs.Bytes.{apart, and-true, true-and}
 use Rattle.laws.specs.There.{next-why}
+use Rattle.laws.specs.Whole.{header-length}
 use Rattle.laws.specs.More.{nexts-at, fields-end, record-end}
 use Rattle.meaning.specs.Schema.{trailer}
 use Rattle.writer_parts.specs.declared.TypePart.{TypePart}
-use Rattle.writer_words.specs.declared.Reached.{Reached}
+use Rattle.meaning.specs.declared.Spot.{Spot}
 use Rattle.writer_words.specs.Tellings.{start_at}
 use Rattle.writer_items.specs.Tries.{unfit, fits_item, good, most_bytes}
 use Rattle.writer_parts.specs.Parts.{try_items, items_from, slots_from, Lays}
@@ -141,6 +142,16 @@ tried-most src (i ∷ is) (s ∷ ss) c m z =
     subst (λ (x : Cursor). x.at ≤ most_bytes) (sym u.1)
     (tried-most src is ss (next i (held src i s) c) (good-parts src i s c u.0).2 (ap (λ (x : Cursor). x.why) (sym u.1) ∙ z))
 
+-- a record has a header
+pub long-enough : (is ts : List Item) (v : Value) → 8 ≤ length (written is ts v)
+unfolding written field_bytes
+long-enough is ts v =
+    let h = header-length v in
+    let F : List ℕ = field_bytes is v in
+    let e = length-append F (write ts v.tail (origin (length F))) in
+    let d = length-append (header v) (write is v.body (origin 8)) in
+    omega (arith, h, e, d)
+
 module _ (is ts : List Item) (src ws : List ℕ) (plain : fixed ts ≡ true) (inside : any_beyond src is (slots_told is (drop body_words ws) 0 0) ≡ false) (c₁ : Cursor)
     (e₁ : c₁ ≡ try_items src is (slots_from is (start_at body_words) ws) (origin 8)) where
   unmeasured : (fits_by is ts (value_meant is ts src ws) ≡ true → ⊥) → 0 ≡ measured is ts src ws
@@ -255,11 +266,11 @@ module _ (is ts : List Item) (src ws : List ℕ) (plain : fixed ts ≡ true) (in
             (true-and _ _ (eq-eqb size c₂.at (eₛ ∙ r.size)) (eq-eqb (size % 8) 0 (ap (λ (n : ℕ). n % 8) eₛ ∙ r.eights)))) (eₚ ∙ r.spared))))
 
 -- the code's loop over a part is the walk over the part's items
-pub tried-lays : (src ws : List ℕ) (p : TypePart) (a : Attributes) (kind : ℕ) (is : List Item) (first f : Reached) (start o c : Cursor) → Lays p a kind is → first ≡ f → start ≡ o
+pub tried-lays : (src ws : List ℕ) (p : TypePart) (a : Attributes) (kind : ℕ) (is : List Item) (first f : Spot) (start o c : Cursor) → Lays p a kind is → first ≡ f → start ≡ o
     → c ≡ try_items src (items_from p p.from) (slots_from (items_from p p.from) first ws) start → c ≡ try_items src is (slots_from is f ws) o
 tried-lays src ws p a kind is first f start o c l e₁ e₂ e =
     e ∙ ap (λ (x : List Item). try_items src x (slots_from x first ws) start) l.items
-    ∙ ap₂ (λ (x : Reached) (y : Cursor). try_items src is (slots_from is x ws) y) e₁ e₂
+    ∙ ap₂ (λ (x : Spot) (y : Cursor). try_items src is (slots_from is x ws) y) e₁ e₂
 
 pub spare-lays : (ws : List ℕ) (p : TypePart) (a : Attributes) (kind : ℕ) (is : List Item) (r : Bool) → Lays p a kind is
     → r ≡ all_zero (spare_by (items_from p p.from) (trailer p.kind p.attributes) ws) → r ≡ all_zero (spare_by is (trailer kind a) ws)

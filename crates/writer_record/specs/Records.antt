@@ -7,7 +7,7 @@ use Rattle.std.proofs.Math.Bool.{Bool}
 use mathlib.Core.List.{List, ◌++◌}
 use Rattle.std.proofs.Math.ListN.{length, length-append}
 use Rattle.meaning.specs.declared.Attributes.{Attributes}
-use Rattle.meaning.specs.declared.Cursor.{Cursor}
+use Rattle.meaning.specs.States.{Cursor}
 use Rattle.meaning.specs.declared.Item.{Item}
 use Rattle.meaning.specs.Bytes.{spell, all_zero, put}
 use Rattle.meaning.specs.Writing.{write}
@@ -20,7 +20,7 @@ use Rattle.laws.specs.More.{nexts-at, fields-end, record-end}
 use Rattle.table.specs.Rows.{all_rows}
 use Rattle.laws.specs.Put.{put-put}
 use Rattle.writer_parts.specs.declared.TypePart.{TypePart}
-use Rattle.writer_words.specs.declared.Reached.{Reached}
+use Rattle.meaning.specs.declared.Spot.{Spot}
 use Rattle.writer_words.specs.Tellings.{start_at}
 use Rattle.writer_items.specs.Tries.{most_bytes}
 use Rattle.writer_parts.specs.Parts.{try_items, items_from, slots_from, Lays}
@@ -108,23 +108,23 @@ module _ (is ts : List Item) (src ws : List ℕ) (plain : fixed ts ≡ true) (in
       ∙ put-put b 0 F T (omega (arith, lw, w, h))
 
 -- the code's loop over a part writes the part's items
-pub written-lays : (src ws : List ℕ) (p : TypePart) (a : Attributes) (kind : ℕ) (is : List Item) (first f : Reached) (start o : Cursor) (b b' d : List ℕ) → Lays p a kind is → first ≡ f → start ≡ o
+pub written-lays : (src ws : List ℕ) (p : TypePart) (a : Attributes) (kind : ℕ) (is : List Item) (first f : Spot) (start o : Cursor) (b b' d : List ℕ) → Lays p a kind is → first ≡ f → start ≡ o
     → b ≡ d → b' ≡ put b start.at (write (items_from p p.from) (means src (items_from p p.from) (slots_from (items_from p p.from) first ws)) start)
     → b' ≡ put d o.at (write is (means src is (slots_from is f ws)) o)
 written-lays src ws p a kind is first f start o b b' d l e₁ e₂ e₃ e =
     e ∙ ap (λ (x : List Item). put b start.at (write x (means src x (slots_from x first ws)) start)) l.items
-    ∙ ap₂ (λ (x : Reached) (y : Cursor). put b y.at (write is (means src is (slots_from is x ws)) y)) e₁ e₂
+    ∙ ap₂ (λ (x : Spot) (y : Cursor). put b y.at (write is (means src is (slots_from is x ws)) y)) e₁ e₂
     ∙ ap (λ (x : List ℕ). put x o.at (write is (means src is (slots_from is f ws)) o)) e₃
 
 -- what a call of that loop asks
-pub asks-lays : (src ws : List ℕ) (p : TypePart) (a : Attributes) (kind : ℕ) (is : List Item) (first : Reached) (start : Cursor) (k o n m end : ℕ) → Lays p a kind is → first ≡ start_at k → start ≡ origin o
+pub asks-lays : (src ws : List ℕ) (p : TypePart) (a : Attributes) (kind : ℕ) (is : List Item) (first : Spot) (start : Cursor) (k o n m end : ℕ) → Lays p a kind is → first ≡ start_at k → start ≡ origin o
     → k ≤ trail_words → o ≤ most_bytes → (try_items src is (slots_from is (start_at k) ws) (origin o)).why ≡ 0 → (try_items src is (slots_from is (start_at k) ws) (origin o)).at ≡ m → m ≤ end → n ≡ end
     → (p.from ≤ p.to) × (p.to ≤ all_rows) × (first.at ≤ trail_words) × (start.at ≤ most_bytes)
     × ((try_items src (items_from p p.from) (slots_from (items_from p p.from) first ws) start).why ≡ 0)
     × ((try_items src (items_from p p.from) (slots_from (items_from p p.from) first ws) start).at ≤ n)
 asks-lays src ws p a kind is first start k o n m end l e₁ e₂ h₁ h₂ w at h₃ e =
     let q = tried-lays src ws p a kind is first (start_at k) start (origin o) _ l e₁ e₂ refl in
-    let a₁ = ap (λ (x : Reached). x.at) e₁ in
+    let a₁ = ap (λ (x : Spot). x.at) e₁ in
     let a₂ = ap (λ (x : Cursor). x.at) e₂ in
     let a₃ = ap (λ (x : Cursor). x.at) q in
     (l.ordered, l.within, omega (arith, a₁, h₁), omega (arith, a₂, h₂), ap (λ (x : Cursor). x.why) q ∙ w, omega (arith, a₃, at, h₃, e))

@@ -1,9 +1,10 @@
 -- How many words the parts of a type have, and the words that no item has. Assumes nothing.
-use Rattle.std.specs.Prelude.{◌≡◌, refl, ℕ, suc, ◌+◌, ◌*◌, ◌<◌, ◌≤◌, Bool, ◌&&◌, List, [], ◌∷◌, ◌++◌, length, take, drop, get_or, leb, eqb}
-use Rattle.std.proofs.Common.{sym, ap₂, ◌∙◌, add-one, arith, drop_of_length-le, drop-cons, get_or-take, leb-true, leb-false, eq-eqb, ne_eqb}
+use Rattle.std.specs.Prelude.{◌≡◌, refl, ℕ, suc, ◌+◌, ◌-◌, min, ◌*◌, ◌<◌, ◌≤◌, Bool, ◌&&◌, List, [], ◌∷◌, ◌++◌, length, take, drop, get_or, leb, eqb}
+use Rattle.std.proofs.Common.{sym, ap₂, take_all, length-drop, ◌∙◌, add-one, arith, drop_of_length-le, drop-cons, get_or-take, leb-true, leb-false, eq-eqb, ne_eqb}
 use Rattle.std.proofs.Math.Path.{ap}
 use Rattle.std.proofs.Math.Bool.{true, false}
 use Rattle.std.proofs.Math.ListN.{get_or-eq_default}
+use Rattle.std.specs.List.{list_all}
 use Rattle.meaning.specs.declared.Attributes.{Attributes}
 use Rattle.meaning.specs.declared.Item.{Item}
 use Rattle.meaning.specs.Bytes.{all_zero}
@@ -13,7 +14,7 @@ use Rattle.meaning.specs.Values.{tell, words_of, width, flag_words, body_width, 
 use Rattle.laws.specs.Bytes.{take-length-by}
 use Rattle.laws.specs.Told.{fields-few}
 use Rattle.table.specs.Flags.{flag_at, flag-none, flag-some}
-use Rattle.table.specs.Rows.{rows, all_rows}
+use Rattle.table.specs.Rows.{all_rows}
 use Rattle.writer_parts.specs.declared.TypePart.{TypePart}
 use Rattle.writer_parts.specs.Parts.{item_here, items_from, part_items, Lays}
 use Rattle.writer_parts.specs.Turns.{items-next, items-over}
@@ -25,6 +26,11 @@ pub record Summing (p : TypePart) (first k end : ℕ) : Type 0 where
   pub same : end + width (items_from p k) ≡ first + width (items_from p p.from)
   pub rows : k ≤ p.to
   pub few : end ≤ trail_words + 2 * k
+
+pub sum-start : (p : TypePart) (first : ℕ) → p.from ≤ p.to → first ≤ trail_words → Summing p first (p.from + 0) first
+sum-start p first o w =
+    let n : p.from ≡ p.from + 0 = omega arith in
+    record { same = ap (λ (k : ℕ). first + width (items_from p k)) (sym n); rows = omega (arith, o); few = omega (arith, w) }
 
 module _ (p : TypePart) (first k end : ℕ) (l : Summing p first k end) where
   pub sum-on : (i : Item) (n : ℕ) → i ≡ item_here p k → n ≡ words_of i.shape → n ≤ 2 → k < p.to → p.to ≤ all_rows → Summing p first (k + 1) (end + n)
@@ -75,6 +81,37 @@ module _ (ws : List ℕ) (from to k w : ℕ) (l : zeros_from ws to k ≡ zeros_f
 pub zero-end : (ws : List ℕ) (from to k : ℕ) → zeros_from ws to k ≡ zeros_from ws to from → to ≤ k → true ≡ zeros_from ws to from
 unfolding all_zero
 zero-end ws from to k l h = let n = take-length-by to ws in ap all_zero (sym (drop_of_length-le (take to ws) {i = k} (omega (arith, n, h)))) ∙ l
+
+pub all-zero : (xs : List ℕ) → list_all (λ (x : ℕ). eqb x 0) xs ≡ all_zero xs
+unfolding all_zero
+all-zero [] = refl
+all-zero (x ∷ xs) = ap (λ (b : Bool). eqb x 0 && b) (all-zero xs)
+
+take-most : (xs : List ℕ) (n : ℕ) → take (min n (length xs)) xs ≡ take n xs
+take-most xs n = go (leb n (length xs)) refl
+  where
+    go : (t : Bool) → leb n (length xs) ≡ t → take (min n (length xs)) xs ≡ take n xs
+    go true e = let h = leb-true n (length xs) e in let m : min n (length xs) ≡ n = omega (arith, h) in ap (λ (k : ℕ). take k xs) m
+    go false e =
+        let h = leb-false n (length xs) e in
+        take_all (min n (length xs)) xs (omega (arith, h)) ∙ sym (take_all n xs (omega (arith, h)))
+
+drop-most : (xs : List ℕ) (n : ℕ) → drop (min n (length xs)) xs ≡ drop n xs
+drop-most xs n = go (leb n (length xs)) refl
+  where
+    go : (t : Bool) → leb n (length xs) ≡ t → drop (min n (length xs)) xs ≡ drop n xs
+    go true e = let h = leb-true n (length xs) e in let m : min n (length xs) ≡ n = omega (arith, h) in ap (λ (k : ℕ). drop k xs) m
+    go false e =
+        let h = leb-false n (length xs) e in
+        drop_of_length-le xs {i = min n (length xs)} (omega (arith, h)) ∙ sym (drop_of_length-le xs {i = n} (omega (arith, h)))
+
+-- both ends of a part held within the words
+pub between-is : (ws : List ℕ) (from to n m : ℕ) → n ≡ min to (length ws) → m ≡ min from (length (take n ws))
+    → take (length (take n ws) - m) (drop m (take n ws)) ≡ drop from (take to ws)
+between-is ws from to n m e f =
+    take_all (length (take n ws) - m) (drop m (take n ws)) (omega (arith, length-drop m (take n ws)))
+    ∙ ap (λ (k : ℕ). drop k (take n ws)) f ∙ drop-most (take n ws) from
+    ∙ ap (λ (k : ℕ). drop from (take k ws)) e ∙ ap (λ (xs : List ℕ). drop from xs) (take-most ws to)
 
 all-and : (xs ys : List ℕ) → all_zero (xs ++ ys) ≡ all_zero xs && all_zero ys
 unfolding all_zero

@@ -1,8 +1,8 @@
-// A whole record: the words that no item has, the size of the record that the words tell, and its bytes. Nothing is written
-// before the size is known and there is room.
+// A whole record: the words that no item has, the size of the record that the words tell, and its bytes. Nothing is
+// written before the size is known and there is room.
 #![tactic(auto)]
 
-ghost use Rattle.std.specs.Prelude.{◌≡◌, ◌++◌, ◌+◌, ◌≤◌, ◌<◌, length, take, drop};
+ghost use Rattle.std.specs.Prelude.{◌≡◌, ◌++◌, ◌+◌, ◌≤◌, ◌<◌, length, take, drop, unwrap_or, IfSome};
 ghost use Rattle.meaning.specs.Bytes.{all_zero, spell, put};
 ghost use Rattle.meaning.specs.Schema.{trailer};
 ghost use Rattle.meaning.specs.Values.{spare_by, width, body_width, body_words, trail_words};
@@ -19,14 +19,10 @@ fn words_end(p: TypePart, first: usize) -> usize
     ensures { result ≡ first + width (part_items p) }
 {
     let all = table::all_rows();
+    let own = &all[p.from..p.to];
     let mut end = first;
-    let mut k = p.from;
-    let to = p.to;
-    while k < to {
-        let i = writer_parts::item_here(&all, p, k);
-        let shape = i.shape;
-        end += fields::words_of(shape);
-        k += 1;
+    for &row in own {
+        end += fields::words_of(p.item(row).shape);
     }
     end
 }
@@ -34,14 +30,9 @@ fn words_end(p: TypePart, first: usize) -> usize
 fn zero_between(ws: &[u64], from: usize, to: usize) -> bool
     ensures { result ≡ all_zero (drop from (take to ws.now)) }
 {
-    let mut k = from;
-    while k < to {
-        if writer_words::word(ws, k) != 0 {
-            return false;
-        }
-        k += 1;
-    }
-    true
+    let front = &ws[..to.min(ws.len())];
+    let rest = &front[from.min(front.len())..];
+    rest.iter().all(|&word| word == 0)
 }
 
 // The words before the end of a type's own: the flag of a name follows its fields.
@@ -49,11 +40,10 @@ fn body_end(p: TypePart) -> usize
     requires { (p.from ≤ p.to) × (p.to ≤ all_rows) × Fields p }
     ensures { result ≡ body_words + body_width (part_items p) }
 {
-    let flag = table::flag_at(p.kind);
-    if flag == 0 {
-        return words_end(p, writer_words::BODY_WORDS);
+    match table::flag_at(p.kind) {
+        Some(flag) => flag + 1,
+        None => words_end(p, writer_words::BODY_WORDS),
     }
-    flag + 1
 }
 
 // Every word that the type does not have is 0: the trailer has seven words, and one is kept free.
@@ -66,44 +56,36 @@ fn spare_zero(ws: &[u64], p: TypePart) -> bool
     between & zero_between(ws, writer_words::FREE_WORD, writer_words::VALUE_WORDS)
 }
 
-// The size of the record that the words tell, or 0 where they tell none: "42 exactly when no record decodes to the same". A size
-// is true, a multiple of 8, and the numbers of the header fit it.
-pub fn measure(ws: &[u64], source: &[u8], attributes: Attributes, kind: u64, misc: u64) -> usize
+// The size of the record that the words tell; there is none where they tell no record: "42 exactly when no record
+// decodes to the same". A size is true, a multiple of 8, and the numbers of the header fit it.
+pub fn measure(
+    ws: &[u64],
+    source: &[u8],
+    attributes: Attributes,
+    kind: u64,
+    misc: u64,
+) -> Option<usize>
     requires { Inside source.now ws.now attributes kind misc }
-    ensures { result ≡ size_meant source.now ws.now attributes kind misc }
+    ensures value { unwrap_or result 0 ≡ size_meant source.now ws.now attributes kind misc }
+    ensures some { IfSome result (λ size. 0 < size) }
 {
     let b = writer_parts::body(attributes, kind, misc);
-    let c = writer_parts::try_all(
-        ws,
-        source,
-        b,
-        writer_words::start_at(writer_words::BODY_WORDS),
-        answers::origin(8),
-    );
-    let why = c.why;
-    if why != 0 {
-        return 0;
-    }
+    let words = writer_words::start_at(writer_words::BODY_WORDS);
+    let Ok(c) = writer_parts::try_all(ws, source, b, words, answers::origin(8)) else {
+        return None;
+    };
     let t = writer_parts::trailing(attributes, kind, misc);
-    let d = writer_parts::try_all(
-        ws,
-        source,
-        t,
-        writer_words::start_at(writer_words::TRAIL_WORDS),
-        answers::origin(c.at),
-    );
-    let why = d.why;
-    if why != 0 {
-        return 0;
-    }
-    let end = d.at;
+    let words = writer_words::start_at(writer_words::TRAIL_WORDS);
+    let Ok(d) = writer_parts::try_all(ws, source, t, words, answers::origin(c.at)) else {
+        return None;
+    };
     let size = writer_words::word(ws, 2);
-    let header = (kind <= 4294967295) & (misc <= 65535);
-    let whole = (size as usize == end) & (size % 8 == 0);
+    let header = (kind <= u32::MAX as u64) & (misc <= u16::MAX as u64);
+    let whole = (size as usize == d.at) & (size % 8 == 0);
     if (header & whole) & spare_zero(ws, b) {
-        end
+        Some(d.at)
     } else {
-        0
+        None
     }
 }
 

@@ -6,8 +6,22 @@ use Rattle.meaning.specs.declared.Shape.{Shape}
 use Rattle.meaning.specs.declared.Shape.TheVariants.{Number, Ignored, Count, Size, Times, Earlier, Registers, Filled, Abi, Limit, Listed, Bytes, Pad, Name}
 use Rattle.meaning.specs.Values.{Slot, slot, words_of, slot_told, slot_off, last_told, before_told}
 use Rattle.writer_words.specs.declared.Given.{Given}
-use Rattle.writer_words.specs.declared.Reached.{Reached}
-use Rattle.writer_words.specs.declared.Telling.{Telling}
+use Rattle.meaning.specs.declared.Spot.{Spot}
+use Rattle.writer_words.specs.declared.Wording.{Wording}
+use Rattle.writer_words.specs.declared.Wording.TheVariants.{Unspoken, Plain, LastCount, NextCount, Listing}
+use Rattle.writer_words.specs.declared.ListCount.{ListCount}
+use Rattle.writer_words.specs.declared.ListCount.TheVariants.{Last, Before, Own}
+
+-- how words tell a shape: how many of them, is the first a number or a place; which count a list has (the last one, the one before it, else its
+-- second word); and whether the number is remembered as a count, and the last count before it too
+pub record Telling : Type 0 where
+  pub many : ℕ
+  pub number : Bool
+  pub list : Bool
+  pub last : Bool
+  pub earlier : Bool
+  pub keeps : Bool
+  pub shifts : Bool
 
 abbrev pub slot_of : Given → Slot
 slot_of g = slot g.number g.place g.count
@@ -17,14 +31,14 @@ abbrev pub few_words : ℕ
 few_words = 1000
 
 -- before the first word of a part
-abbrev pub start_at : ℕ → Reached
+abbrev pub start_at : ℕ → Spot
 start_at at = record { at = at; n = 0; old = 0 }
 
 -- the item's slot, from where the words are told to; and how far they are told after it
-abbrev pub given_slot : List ℕ → Reached → Item → Slot
+abbrev pub given_slot : List ℕ → Spot → Item → Slot
 given_slot ws t i = cond i.on (slot_told i.shape t.n t.old (drop t.at ws)) (slot_off i.shape (drop t.at ws))
 
-abbrev pub reached_after : List ℕ → Reached → Item → Reached
+abbrev pub reached_after : List ℕ → Spot → Item → Spot
 reached_after ws t i = record {
   at = t.at + words_of i.shape;
   n = cond i.on (last_told i.shape t.n (get_or (drop t.at ws) 0 0)) t.n;
@@ -56,3 +70,16 @@ telling (Listed k) = list 1 true false
 telling (Bytes k) = list 2 false false
 telling Pad = unspoken
 telling Name = list 2 false false
+
+-- the code's enums as rows of that table
+abbrev pub list_by : ListCount → Telling
+list_by Last = list 1 true false
+list_by Before = list 1 false true
+list_by Own = list 2 false false
+
+abbrev pub telling_by : Wording → Telling
+telling_by Unspoken = unspoken
+telling_by Plain = number false false
+telling_by LastCount = number true false
+telling_by NextCount = number true true
+telling_by (Listing count) = list_by count

@@ -1,6 +1,5 @@
 -- The list with the trailer added, computed.
 use mathlib.Core.Path.{refl}
-use borrow.Author.Rules.{rules}
 use Rattle.marks.specs.Bases.{bases_with}
 use Rattle.all_marks.proofs.bases.Goals as goal
 

@@ -1,6 +1,5 @@
 -- The types' marks, and then the two that are made apart.
 use native.Mathlib.Omega.{arith}
-use borrow.Author.Rules.{rules}
 use Rattle.marks.specs.Marks.{marks-made}
 use Rattle.sums.specs.Sums.{trail-small, sums-given}
 use Rattle.all_marks.proofs.marks.Goals as goal

@@ -1,17 +1,20 @@
 -- `answers::answer` meets its contract: 20 to 25 by the rules; where there are none, 30 to 33. Assumes nothing.
-use Rattle.meaning.specs.Editions.{editions, known}
+use mathlib.Core.Path.{ap, ◌∙◌}
+use Rattle.std.proofs.lemmas.Result.{err_from_is_err_and}
+use Rattle.meaning.specs.declared.Known.{Known}
+use Rattle.meaning.specs.Editions.{editions, known, unreadable}
 use Rattle.answers.proofs.Laws.{answer-read, answer-unreadable}
-use borrow.Author.Rules.{rules}
 use Rattle.answers.proofs.answer.Goals as goal
 
-pub returns-then-why-eq0 : goal.returns-then-why-eq0
-returns-then-why-eq0 c =
+pub returns-in_err-unreadable : goal.returns-in_err-unreadable
+returns-in_err-unreadable c =
     let a = c.args in
-    answer-read (known editions a.e) c.edition.result a.a a.kind a.misc a.r.now c.unreadable-why.result
-    c.edition.ensures c.unreadable-why.ensures c.fields_answer.result c.if-why-eq0.true c.fields_answer.ensures
+    let p = err_from_is_err_and c.from_residual.result c.from_residual.ensures.1 in
+    rw (p.1, p.2)
+    (answer-unreadable (known editions a.e) a.a a.kind a.misc a.r.now _ (c.in_err-unreadable.ensures ∙ ap (λ (k : Known). unreadable k a.a a.kind a.misc) c.edition.ensures))
 
-pub returns-else-why-eq0 : goal.returns-else-why-eq0
-returns-else-why-eq0 c =
+pub returns : goal.returns
+returns c =
     let a = c.args in
-    answer-unreadable (known editions a.e) c.edition.result a.a a.kind a.misc a.r.now c.unreadable-why.result
-    c.edition.ensures c.unreadable-why.ensures c.if-why-eq0.false
+    c.fields_answer.ensures
+    ∙ answer-read (known editions a.e) a.a a.kind a.misc a.r.now (c.in_ok-unreadable.ensures ∙ ap (λ (k : Known). unreadable k a.a a.kind a.misc) c.edition.ensures)

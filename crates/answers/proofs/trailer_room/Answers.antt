@@ -1,6 +1,5 @@
 -- `answers::trailer_room` meets its contract: 8 times the ones of the masked sample type is the trailer's room, and without a trailer it is 0. Assumes nothing.
 use native.Mathlib.Omega.{arith}
-use borrow.Author.Tests.{not-true, not-false}
 use Rattle.answers.proofs.Laws.{room-on, room-off, room_most}
 use borrow.Author.Rules.{rules}
 use Rattle.answers.proofs.trailer_room.Goals as goal

@@ -1,17 +1,13 @@
-use mathlib.Core.Path.{◌≡◌, refl, sym, ap, ◌∙◌}
-use mathlib.Core.List.{List, map}
-use Prim.Native.Nat.{ℕ, ◌-◌, ◌≤◌}
-use native.Mathlib.Omega.{arith}
-use lib.Seq.{slice}
-use borrow.Author.Rules.{rules}
-use Rattle.meaning.specs.declared.Item.{Item}
+use mathlib.Core.Path.{◌≡◌}
+use mathlib.Core.List.{map}
+use lib.ListN.{drop}
 use Rattle.meaning.specs.Items.{walk}
-use Rattle.table.specs.Rows.{rows, item_of, field_rows}
-use Rattle.table.specs.Turns.{walk-next, walk-over}
+use Rattle.meaning.specs.Reasons.{cursor_of}
+use Rattle.table.specs.Rows.{item_of}
 use Rattle.answers.proofs.walk.Given as goal
 
-abbrev pub invariant-loop-k : goal.invariant-loop-k
-invariant-loop-k l = (l.k ≤ l.to) × (l.to ≤ field_rows) × (walk l.s (map (item_of l.a l.misc l.kind) (slice l.initial.k l.to rows)) l.initial.c ≡ walk l.s (map (item_of l.a l.misc l.kind) (slice l.k l.to rows)) l.c)
-
-abbrev pub decreases-loop-k : goal.decreases-loop-k
-decreases-loop-k l = l.to - l.k
+-- the walk over all rows is the walk over those that are still to come
+abbrev pub invariant-loop-row : goal.invariant-loop-row
+invariant-loop-row l =
+    walk l.s (map (item_of l.a l.misc l.kind) l.own) (cursor_of l.initial.spot)
+    ≡ walk l.s (map (item_of l.a l.misc l.kind) (drop l.row-index l.own)) (cursor_of l.spot)

@@ -1,5 +1,5 @@
 -- Each test is a row's, in the order of the rows of the call; what passes them is left to the rows of the place, whose header lies whole.
-use Rattle.std.proofs.Common.{◌≡◌, sym, ◌∙◌, arith, eq-eqb, ne_eqb}
+use Rattle.std.proofs.Common.{sym, ◌∙◌, arith, eq-eqb, ne_eqb}
 use Rattle.meaning.specs.Ring.{stopped}
 use Rattle.meaning.specs.Backward.{back_frame}
 use Rattle.laws.specs.Rings.{length-bounds}
@@ -8,12 +8,11 @@ use Rattle.back_rows.proofs.next_back.Goals as goal
 
 pub returns-then-not-length_allowed : goal.returns-then-not-length_allowed
 unfolding back_frame stopped
-returns-then-not-length_allowed c = simp (c.halt.ensures, sym c.length_allowed.ensures ∙ c.if-not-length_allowed.true)
+returns-then-not-length_allowed c = simp (sym c.length_allowed.ensures ∙ c.if-not-length_allowed.true)
 
 pub returns-then-not-ok : goal.returns-then-not-ok
 unfolding back_frame stopped
 returns-then-not-ok c = simp (
-  c.halt-then-not-ok.ensures,
   sym c.length_allowed.ensures ∙ c.if-not-length_allowed.false,
   c.if-not-ok.true,
 )
@@ -21,7 +20,6 @@ returns-then-not-ok c = simp (
 pub returns-then-head-ne0 : goal.returns-then-head-ne0
 unfolding back_frame stopped
 returns-then-head-ne0 c = simp (
-  c.halt-then-head-ne0.ensures,
   sym c.length_allowed.ensures ∙ c.if-not-length_allowed.false,
   c.if-not-ok.false,
   ne_eqb _ _ c.if-head-ne0.true,
@@ -30,7 +28,6 @@ returns-then-head-ne0 c = simp (
 pub returns-then-not-table : goal.returns-then-not-table
 unfolding back_frame stopped
 returns-then-not-table c = simp (
-  c.halt-then-not-table.ensures,
   sym c.length_allowed.ensures ∙ c.if-not-length_allowed.false,
   c.if-not-ok.false,
   eq-eqb _ _ c.if-head-ne0.false,

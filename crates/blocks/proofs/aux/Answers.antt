@@ -1,34 +1,19 @@
--- 32 is asked before 30: the size is a multiple of 8, then its bytes are there; what is left is the walk over size and bytes. Assumes nothing.
-use mathlib.Core.Path.{sym, subst}
-use mathlib.Core.Bool.{Bool, true, false}
-use mathlib.Core.List.{List}
-use Prim.Native.Nat.{ℕ, ◌+◌}
-use native.Mathlib.Omega.{arith}
-use borrow.Author.Rules.{rules}
-use borrow.Author.Tests.{not-true, not-false}
-use Rattle.blocks.specs.Seen.{place, Leaves, refusing, going, as-known}
-use Rattle.blocks.specs.Blocks.{sized_bytes, two-off, sized-short, sized-bad, sized-long, sized-in}
+-- The size is not there; or the walk over it and its bytes. Assumes nothing.
+use Rattle.std.proofs.lemmas.Result.{err_from_is_err_and}
 use Rattle.meaning.specs.declared.Width.TheVariants.{W8}
+use Rattle.blocks.specs.Blocks.{two-off, sized-short, sized-ends}
 use Rattle.blocks.proofs.aux.Goals as goal
 
-pub returns-then-not-on : goal.returns-then-not-on
-returns-then-not-on c = let a = c.args in let xs : List ℕ = a.s.now in let old : _ × _ = as-known (λ (t : Bool). sized_bytes t W8) xs a.at _ false a.on c.if-not-on.true (going xs _ a.at a.at (omega arith) (two-off xs _ _ a.at)) in record { leaves = old.0; at_in_bounds = old.1 }
+pub returns-then-not-on-clause-leaves : goal.returns-then-not-on-clause-leaves
+returns-then-not-on-clause-leaves c = let a = c.args in rw c.if-not-on.true (two-off a.s.now _ _ a.at)
 
-pub returns-then-left-lt8 : goal.returns-then-left-lt8
-returns-then-left-lt8 c = let a = c.args in let xs : List ℕ = a.s.now in let old : _ × _ = as-known (λ (t : Bool). sized_bytes t W8) xs a.at _ true a.on c.if-not-on.false (refusing xs _ a.at _ 30 c.refused.ensures (λ q. omega (arith, q)) (sized-short W8 xs a.at (omega arith))) in record { leaves = old.0; at_in_bounds = old.1 }
+pub returns-in_err-n-clause-leaves : goal.returns-in_err-n-clause-leaves
+returns-in_err-n-clause-leaves c =
+    let p = err_from_is_err_and c.from_residual.result c.from_residual.ensures.1 in
+    rw (p.1, p.2, c.in_err-n.ensures.0, c.if-not-on.false) (sized-short W8 c.args.s.now c.args.at c.in_err-n.ensures.1)
 
-pub returns-then-n-ne0 : goal.returns-then-n-ne0
-returns-then-n-ne0 c = let a = c.args in let xs : List ℕ = a.s.now in
-    let e = c.size8-n.ensures in let old : _ × _ = as-known (λ (t : Bool). sized_bytes t W8) xs a.at _ true a.on c.if-not-on.false
-    (refusing xs _ a.at _ 32 c.refused-then-n-ne0.ensures (λ q. omega (arith, q)) (sized-bad W8 xs a.at (omega arith) (λ q. c.if-n-ne0.true (omega (arith, e, q))))) in record { leaves = old.0; at_in_bounds = old.1 }
+pub returns-clause-leaves : goal.returns-clause-leaves
+returns-clause-leaves c = rw c.if-not-on.false (sized-ends W8 c.args.s.now c.args.at _ c.in_ok-n.ensures.0 c.in_ok-n.ensures.1 _ c.sized.ensures).0
 
-pub returns-then-left-n : goal.returns-then-left-n
-returns-then-left-n c = let a = c.args in let xs : List ℕ = a.s.now in
-    let e = c.size8-n.ensures in let old : _ × _ = as-known (λ (t : Bool). sized_bytes t W8) xs a.at _ true a.on c.if-not-on.false
-    (refusing xs _ a.at _ 30 c.refused-then-left-n.ensures (λ q. omega (arith, q)) (sized-long W8 xs a.at (omega arith) (omega (arith, e, c.if-n-ne0.false)) (omega (arith, e)))) in record { leaves = old.0; at_in_bounds = old.1 }
-
-pub returns : goal.returns
-returns c = let a = c.args in let xs : List ℕ = a.s.now in
-    let e = c.size8-n.ensures in let old : _ × _ = as-known (λ (t : Bool). sized_bytes t W8) xs a.at _ true a.on c.if-not-on.false
-    (going xs _ a.at _ (omega arith) (subst (λ (n : ℕ). Leaves xs (sized_bytes true W8) a.at (place (a.at + 8 + n) 0)) (sym e)
-    (sized-in W8 xs a.at (omega arith) (omega (arith, e, c.if-n-ne0.false)) (omega (arith, e))))) in record { leaves = old.0; at_in_bounds = old.1 }
+pub returns-clause-at_in_bounds : goal.returns-clause-at_in_bounds
+returns-clause-at_in_bounds c = (sized-ends W8 c.args.s.now c.args.at _ c.in_ok-n.ensures.0 c.in_ok-n.ensures.1 _ c.sized.ensures).1

@@ -2,11 +2,9 @@
 use mathlib.Core.Path.{◌≡◌, sym, ap, ◌∙◌}
 use mathlib.Core.Bool.{Bool, true, false}
 use mathlib.Core.List.{List}
-use mathlib.Core.Logic.{⊎_elim}
 use native.Mathlib.Omega.{arith}
-use Prim.Native.Nat.{ℕ, ◌≤◌}
-use borrow.Author.Tests.{not-true, not-false}
-use Rattle.blocks.specs.Seen.{size_bound, going, as-known}
+use Prim.Native.Nat.{ℕ}
+use Rattle.blocks.specs.Seen.{going, as-known}
 use Rattle.blocks.specs.Blocks.{branch_list, branch_fixed, counted_place, three-off, branch-ends}
 use Rattle.blocks.proofs.branches.Goals as goal
 use Rattle.blocks.proofs.branches.Goals.{then-index, else-index}

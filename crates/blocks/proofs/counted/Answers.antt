@@ -4,8 +4,6 @@ use mathlib.Core.Bool.{Bool, true, false}
 use mathlib.Core.List.{List, []}
 use native.Mathlib.Omega.{arith}
 use Prim.Native.Nat.{ℕ}
-use borrow.Author.Rules.{rules}
-use borrow.Author.Tests.{not-true, not-false}
 use Rattle.blocks.specs.Seen.{going, as-known}
 use Rattle.blocks.specs.Steady.{steady, total}
 use Rattle.blocks.specs.Blocks.{counted_list, two-off, counted-ends}

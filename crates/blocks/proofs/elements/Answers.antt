@@ -5,7 +5,6 @@ use Prim.Native.Nat.{ℕ, ◌+◌, ◌-◌, ◌*◌, ◌≤◌, ◌<◌}
 use native.Mathlib.Nat.{mul-le-mul, le-mul_of_pos_right}
 use native.Mathlib.Omega.{arith}
 use lib.ListN.{length}
-use borrow.Author.Rules.{rules}
 use Rattle.meaning.specs.Bytes.{number_at}
 use Rattle.blocks.specs.Seen.{place}
 use Rattle.blocks.specs.Blocks.{counted-past, counted-there}
@@ -21,7 +20,7 @@ pub returns-then-left-fixed : goal.returns-then-left-fixed
 returns-then-left-fixed c =
     let a = c.args in
     let h : length a.s.now - a.at < a.fixed + number_at 8 a.s.now a.at * a.unit = omega (arith, c.if-left-fixed.true) in
-    c.refused.ensures ∙ counted-past a.s.now a.at a.fixed a.unit h
+    counted-past a.s.now a.at a.fixed a.unit h
 
 pub returns-then-left-n : goal.returns-then-left-n
 returns-then-left-n c =
@@ -29,7 +28,7 @@ returns-then-left-n c =
     let xs : List ℕ = a.s.now in
     let e = c.u64_at-n.ensures in
     let g : number_at 8 xs a.at ≤ number_at 8 xs a.at * a.unit = le-mul_of_pos_right (number_at 8 xs a.at) c.requires.le_unit in
-    c.refused-then-left-n.ensures ∙ counted-past xs a.at a.fixed a.unit (omega (arith, e, g, c.if-left-n.true))
+    counted-past xs a.at a.fixed a.unit (omega (arith, e, g, c.if-left-n.true))
 
 pub overflow_mul-k : goal.overflow_mul-k
 overflow_mul-k c = omega (arith, small c)
@@ -42,7 +41,7 @@ returns-then-left-k c =
     let a = c.args in
     let xs : List ℕ = a.s.now in
     let e : c.u64_at-n.result * a.unit ≡ number_at 8 xs a.at * a.unit = ap (λ (n : ℕ). n * a.unit) c.u64_at-n.ensures in
-    c.refused-then-left-k.ensures ∙ counted-past xs a.at a.fixed a.unit (omega (arith, e, c.if-left-k.true))
+    counted-past xs a.at a.fixed a.unit (omega (arith, e, c.if-left-k.true))
 
 pub returns : goal.returns
 returns c =

@@ -1,48 +1,82 @@
 -- The size as of raw; a size of 0 has neither bytes nor filled length, any other has both. Assumes nothing.
-use mathlib.Core.Path.{◌≡◌, sym, ◌∙◌}
-use mathlib.Core.Bool.{true, false}
+use mathlib.Core.Path.{◌≡◌, refl, sym, ap, ◌∙◌, subst}
+use mathlib.Core.Bool.{true}
 use mathlib.Core.List.{List}
-use Prim.Native.Nat.{ℕ, ◌+◌, ◌%◌}
+use Prim.Native.Nat.{ℕ, ◌+◌, ◌-◌, ◌%◌, ◌≤◌}
 use native.Mathlib.Omega.{arith}
-use borrow.Author.Rules.{rules}
-use borrow.Author.Tests.{not-true, not-false}
+use lib.ListN.{length}
+use Rattle.std.proofs.lemmas.Result.{err_from_is_err_and}
 use Rattle.meaning.specs.Bytes.{number_at}
-use Rattle.blocks.specs.Seen.{refusing, going, as-known}
-use Rattle.blocks.specs.Blocks.{stack_bytes, three-off, stack-short, stack-bad, stack-long, stack-none, stack-refused, stack-there}
+use Rattle.blocks.specs.Seen.{place, Leaves}
+use Rattle.laws.specs.Reasons.{number-some}
+use Rattle.blocks.specs.Blocks.{stack_bytes, three-off, sized_place, sized-size, filled_answer, stack-short, stack-part, stack-none, stack-refused, stack-there}
 use Rattle.blocks.proofs.stack.Goals as goal
 
-pub returns-then-not-on : goal.returns-then-not-on
-returns-then-not-on c = let a = c.args in let xs : List ℕ = a.s.now in let old : _ × _ = as-known stack_bytes xs a.at _ false a.on c.if-not-on.true (going xs _ a.at a.at (omega arith) (three-off xs _ _ _ a.at)) in record { leaves = old.0; at_in_bounds = old.1 }
+pub returns-then-not-on-clause-leaves : goal.returns-then-not-on-clause-leaves
+returns-then-not-on-clause-leaves c = let a = c.args in rw c.if-not-on.true (three-off a.s.now _ _ _ a.at)
 
-pub returns-then-left-lt8 : goal.returns-then-left-lt8
-returns-then-left-lt8 c = let a = c.args in let xs : List ℕ = a.s.now in let old : _ × _ = as-known stack_bytes xs a.at _ true a.on c.if-not-on.false (refusing xs _ a.at _ 30 c.refused.ensures (λ q. omega (arith, q)) (stack-short xs a.at (omega arith))) in record { leaves = old.0; at_in_bounds = old.1 }
+pub returns-in_err-n-clause-leaves : goal.returns-in_err-n-clause-leaves
+returns-in_err-n-clause-leaves c =
+    let p = err_from_is_err_and c.from_residual.result c.from_residual.ensures.1 in
+    rw (p.1, p.2, c.in_err-n.ensures.0, c.if-not-on.false) (stack-short c.args.s.now c.args.at c.in_err-n.ensures.1)
 
-pub returns-then-n-ne0 : goal.returns-then-n-ne0
-returns-then-n-ne0 c = let a = c.args in let xs : List ℕ = a.s.now in
-    let e = c.size8-n.ensures in let old : _ × _ = as-known stack_bytes xs a.at _ true a.on c.if-not-on.false
-    (refusing xs _ a.at _ 32 c.refused-then-n-ne0.ensures (λ q. omega (arith, q)) (stack-bad xs a.at (omega arith) (λ q. c.if-n-ne0.true (omega (arith, e, q))))) in record { leaves = old.0; at_in_bounds = old.1 }
+pub returns-in_err-end-clause-leaves : goal.returns-in_err-end-clause-leaves
+returns-in_err-end-clause-leaves c =
+    let p = err_from_is_err_and c.from_residual-in_err-end.result c.from_residual-in_err-end.ensures.1 in
+    rw (p.1, p.2, c.if-not-on.false) (stack-part c.args.s.now c.args.at _ c.in_ok-n.ensures.0 c.in_ok-n.ensures.1 _ c.in_err-end.ensures (number-some _)).0
 
-pub returns-then-left-n : goal.returns-then-left-n
-returns-then-left-n c = let a = c.args in let xs : List ℕ = a.s.now in
-    let e = c.size8-n.ensures in
-    let m : (number_at 8 xs a.at + 8) % 8 ≡ 0 = omega (arith, e, c.if-n-ne0.false) in let old : _ × _ = as-known stack_bytes xs a.at _ true a.on c.if-not-on.false
-    (refusing xs _ a.at _ 30 c.refused-then-left-n.ensures (λ q. omega (arith, q)) (stack-long xs a.at (omega arith) m (omega (arith, e)))) in record { leaves = old.0; at_in_bounds = old.1 }
+-- the size, where its bytes end
+ends : (xs : List ℕ) (at n end : ℕ) → n ≡ number_at 8 xs at → place end 0 ≡ sized_place at (length xs - at) 8 n
+    → ((number_at 8 xs at + 8) % 8 ≡ 0) × (number_at 8 xs at ≤ length xs - (at + 8)) × (end ≡ at + 8 + n)
+ends xs at n end e p =
+    let g = sized-size at (length xs - at) 8 n _ p refl in
+    (subst (λ (i : ℕ). (i + 8) % 8 ≡ 0) e g.0, omega (arith, e, g.1), g.2)
 
-pub returns-then-n-eq0 : goal.returns-then-n-eq0
-returns-then-n-eq0 c = let a = c.args in let xs : List ℕ = a.s.now in
-    let e = c.size8-n.ensures in let old : _ × _ = as-known stack_bytes xs a.at _ true a.on c.if-not-on.false
-    (going xs _ a.at _ (omega arith) (stack-none xs a.at (omega arith) (sym e ∙ c.if-n-eq0.true))) in record { leaves = old.0; at_in_bounds = old.1 }
+pub returns-then-n-eq0-clause-leaves : goal.returns-then-n-eq0-clause-leaves
+returns-then-n-eq0-clause-leaves c =
+    let xs : List ℕ = c.args.s.now in
+    let g = ends xs c.args.at _ _ c.in_ok-n.ensures.1 c.in_ok-end.ensures in
+    let z : number_at 8 xs c.args.at ≡ 0 = sym c.in_ok-n.ensures.1 ∙ c.if-n-eq0.true in
+    let e : c.in_ok-end.end ≡ c.args.at + 8 = omega (arith, g.2, c.if-n-eq0.true) in
+    rw (c.if-not-on.false, e) (stack-none xs c.args.at (omega (arith, c.in_ok-n.ensures.0)) z)
 
-pub returns-then-why-ne0 : goal.returns-then-why-ne0
-returns-then-why-ne0 c = let a = c.args in let xs : List ℕ = a.s.now in
-    let e = c.size8-n.ensures in
-    let m : (number_at 8 xs a.at + 8) % 8 ≡ 0 = omega (arith, e, c.if-n-ne0.false) in
-    let w = c.filled-why.result in let old : _ × _ = as-known stack_bytes xs a.at _ true a.on c.if-not-on.false
-    (refusing xs _ a.at _ w c.refused-then-why-ne0.ensures c.if-why-ne0.true
-    (stack-refused xs a.at c.size8-n.result w (sym e) (omega arith) m (omega (arith, e)) c.if-n-eq0.false c.filled-why.ensures c.if-why-ne0.true)) in record { leaves = old.0; at_in_bounds = old.1 }
+-- inside the record
+inside : (xs : List ℕ) (at n end : ℕ) → at + 8 ≤ length xs → n ≡ number_at 8 xs at → place end 0 ≡ sized_place at (length xs - at) 8 n → end ≤ length xs
+inside xs at n end h e p = let g = ends xs at n end e p in omega (arith, g.1, g.2, h, e)
 
-pub returns : goal.returns
-returns c = let a = c.args in let xs : List ℕ = a.s.now in
-    let e = c.size8-n.ensures in
-    let m : (number_at 8 xs a.at + 8) % 8 ≡ 0 = omega (arith, e, c.if-n-ne0.false) in let old : _ × _ = as-known stack_bytes xs a.at _ true a.on c.if-not-on.false
-    (let t = stack-there xs a.at c.size8-n.result c.filled-why.result (sym e) (omega arith) m (omega (arith, e)) c.if-n-eq0.false c.filled-why.ensures c.if-why-ne0.false in going xs _ a.at _ t.1 t.0) in record { leaves = old.0; at_in_bounds = old.1 }
+pub returns-then-n-eq0-clause-at_in_bounds : goal.returns-then-n-eq0-clause-at_in_bounds
+returns-then-n-eq0-clause-at_in_bounds c = λ q. inside c.args.s.now c.args.at _ _ c.in_ok-n.ensures.0 c.in_ok-n.ensures.1 c.in_ok-end.ensures
+
+pub filled-requires : goal.filled-requires
+filled-requires c = inside c.args.s.now c.args.at _ _ c.in_ok-n.ensures.0 c.in_ok-n.ensures.1 c.in_ok-end.ensures
+
+pub returns-in_err-filled-clause-leaves : goal.returns-in_err-filled-clause-leaves
+returns-in_err-filled-clause-leaves c =
+    let xs : List ℕ = c.args.s.now in
+    let p = err_from_is_err_and c.from_residual-in_err-filled.result c.from_residual-in_err-filled.ensures.1 in
+    let n = c.in_ok-n.ensures.1 in
+    let g = ends xs c.args.at _ _ n c.in_ok-end.ensures in
+    let w = ap (λ (k : ℕ). filled_answer xs k c.in_ok-n.n) g.2 in
+    rw (p.1, p.2, c.if-not-on.false)
+    (stack-refused xs c.args.at c.in_ok-n.n _ (sym n) (omega (arith, c.in_ok-n.ensures.0)) g.0 g.1 c.if-n-eq0.false (c.in_err-filled.ensures ∙ w) (number-some _))
+
+-- what stands after the filled length
+there : (xs : List ℕ) (at n end : ℕ) → at + 8 ≤ length xs → n ≡ number_at 8 xs at → (n ≡ 0 → ⊥) → place end 0 ≡ sized_place at (length xs - at) 8 n
+    → 0 ≡ filled_answer xs end n → Leaves xs (stack_bytes true) at (place (end + 8) 0) × (end + 8 ≤ length xs)
+there xs at n end h e z p f =
+    let g = ends xs at n end e p in
+    let w = ap (λ (i : ℕ). filled_answer xs i n) g.2 in
+    subst (λ (i : ℕ). Leaves xs (stack_bytes true) at (place (i + 8) 0) × (i + 8 ≤ length xs)) (sym g.2)
+    (stack-there xs at n 0 (sym e) (omega (arith, h)) g.0 g.1 z (f ∙ w) refl)
+
+pub overflow_add-result : goal.overflow_add-result
+overflow_add-result c =
+    let t = there c.args.s.now c.args.at _ _ c.in_ok-n.ensures.0 c.in_ok-n.ensures.1 c.if-n-eq0.false c.in_ok-end.ensures c.in_ok-filled.ensures in omega (arith, t.1)
+
+pub returns-clause-leaves : goal.returns-clause-leaves
+returns-clause-leaves c =
+    rw c.if-not-on.false (there c.args.s.now c.args.at _ _ c.in_ok-n.ensures.0 c.in_ok-n.ensures.1 c.if-n-eq0.false c.in_ok-end.ensures c.in_ok-filled.ensures).0
+
+pub returns-clause-at_in_bounds : goal.returns-clause-at_in_bounds
+returns-clause-at_in_bounds c =
+    λ q. (there c.args.s.now c.args.at _ _ c.in_ok-n.ensures.0 c.in_ok-n.ensures.1 c.if-n-eq0.false c.in_ok-end.ensures c.in_ok-filled.ensures).1

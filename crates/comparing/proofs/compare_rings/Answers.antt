@@ -1,24 +1,22 @@
--- `comparing::compare_rings` meets its contract: after n turns n pairs are equal, and what is still to come is the whole; the loop over fields says of a
--- pair what its fields say.
-use Rattle.std.proofs.Common.{◌≡◌, ℕ, ◌-◌, Bool, true, ◌&&◌, List, length, sym, ap, ◌∙◌, ap₂, le_trans, le_of_lt, add-one, arith}
-use borrow.Author.Tests.{not-true, not-false}
+-- `comparing::compare_rings` meets its contract: after n turns n pairs are equal, and what is still to come is the whole.
+use Rattle.std.proofs.Common.{◌≡◌, ℕ, Bool, true, List, length, refl, sym, ap, ◌∙◌, ap₂, le_trans, le_of_lt, add-one, arith}
+use Rattle.std.specs.Prelude.{Ok, Some}
 use Rattle.meaning.specs.declared.Event.{Event}
-use Rattle.meaning.specs.declared.Frame.{Frame}
+use Rattle.meaning.specs.States.{Frame}
 use Rattle.meaning.specs.Editions.{editions, known, allowed}
 use Rattle.meaning.specs.Ring.{asking_with, frame, record_at, scratch_after, shown}
-use Rattle.meaning.specs.Events.{events_of, asked_events, sound}
-use Rattle.laws.specs.Bytes.{and-true}
+use Rattle.meaning.specs.Events.{asked_events, sound}
+use Rattle.meaning.specs.Reasons.{frame_of}
 use Rattle.laws.specs.Matched.{sound-marked}
 use Rattle.laws.proofs.Refused.{going-sound}
-use Rattle.laws.specs.Rings.{Going, shown-record, scratch-length}
+use Rattle.laws.specs.Rings.{Going, shown-record}
 use Rattle.laws.proofs.Framing.{frame-going}
+use Rattle.laws.specs.Numbers.{small_of}
 use Rattle.runs.specs.Cutting.{framed}
 use Rattle.runs.proofs.Forward.{going-framed}
 use Rattle.compare.specs.Fields.{Reads, fields}
 use Rattle.compare.specs.Compared.{alike, agree, event_reads}
 use Rattle.compare.proofs.Here.{here-start, here-ends, here-pair, here-same, ensured-same}
-use Rattle.laws.specs.Numbers.{small_of}
-use Rattle.pair_fields.specs.Fields.{stands_on, stands-ended, stands-other}
 use Rattle.comparing.proofs.compare_rings.Goals as goal
 
 -- one side: a frame that was asked with what both tests told, from t on, with the scratch s
@@ -41,149 +39,108 @@ module _ (limit e : ℕ) (es : List Event) (ring : List ℕ) (head t : ℕ) (s :
     whole : framed (record_at ring f.place f.size) ≡ true
     whole = (going-framed (asked_events limit editions e es) ring head t 1 16 (length s) f going).1
 
-pub records-init : goal.records-init
-records-init c =
+pub loop-pair-init : goal.loop-pair-init
+loop-pair-init c =
     let a = c.args in
-    here-start (event_reads (known editions a.e) (events_of a.rows.now)) (asked_events a.limit editions a.e (events_of a.rows.now)) a.left.now a.right.now a.lhead a.rhead a.ltail a.rtail a.lscratch.now a.rscratch.now
+    here-start (event_reads (known editions a.e) a.events.now) (asked_events a.limit editions a.e a.events.now) a.left.now a.right.now a.lhead a.rhead a.ltail a.rtail a.lscratch.now a.rscratch.now
     (small_of a.left.now c.type_inv.left) (small_of a.right.now c.type_inv.right) c.ranges.lhead.fits c.ranges.rhead.fits
     c.ranges.ltail.fits c.ranges.rtail.fits
 
-pub shape_of-lscratch-then-not-both : goal.shape_of-lscratch-then-not-both
-shape_of-lscratch-then-not-both c = c.records.invariant.u-long
-
-pub shape_of-rscratch-then-not-both : goal.shape_of-rscratch-then-not-both
-shape_of-rscratch-then-not-both c = c.records.invariant.v-long
-
-pub returns-then-not-both : goal.returns-then-not-both
-returns-then-not-both c =
+pub returns-in-Err : goal.returns-in-Err
+returns-in-Err c =
     let a = c.args in
-    let l = c.records in
-    let es = events_of a.rows.now in
-    let f = c.next_frame-f in
-    let g = c.next_frame-g in
-    let p = asked a.limit a.e es a.left.now a.lhead l.tl l.lscratch f.result _ _ f.ensures c.allowed-ok.ensures c.sound-table.ensures in
-    let q = asked a.limit a.e es a.right.now a.rhead l.tr l.rscratch g.result _ _ g.ensures c.allowed-ok.ensures c.sound-table.ensures in
+    let l = c.loop-pair in
+    let es = a.events.now in
+    let f = c.next_frame-from_left in
+    let g = c.next_frame-from_right in
+    let p = asked a.limit a.e es a.left.now a.lhead l.tl l.lscratch (frame_of f.result) _ _ f.ensures c.allowed-ok.ensures c.sound-table.ensures in
+    let q = asked a.limit a.e es a.right.now a.rhead l.tr l.rscratch (frame_of g.result) _ _ g.ensures c.allowed-ok.ensures c.sound-table.ensures in
     let r =
     here-ends (event_reads (known editions a.e) es) (asked_events a.limit editions a.e es) a.left.now a.right.now a.lhead a.rhead a.ltail a.rtail a.lscratch.now a.rscratch.now
     (small_of a.left.now c.type_inv.left) (small_of a.right.now c.type_inv.right) c.ranges.lhead.fits c.ranges.rhead.fits
-    l.n l.tl l.tr l.lscratch l.rscratch f.result g.result c.ended.result l.invariant p q c.if-not-both.true c.ended.ensures in record { value = r.result; lscratch_after = r.left; rscratch_after = r.right }
+    l.n l.tl l.tr l.lscratch l.rscratch (frame_of f.result) (frame_of g.result) c.in-Err.told l.invariant p q c.in-Err.ensures.0 c.in-Err.ensures.1 in record { value = r.result; lscratch_after = r.left; rscratch_after = r.right }
 
 -- a frame that goes on has a sound table, and its record is whole
-pub look-p-requires : goal.look-p-requires
-look-p-requires c =
+pub differing-requires : goal.differing-requires
+differing-requires c =
     let a = c.args in
-    let l = c.records in
-    let es = events_of a.rows.now in
-    let f = c.next_frame-f in
-    let g = c.next_frame-g in
-    let b = and-true f.result.go g.result.go c.if-not-both.false in
-    let p = asked a.limit a.e es a.left.now a.lhead l.tl l.lscratch f.result _ _ f.ensures c.allowed-ok.ensures c.sound-table.ensures in
-    let q = asked a.limit a.e es a.right.now a.rhead l.tr l.rscratch g.result _ _ g.ensures c.allowed-ok.ensures c.sound-table.ensures in
-    let x = bytes a.limit a.e es a.left.now a.lhead l.tl l.lscratch f.result p b.0 _ _ c.shown-x.ensures.result_value c.gather.ensures in
-    let y = bytes a.limit a.e es a.right.now a.rhead l.tr l.rscratch g.result q b.1 _ _ c.shown-y.ensures.result_value c.gather-in-records.ensures in
-    let t = going-sound _ _ _ _ _ _ _ (ap (λ (z : Frame). z.go) (sym p) ∙ b.0) in
+    let l = c.loop-pair in
+    let es = a.events.now in
+    let f = c.next_frame-from_left in
+    let g = c.next_frame-from_right in
+    let F : Frame = frame_of (Ok (Some c.in-Ok.pair.0)) in
+    let G : Frame = frame_of (Ok (Some c.in-Ok.pair.1)) in
+    let p = asked a.limit a.e es a.left.now a.lhead l.tl l.lscratch F _ _ (ap frame_of (sym c.in-Ok.ensures.0) ∙ f.ensures) c.allowed-ok.ensures c.sound-table.ensures in
+    let q = asked a.limit a.e es a.right.now a.rhead l.tr l.rscratch G _ _ (ap frame_of (sym c.in-Ok.ensures.1) ∙ g.ensures) c.allowed-ok.ensures c.sound-table.ensures in
+    let x = bytes a.limit a.e es a.left.now a.lhead l.tl l.lscratch F p refl _ _ c.record_shown-x.ensures.result_value c.gather.ensures in
+    let y = bytes a.limit a.e es a.right.now a.rhead l.tr l.rscratch G q refl _ _ c.record_shown-y.ensures.result_value c.gather-in-loop-pair.ensures in
+    let t = going-sound _ _ _ _ _ _ _ (ap (λ (z : Frame). z.go) (sym p)) in
     record {
       x_value = (
-        ap (λ (z : List ℕ). framed z) x ∙ whole a.limit a.e es a.left.now a.lhead l.tl l.lscratch f.result p b.0,
-        ap (λ (z : List ℕ). framed z) y ∙ whole a.limit a.e es a.right.now a.rhead l.tr l.rscratch g.result q b.1,
+        ap (λ (z : List ℕ). framed z) x ∙ whole a.limit a.e es a.left.now a.lhead l.tl l.lscratch F p refl,
+        ap (λ (z : List ℕ). framed z) y ∙ whole a.limit a.e es a.right.now a.rhead l.tr l.rscratch G q refl,
       );
-      rows_value = sound-marked a.limit es t;
+      events_value = sound-marked a.limit es t;
     }
 
-pub loop-p-init : goal.loop-p-init
-loop-p-init c = c.look-p.ensures
-
-pub next-p-requires : goal.next-p-requires
-next-p-requires c = record { ready = c.loop-p.invariant.ready c.if-p.false; done_value = c.if-p.false }
-
-pub loop-p-smaller : goal.loop-p-smaller
-loop-p-smaller c = c.next-p.ensures.result_bound
-
-pub loop-p-preserved : goal.loop-p-preserved
-loop-p-preserved c = stands_on c.shown-x.result.now c.shown-y.result.now _ _ c.loop-p.p c.next-p.result c.loop-p.invariant c.next-p.ensures.fields_stand
-
-pub overflow_add-n : goal.overflow_add-n
-overflow_add-n c =
+pub returns-in-Some : goal.returns-in-Some
+returns-in-Some c =
     let a = c.args in
-    let l = c.records in
-    let es = events_of a.rows.now in
+    let l = c.loop-pair in
+    let es = a.events.now in
     let R : Reads = event_reads (known editions a.e) es in
-    let f = c.next_frame-f in
-    let g = c.next_frame-g in
-    let b = and-true f.result.go g.result.go c.if-not-both.false in
-    let p = asked a.limit a.e es a.left.now a.lhead l.tl l.lscratch f.result _ _ f.ensures c.allowed-ok.ensures c.sound-table.ensures in
-    let q = asked a.limit a.e es a.right.now a.rhead l.tr l.rscratch g.result _ _ g.ensures c.allowed-ok.ensures c.sound-table.ensures in
+    let f = c.next_frame-from_left in
+    let g = c.next_frame-from_right in
+    let F : Frame = frame_of (Ok (Some c.in-Ok.pair.0)) in
+    let G : Frame = frame_of (Ok (Some c.in-Ok.pair.1)) in
+    let p = asked a.limit a.e es a.left.now a.lhead l.tl l.lscratch F _ _ (ap frame_of (sym c.in-Ok.ensures.0) ∙ f.ensures) c.allowed-ok.ensures c.sound-table.ensures in
+    let q = asked a.limit a.e es a.right.now a.rhead l.tr l.rscratch G _ _ (ap frame_of (sym c.in-Ok.ensures.1) ∙ g.ensures) c.allowed-ok.ensures c.sound-table.ensures in
     let h = here-pair R (asked_events a.limit editions a.e es) a.left.now a.right.now a.lhead a.rhead a.ltail a.rtail a.lscratch.now a.rscratch.now
     (small_of a.left.now c.type_inv.left) (small_of a.right.now c.type_inv.right) c.ranges.lhead.fits c.ranges.rhead.fits
-    l.n l.tl l.tr l.lscratch l.rscratch f.result g.result l.invariant p q b.0 b.1 in
-    let w = going a.limit a.e es a.left.now a.lhead l.tl l.lscratch f.result p b.0 in
-    let n = h.count in
-    let k = w.length_high in
-    omega (arith, n, k)
+    l.n l.tl l.tr l.lscratch l.rscratch F G l.invariant p q refl refl in
+    let x = bytes a.limit a.e es a.left.now a.lhead l.tl l.lscratch F p refl _ _ c.record_shown-x.ensures.result_value c.gather.ensures in
+    let y = bytes a.limit a.e es a.right.now a.rhead l.tr l.rscratch G q refl _ _ c.record_shown-y.ensures.result_value c.gather-in-loop-pair.ensures in
+    let s = ap₂ (λ (u v : List ℕ). alike (fields R u) (fields R v)) (sym x) (sym y) ∙ c.in-Some.ensures.0 in
+    let t = ap₂ (λ (u v : List ℕ). agree (fields R u) (fields R v)) (sym x) (sym y) ∙ c.in-Some.ensures.1 in
+    let r = ensured-same R (asked_events a.limit editions a.e es) a.left.now a.right.now a.lhead a.rhead a.ltail a.rtail a.lscratch.now a.rscratch.now c.tell.result _ _ _ _
+    (sym c.gather.ensures) (sym c.gather-in-loop-pair.ensures) (h.differ s _ t c.tell.result c.tell.ensures) in record { value = r.result; lscratch_after = r.left; rscratch_after = r.right }
 
-pub records-smaller : goal.records-smaller
-records-smaller c =
+pub loop-pair-smaller : goal.loop-pair-smaller
+loop-pair-smaller c =
     let a = c.args in
-    let l = c.records in
-    let es = events_of a.rows.now in
+    let l = c.loop-pair in
+    let es = a.events.now in
     let R : Reads = event_reads (known editions a.e) es in
-    let f = c.next_frame-f in
-    let g = c.next_frame-g in
-    let b = and-true f.result.go g.result.go c.if-not-both.false in
-    let p = asked a.limit a.e es a.left.now a.lhead l.tl l.lscratch f.result _ _ f.ensures c.allowed-ok.ensures c.sound-table.ensures in
-    let q = asked a.limit a.e es a.right.now a.rhead l.tr l.rscratch g.result _ _ g.ensures c.allowed-ok.ensures c.sound-table.ensures in
+    let f = c.next_frame-from_left in
+    let g = c.next_frame-from_right in
+    let F : Frame = frame_of (Ok (Some c.in-Ok.pair.0)) in
+    let G : Frame = frame_of (Ok (Some c.in-Ok.pair.1)) in
+    let p = asked a.limit a.e es a.left.now a.lhead l.tl l.lscratch F _ _ (ap frame_of (sym c.in-Ok.ensures.0) ∙ f.ensures) c.allowed-ok.ensures c.sound-table.ensures in
+    let q = asked a.limit a.e es a.right.now a.rhead l.tr l.rscratch G _ _ (ap frame_of (sym c.in-Ok.ensures.1) ∙ g.ensures) c.allowed-ok.ensures c.sound-table.ensures in
     let h = here-pair R (asked_events a.limit editions a.e es) a.left.now a.right.now a.lhead a.rhead a.ltail a.rtail a.lscratch.now a.rscratch.now
     (small_of a.left.now c.type_inv.left) (small_of a.right.now c.type_inv.right) c.ranges.lhead.fits c.ranges.rhead.fits
-    l.n l.tl l.tr l.lscratch l.rscratch f.result g.result l.invariant p q b.0 b.1 in
+    l.n l.tl l.tr l.lscratch l.rscratch F G l.invariant p q refl refl in
     let n = h.count in
     omega (arith, n)
 
-pub records-preserved : goal.records-preserved
-records-preserved c =
+pub loop-pair-preserved : goal.loop-pair-preserved
+loop-pair-preserved c =
     let a = c.args in
-    let l = c.records in
-    let es = events_of a.rows.now in
+    let l = c.loop-pair in
+    let es = a.events.now in
     let R : Reads = event_reads (known editions a.e) es in
-    let f = c.next_frame-f in
-    let g = c.next_frame-g in
-    let b = and-true f.result.go g.result.go c.if-not-both.false in
-    let p = asked a.limit a.e es a.left.now a.lhead l.tl l.lscratch f.result _ _ f.ensures c.allowed-ok.ensures c.sound-table.ensures in
-    let q = asked a.limit a.e es a.right.now a.rhead l.tr l.rscratch g.result _ _ g.ensures c.allowed-ok.ensures c.sound-table.ensures in
+    let f = c.next_frame-from_left in
+    let g = c.next_frame-from_right in
+    let F : Frame = frame_of (Ok (Some c.in-Ok.pair.0)) in
+    let G : Frame = frame_of (Ok (Some c.in-Ok.pair.1)) in
+    let p = asked a.limit a.e es a.left.now a.lhead l.tl l.lscratch F _ _ (ap frame_of (sym c.in-Ok.ensures.0) ∙ f.ensures) c.allowed-ok.ensures c.sound-table.ensures in
+    let q = asked a.limit a.e es a.right.now a.rhead l.tr l.rscratch G _ _ (ap frame_of (sym c.in-Ok.ensures.1) ∙ g.ensures) c.allowed-ok.ensures c.sound-table.ensures in
     let h = here-pair R (asked_events a.limit editions a.e es) a.left.now a.right.now a.lhead a.rhead a.ltail a.rtail a.lscratch.now a.rscratch.now
     (small_of a.left.now c.type_inv.left) (small_of a.right.now c.type_inv.right) c.ranges.lhead.fits c.ranges.rhead.fits
-    l.n l.tl l.tr l.lscratch l.rscratch f.result g.result l.invariant p q b.0 b.1 in
-    let x = bytes a.limit a.e es a.left.now a.lhead l.tl l.lscratch f.result p b.0 _ _ c.shown-x.ensures.result_value c.gather.ensures in
-    let y = bytes a.limit a.e es a.right.now a.rhead l.tr l.rscratch g.result q b.1 _ _ c.shown-y.ensures.result_value c.gather-in-records.ensures in
-    let s = stands-ended c.shown-x.result.now c.shown-y.result.now _ _ c.loop-p.p c.loop-p.invariant (not-false _ c.if-not-p.false) c.if-p.true in
-    let t = ap₂ (λ (u v : List ℕ). alike (fields R u) (fields R v)) (sym x) (sym y) ∙ s in
+    l.n l.tl l.tr l.lscratch l.rscratch F G l.invariant p q refl refl in
+    let x = bytes a.limit a.e es a.left.now a.lhead l.tl l.lscratch F p refl _ _ c.record_shown-x.ensures.result_value c.gather.ensures in
+    let y = bytes a.limit a.e es a.right.now a.rhead l.tr l.rscratch G q refl _ _ c.record_shown-y.ensures.result_value c.gather-in-loop-pair.ensures in
+    let t = ap₂ (λ (u v : List ℕ). alike (fields R u) (fields R v)) (sym x) (sym y) ∙ c.in_default.ensures in
     here-same R (asked_events a.limit editions a.e es) a.left.now a.right.now a.lhead a.rhead a.ltail a.rtail a.lscratch.now a.rscratch.now
-    _ _ _ _ _ _ _ _ _ _ (sym (add-one l.n)) (sym c.wrapping_add_u64-tl.ensures.value) (sym c.wrapping_add_u64-tr.ensures.value) (sym c.gather.ensures) (sym c.gather-in-records.ensures)
+    _ _ _ _ _ _ _ _ _ _ (sym (add-one l.n)) refl refl (sym c.gather.ensures) (sym c.gather-in-loop-pair.ensures)
     (h.again t)
-
-pub shape_of-lscratch : goal.shape_of-lscratch
-shape_of-lscratch c = ap length c.gather.ensures ∙ scratch-length c.args.left.now c.next_frame-f.result.place c.next_frame-f.result.size c.records.lscratch ∙ c.records.invariant.u-long
-
-pub shape_of-rscratch : goal.shape_of-rscratch
-shape_of-rscratch c = ap length c.gather-in-records.ensures ∙ scratch-length c.args.right.now c.next_frame-g.result.place c.next_frame-g.result.size c.records.rscratch ∙ c.records.invariant.v-long
-
-pub returns : goal.returns
-returns c =
-    let a = c.args in
-    let l = c.records in
-    let es = events_of a.rows.now in
-    let R : Reads = event_reads (known editions a.e) es in
-    let f = c.next_frame-f in
-    let g = c.next_frame-g in
-    let b = and-true f.result.go g.result.go c.if-not-both.false in
-    let p = asked a.limit a.e es a.left.now a.lhead l.tl l.lscratch f.result _ _ f.ensures c.allowed-ok.ensures c.sound-table.ensures in
-    let q = asked a.limit a.e es a.right.now a.rhead l.tr l.rscratch g.result _ _ g.ensures c.allowed-ok.ensures c.sound-table.ensures in
-    let h = here-pair R (asked_events a.limit editions a.e es) a.left.now a.right.now a.lhead a.rhead a.ltail a.rtail a.lscratch.now a.rscratch.now
-    (small_of a.left.now c.type_inv.left) (small_of a.right.now c.type_inv.right) c.ranges.lhead.fits c.ranges.rhead.fits
-    l.n l.tl l.tr l.lscratch l.rscratch f.result g.result l.invariant p q b.0 b.1 in
-    let x = bytes a.limit a.e es a.left.now a.lhead l.tl l.lscratch f.result p b.0 _ _ c.shown-x.ensures.result_value c.gather.ensures in
-    let y = bytes a.limit a.e es a.right.now a.rhead l.tr l.rscratch g.result q b.1 _ _ c.shown-y.ensures.result_value c.gather-in-records.ensures in
-    let d = stands-other c.shown-x.result.now c.shown-y.result.now _ _ c.loop-p.p c.loop-p.invariant (not-true _ c.if-not-p.true) in
-    let s = ap₂ (λ (u v : List ℕ). alike (fields R u) (fields R v)) (sym x) (sym y) ∙ d.0 in
-    let t = ap₂ (λ (u v : List ℕ). agree (fields R u) (fields R v)) (sym x) (sym y) ∙ d.1 in
-    let r = ensured-same R (asked_events a.limit editions a.e es) a.left.now a.right.now a.lhead a.rhead a.ltail a.rtail a.lscratch.now a.rscratch.now c.tell.result _ _ _ _
-    (sym c.gather.ensures) (sym c.gather-in-records.ensures) (h.differ s _ t c.tell.result c.tell.ensures) in record { value = r.result; lscratch_after = r.left; rscratch_after = r.right }

@@ -1,7 +1,6 @@
 -- The place is below the number of slots; the slot there is the identifier's, and tells the answer.
 use native.Mathlib.Omega.{arith}
 use lib.ListN.{length}
-use borrow.Author.Rules.{rules}
 use Rattle.slots.specs.Slots.{slot-inside}
 use Rattle.event_plan.proofs.judge.Goals as goal
 

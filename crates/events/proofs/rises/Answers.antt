@@ -1,36 +1,17 @@
--- What is left from place i on decides: one that does not exceed the one before it ends the walk.
-use mathlib.Core.Path.{◌≡◌, refl, sym, ◌∙◌}
-use mathlib.Core.List.{[]}
-use Prim.Native.Nat.{◌+◌, ◌-◌, ◌<◌, ◌≤◌}
-use native.Mathlib.Omega.{arith}
-use lib.ListN.{length, drop}
-use borrow.Author.Rules.{rules}
-use Rattle.event_laws.specs.Rising.{rises}
-use Rattle.event_laws.specs.Search.{keys, keys_length, key-at, rises-not, rises_next, rises-end}
+-- Each event and the next.
+use Rattle.std.proofs.Common.{rules, ◌∙◌, ltb}
+use borrow.Author.Tests.{tests}
+use Rattle.std.proofs.lemmas.Iterator.{YieldsList-from_slice, YieldsList-from_zip}
+use Rattle.std.proofs.lemmas.Iterator.Adapters.{YieldsList-from_skip}
+use Rattle.std.proofs.lemmas.Iterator.Search.{all_from_yields_List}
+use Rattle.meaning.specs.declared.Event.{Event}
+use Rattle.events.proofs.Laws.{all-rise}
 use Rattle.events.proofs.rises.Goals as goal
-
-pub loop-i-init : goal.loop-i-init
-loop-i-init c = (refl, omega arith)
-
-pub returns-then-rows-i : goal.returns-then-rows-i
-returns-then-rows-i c =
-    let k = c.args.rows.now in
-    let i = c.loop-i.i in
-    let m : i + 1 < length k = c.loop-i-test.true in
-    sym (c.loop-i.invariant.0 ∙ rises-not (keys k) i (omega (arith, keys_length k))
-    (omega (arith, c.if-rows-i.true, key-at k i [] (omega arith), key-at k (i + 1) [] m)))
-
-pub loop-i-preserved : goal.loop-i-preserved
-loop-i-preserved c =
-    let k = c.args.rows.now in
-    let i = c.loop-i.i in
-    let m : i + 1 < length k = c.loop-i-test.true in (
-      c.loop-i.invariant.0 ∙ rises_next (keys k) i (omega (arith, keys_length k))
-          (omega (arith, c.if-rows-i.false, key-at k i [] (omega arith), key-at k (i + 1) [] m)),
-      omega arith,
-    )
 
 pub returns : goal.returns
 returns c =
-    let k = c.args.rows.now in
-    sym (c.loop-i.invariant.0 ∙ rises-end (keys k) c.loop-i.i (omega (arith, keys_length k)))
+    let es = c.args.events.now in
+    all_from_yields_List (λ (pair : Event × Event). ltb pair.0.identifier pair.1.identifier) c.all.new.self _ c.all.result c.all.ensures.ran
+    (YieldsList-from_zip {s = c.zip.result} (YieldsList-from_slice es (search rules)) (YieldsList-from_skip 1 (YieldsList-from_slice es (search rules)) (search rules)))
+    (λ x b q k. search (rules, tests))
+    ∙ all-rise es

@@ -2,7 +2,7 @@
 -- a name has none. Assumes nothing.
 use mathlib.Core.Path.{◌≡◌, refl, sym, ap, ◌∙◌}
 use mathlib.Core.List.{List}
-use Prim.Native.Nat.{ℕ, ◌-◌, ◌<◌, ◌≤◌}
+use Prim.Native.Nat.{ℕ, ◌-◌, ◌≤◌}
 use native.Mathlib.Omega.{arith}
 use lib.ListN.{length, set, take, drop}
 use lib.Seq.{length-take-le}
@@ -11,9 +11,8 @@ use Rattle.meaning.specs.Bytes.{stale}
 use Rattle.meaning.specs.Schema.{trailer}
 use Rattle.meaning.specs.Records.{room}
 use Rattle.record.specs.Into.{Accepted}
+use Rattle.record.specs.Flag.{byte_is, trailer-there, dirty-some, number_is, word_none, word-there, word_some}
 use Rattle.table.specs.Flags.{flag_at}
-use Rattle.record.specs.Flag.{trailer-there, dirty-some, number_is, word_none, word-there, word_some}
-use borrow.Author.Rules.{rules}
 use Rattle.fast_read.proofs.set_flag.Goals as goal
 
 -- eight bytes or more are before the trailer
@@ -21,16 +20,6 @@ long : (a : Attributes) (xs : List ℕ) (kind end : ℕ) → Accepted a xs kind 
 long a xs kind end g e =
     let h = trailer-there a xs kind g _ refl in
     (omega (arith, h, e), omega (arith, h, e))
-
--- the word is there
-there : (a : Attributes) (xs : List ℕ) (kind misc at : ℕ) → Accepted a xs kind → at ≡ flag_at kind → (at ≡ 0 → ⊥) → at < 56
-there a xs kind misc at g e n =
-    let h = word-there a xs kind g misc (λ z. n (e ∙ z)) in
-    omega (arith, h, e)
-
-pub returns-then-at-eq0 : goal.returns-then-at-eq0
-returns-then-at-eq0 c =
-    word_none c.args.a c.args.r.now c.args.kind c.requires.0 c.args.misc c.args.out.now c.requires.2 (sym c.flag_at-at.ensures ∙ c.if-at-eq0.true)
 
 pub slice_bounds-stale_from-end : goal.slice_bounds-stale_from-end
 slice_bounds-stale_from-end c = let h = long c.args.a c.args.r.now c.args.kind c.args.end c.requires.0 c.requires.1 in sym (length-take-le _ _ h.1)
@@ -44,24 +33,23 @@ stale_from-requires c =
     let l = length-take-le c.args.end c.args.r.now h.1 in
     omega (arith, h.0, l)
 
-pub offset_bounds-out-at : goal.offset_bounds-out-at
-offset_bounds-out-at c =
-    let h = there c.args.a c.args.r.now c.args.kind c.args.misc c.flag_at-at.result c.requires.0 c.flag_at-at.ensures c.if-at-eq0.false in
-    let l = c.requires.2 in
-    omega (arith, h, l)
-
 pub bounds-out-at : goal.bounds-out-at
 bounds-out-at c =
-    let h = there c.args.a c.args.r.now c.args.kind c.args.misc c.flag_at-at.result c.requires.0 c.flag_at-at.ensures c.if-at-eq0.false in
+    let f = c.in-Some.ensures in
+    let h = word-there c.args.a c.args.r.now c.args.kind c.requires.0 c.args.misc (λ z. omega (arith, f.value, f.some, z)) in
     let l = c.requires.2 in
-    omega (arith, h, l)
+    omega (arith, h, l, f.value)
 
-pub returns : goal.returns
-returns c =
-    let xs = c.args.r.now in
-    let e = c.flag_at-at.ensures in
-    let n : flag_at c.args.kind ≡ 0 → ⊥ = λ z. c.if-at-eq0.false (e ∙ z) in
+pub returns-in-Some : goal.returns-in-Some
+returns-in-Some c =
+    let a = c.args in
+    let xs = a.r.now in
+    let f = c.in-Some.ensures in
+    let n : flag_at a.kind ≡ 0 → ⊥ = λ z. omega (arith, f.value, f.some, z) in
     let d = c.stale_from.ensures ∙ ap (λ (k : ℕ). stale (drop (k - 8) (take k xs))) c.requires.1 in
-    let f = c.number.ensures ∙ number_is c.args.a xs c.args.kind c.requires.0 _ (dirty-some c.args.a xs c.args.kind c.requires.0 n _ refl _ d) in
-    ap (λ (k : ℕ). set c.args.out.now k c.number.result) e
-    ∙ word_some c.args.a xs c.args.kind c.requires.0 c.args.misc n c.args.out.now _ c.requires.2 f
+    ap (λ (k : ℕ). set a.out.now k c.from.result) f.value
+    ∙ word_some a.a xs a.kind c.requires.0 a.misc n a.out.now _ c.requires.2
+    (c.from.ensures ∙ byte_is c.stale_from.result ∙ number_is a.a xs a.kind c.requires.0 _ (dirty-some a.a xs a.kind c.requires.0 n _ refl _ d))
+
+pub returns-in_default : goal.returns-in_default
+returns-in_default c = word_none c.args.a c.args.r.now c.args.kind c.requires.0 c.args.misc c.args.out.now c.requires.2 (sym c.in_default.ensures.value)

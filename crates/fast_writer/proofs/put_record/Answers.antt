@@ -8,7 +8,6 @@ use Rattle.meaning.specs.Schema.{schema, trailer}
 use Rattle.laws.specs.Every.{trailer-fixed}
 use Rattle.laws.specs.Put.{length-put}
 use Rattle.fast_writer.proofs.Laws.{eight_fits, body-ready, tail-ready, record-put}
-use borrow.Author.Rules.{rules}
 use Rattle.fast_writer.proofs.put_record.Goals as goal
 
 pub header-requires : goal.header-requires

@@ -2,7 +2,6 @@
 use mathlib.Core.Path.{sym, ap}
 use native.Mathlib.Omega.{arith}
 use Rattle.meaning.specs.Values.{tell, words_of}
-use borrow.Author.Rules.{rules}
 use Rattle.fields.proofs.words_of.Goals as goal
 
 pub returns-in-Number : goal.returns-in-Number

@@ -5,12 +5,10 @@ use Prim.Native.Nat.{ℕ}
 use native.Mathlib.Omega.{arith}
 use lib.Dec.{eqb}
 use mathlib.Core.Bool.{cond}
-use borrow.Author.Tests.{not-true, not-false}
 use Rattle.meaning.specs.Bytes.{ones}
 use Rattle.meaning.specs.Items.{span, part, holds, counted, before}
 use Rattle.meaning.specs.Values.{tell, slot_shape}
 use Rattle.fills.proofs.Shapes.{off, has, room, one_word}
-use borrow.Author.Rules.{rules}
 use Rattle.fills.proofs.abi.Goals as goal
 
 pub returns-then-not-on : goal.returns-then-not-on

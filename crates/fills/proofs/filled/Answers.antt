@@ -4,13 +4,13 @@ use mathlib.Core.List.{[], ◌∷◌}
 use Prim.Native.Nat.{ℕ}
 use native.Mathlib.Omega.{arith}
 use lib.ListN.{length, take, drop}
-use borrow.Author.Tests.{not-true, not-false, ne_eqb}
+use borrow.Author.Tests.{ne_eqb}
 use Rattle.meaning.specs.declared.Shape.TheVariants.{Filled}
 use Rattle.meaning.specs.Bytes.{num}
+use Rattle.meaning.specs.Reasons.{cursor_of}
 use Rattle.meaning.specs.Items.{span, part, holds, counted, before}
 use Rattle.meaning.specs.Values.{tell, slot_shape}
 use Rattle.fills.proofs.Shapes.{unfilled, off, has, room, one_word}
-use borrow.Author.Rules.{rules}
 use Rattle.fills.proofs.filled.Goals as goal
 
 pub returns-then-not-on : goal.returns-then-not-on
@@ -35,5 +35,5 @@ pub returns : goal.returns
 unfolding span part tell slot_shape holds counted before
 returns c =
     let a = c.args in
-    let e : span Filled a.c (length (drop a.c.at a.s.now)) ≡ 8 = rw (ne_eqb a.c.n 0 c.if-c-eq0.false) in
+    let e : span Filled (cursor_of a.c) (length (drop a.c.at a.s.now)) ≡ 8 = rw (ne_eqb a.c.n 0 c.if-c-eq0.false) in
     one_word c.requires c.if-not-on.false (sym e) refl refl c.past.ensures refl (ap (λ (k : ℕ). num (take k (drop a.c.at a.s.now)) ∷ []) e ∙ ap (λ (v : ℕ). v ∷ []) (sym c.u64_at.ensures))

@@ -1,11 +1,9 @@
 -- `fills::listed` meets its contract: not selected nothing changes; else the one word is the place, and the bytes of a build id are passed whole. Assumes nothing.
 use mathlib.Core.Path.{refl}
 use native.Mathlib.Omega.{arith}
-use borrow.Author.Tests.{not-true, not-false}
 use Rattle.meaning.specs.Items.{span, part, holds, counted, before}
 use Rattle.meaning.specs.Values.{tell, slot_shape}
 use Rattle.fills.proofs.Shapes.{off, has, room, one_word}
-use borrow.Author.Rules.{rules}
 use Rattle.fills.proofs.listed.Goals as goal
 
 pub returns-then-not-on : goal.returns-then-not-on

@@ -5,12 +5,10 @@ use Prim.Native.Nat.{ℕ, ◌+◌, ◌-◌}
 use native.Mathlib.Omega.{arith}
 use lib.ListN.{length, drop, length-drop, length-set}
 use lib.Seq.{take-length}
-use borrow.Author.Tests.{not-true, not-false}
 use Rattle.meaning.specs.Bytes.{zero_in}
 use Rattle.meaning.specs.Items.{cursor, span, part, holds, counted, before}
 use Rattle.meaning.specs.Values.{tell, slot_shape}
 use Rattle.fills.proofs.Shapes.{name-has, off, room, two-words}
-use borrow.Author.Rules.{rules}
 use Rattle.fills.proofs.name.Goals as goal
 
 pub returns-then-not-on : goal.returns-then-not-on
@@ -41,5 +39,5 @@ returns c =
     let z = c.zero_of.ensures.0 in
     let k : at + length (drop at xs) ≡ length xs = omega (arith, h.0, l) in
     let v : c.zero_of.result - at ≡ zero_in (drop at xs) = omega (arith, z) in
-    two-words c.requires c.if-not-on.false refl refl refl (ap (λ (k : ℕ). cursor k a.c.n a.c.old a.c.why) (sym k)) refl
+    two-words c.requires c.if-not-on.false refl refl refl (ap (λ (k : ℕ). cursor k a.c.n a.c.old 0) (sym k)) refl
     (ap (λ (ys : List ℕ). at ∷ zero_in ys ∷ []) (take-length (drop at xs)) ∙ ap (λ (n : ℕ). at ∷ n ∷ []) (sym v))

@@ -2,11 +2,9 @@
 use mathlib.Core.Path.{refl}
 use native.Mathlib.Omega.{arith}
 use lib.ListN.{length-drop, length-set}
-use borrow.Author.Tests.{not-true, not-false}
 use Rattle.meaning.specs.Items.{span, part, holds, counted, before}
 use Rattle.meaning.specs.Values.{tell, slot_shape}
 use Rattle.fills.proofs.Shapes.{off, took, room, two-words}
-use borrow.Author.Rules.{rules}
 use Rattle.fills.proofs.registers.Goals as goal
 
 pub returns-then-not-on : goal.returns-then-not-on

@@ -1,7 +1,6 @@
 -- `fills::registers_by` meets its contract: an abi of 0 has no registers, and else they are the ones of the mask. Assumes nothing.
 use mathlib.Core.Path.{refl, ◌∙◌, sym}
 use borrow.Author.Tests.{eq-eqb, ne_eqb}
-use borrow.Author.Rules.{rules}
 use Rattle.fills.proofs.registers_by.Goals as goal
 
 pub returns-then-abi-eq0 : goal.returns-then-abi-eq0

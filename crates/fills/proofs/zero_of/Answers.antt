@@ -1,6 +1,5 @@
 -- `fills::zero_of` meets its contract: the search finds the first zero from the place, or, where eight bytes and more follow, in the last eight, before which the contract has none. Assumes nothing.
 use Rattle.fills.proofs.Shapes.{zero-from-end}
-use borrow.Author.Rules.{rules}
 use Rattle.fills.proofs.zero_of.Goals as goal
 
 pub returns : goal.returns

@@ -1,13 +1,12 @@
--- What is noted so far is right under every edition that knows bit 16; the row at hand is the first with its identifier, since no two are equal.
+-- What is noted so far is right under every edition that knows bit 16; the event at hand is the first with its identifier, since no two are equal.
 use mathlib.Core.Path.{◌≡◌, refl, sym, ◌∙◌, subst}
-use mathlib.Core.List.{[]}
 use Prim.Native.Nat.{ℕ, ◌-◌, ◌≤◌, ◌<◌}
 use native.Mathlib.Omega.{arith}
 use lib.Bits.{bit_and}
-use lib.ListN.{length, get_or, length-set}
+use lib.ListN.{length, length-set}
 use borrow.Author.Rules.{rules, scaled_Fits}
 use Rattle.meaning.specs.declared.Known.{Known}
-use Rattle.meaning.specs.Events.{events_of}
+use Rattle.meaning.specs.Events.{event_at}
 use Rattle.slots.specs.Slots.{Memo, slot-inside, memo-entered}
 use Rattle.held_slots.proofs.enter_rows.Goals as goal
 
@@ -20,7 +19,7 @@ loop-i-init c = ((λ k b w. w), refl, c.requires.in_bounds)
 pub offset_bounds-memo-h : goal.offset_bounds-memo-h
 offset_bounds-memo-h c =
     let l = c.loop-i in
-    let id : ℕ = get_or (get_or c.args.rows.now l.i []) 0 0 in
+    let id : ℕ = (event_at c.args.events.now l.i).identifier in
     scaled_Fits (bit_and id (length l.memo - 1)) (length l.memo) 64 (slot-inside id (length l.memo) l.invariant.2) (search rules)
 
 pub bounds-memo-h : goal.bounds-memo-h
@@ -29,7 +28,7 @@ bounds-memo-h c = search (rules, slot-inside)
 pub loop-i-preserved : goal.loop-i-preserved
 loop-i-preserved c =
     let l = c.loop-i in (
-      λ k b w. memo-entered k c.args.rows.now l.memo _ l.i _ (l.invariant.0 k b w) b c.requires.rows_value c.loop-i-test.true refl refl refl,
+      λ k b w. memo-entered k c.args.events.now l.memo _ l.i _ (l.invariant.0 k b w) b c.requires.events_value c.loop-i-test.true refl refl refl,
       length-set l.memo _ _ ∙ l.invariant.1,
       subst (λ (n : ℕ). 1 ≤ n) (sym (length-set l.memo _ _)) l.invariant.2,
     )

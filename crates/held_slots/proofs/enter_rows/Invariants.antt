@@ -6,12 +6,8 @@ use lib.Bits.{bit_and}
 use lib.ListN.{length, get_or, length-set}
 use borrow.Author.Rules.{rules, scaled_Fits}
 use Rattle.meaning.specs.declared.Known.{Known}
-use Rattle.meaning.specs.Events.{events_of}
 use Rattle.slots.specs.Slots.{Memo, slot-inside, memo-entered}
 use Rattle.held_slots.proofs.enter_rows.Given as goal
 
 abbrev pub invariant-loop-i : goal.invariant-loop-i
-invariant-loop-i l = ((k : Known) → 16 < k.samples → Memo k (events_of l.rows) l.initial.memo → Memo k (events_of l.rows) l.memo) × (length l.memo ≡ length l.initial.memo) × (1 ≤ length l.memo)
-
-abbrev pub decreases-loop-i : goal.decreases-loop-i
-decreases-loop-i l = length l.rows - l.i
+invariant-loop-i l = ((k : Known) → 16 < k.samples → Memo k l.events l.initial.memo → Memo k l.events l.memo) × (length l.memo ≡ length l.initial.memo) × (1 ≤ length l.memo)

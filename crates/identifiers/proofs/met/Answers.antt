@@ -1,21 +1,13 @@
--- No mark: not asked. A mark: among them exactly where its index is below their number.
-use mathlib.Core.Path.{sym, ap, ◌∙◌}
-use mathlib.Core.Bool.{Bool, not, ◌&&◌}
-use Prim.Native.Nat.{ℕ}
-use lib.Dec.{ltb}
-use lib.ListN.{length}
-use borrow.Author.Tests.{eq-eqb, ne_eqb}
+-- No mark: not asked. A mark: among them exactly where it is found.
+use Rattle.std.proofs.Common.{ap, sym, ◌∙◌, Bool, not, ◌&&◌, map, ne_eqb}
 use Rattle.meaning.specs.Editions.{is_in}
-use Rattle.laws.specs.Lookup.{in-index}
-use borrow.Author.Rules.{rules}
+use Rattle.identifiers.proofs.Laws.{is_in-found}
 use Rattle.identifiers.proofs.met.Goals as goal
 
-pub returns-then-mark-eq0 : goal.returns-then-mark-eq0
-returns-then-mark-eq0 c = let a = c.args in sym (ap (λ (b : Bool). not b && is_in a.x a.ids.now) (eq-eqb a.mark 0 c.if-mark-eq0.true))
-
-pub returns : goal.returns
-returns c =
+pub returns-then-mark-ne0 : goal.returns-then-mark-ne0
+returns-then-mark-ne0 g c =
     let a = c.args in
-    ap (λ (i : ℕ). ltb i (length a.ids.now)) c.find_id.ensures
-    ∙ sym (in-index a.x a.ids.now)
-    ∙ sym (ap (λ (b : Bool). not b && is_in a.x a.ids.now) (ne_eqb a.mark 0 c.if-mark-eq0.false))
+    let key = g.T.Identified.identifier_of in
+    c.is_some.ensures
+    ∙ is_in-found key a.table.now a.x c.find.result c.find.ensures.value c.find.ensures.found
+    ∙ sym (ap (λ (b : Bool). not b && is_in a.x (map key a.table.now)) (ne_eqb a.mark 0 c.if-mark-ne0.true))

@@ -1,20 +1,26 @@
--- `item_pairs::same_fields` meets its contract: both have a field, the same number, the same length and the same bytes, or the test is false.
-use borrow.Author.Tests.{not-true, not-false}
-use Rattle.item_pairs.proofs.Laws.{none_left, none_right, other-number, other_length, by_bytes}
-use borrow.Author.Rules.{rules}
+-- `item_pairs::same_fields` meets its contract: both have a field and it is the same, or neither has one.
+use mathlib.Core.Path.{subst, ◌∙◌}
+use Prim.Native.Nat.{◌+◌, ◌≤◌}
+use lib.ListN.{length}
+use Rattle.std.specs.Prelude.{Option}
+use Rattle.extents.specs.declared.Stretch.{Stretch}
+use Rattle.extents.specs.Extent.{stretched}
+use Rattle.item_pairs.proofs.Laws.{both_some, left_alone, right_by}
 use Rattle.item_pairs.proofs.same_fields.Goals as goal
 
-pub returns-then-not-e : goal.returns-then-not-e
-returns-then-not-e c = let a = c.args in none_left a.s.now a.t.now a.e a.g (not-true a.e.has c.if-not-e.true)
+pub same_stretches-requires : goal.same_stretches-requires
+same_stretches-requires c =
+    let a = c.args in
+    record {
+      e_inside = subst (λ (o : Option Stretch). (stretched o a.e.number).at + (stretched o a.e.number).len ≤ length a.s.now) c.in-Some.is c.requires.e_inside;
+      g_inside = subst (λ (o : Option Stretch). (stretched o a.g.number).at + (stretched o a.g.number).len ≤ length a.t.now) c.in-Some-field.is c.requires.g_inside;
+    }
 
-pub returns-then-not-g : goal.returns-then-not-g
-returns-then-not-g c = let a = c.args in none_right a.s.now a.t.now a.e a.g (not-false a.e.has c.if-not-e.false) (not-true a.g.has c.if-not-g.true)
+pub returns-in-Some-field : goal.returns-in-Some-field
+returns-in-Some-field c = let a = c.args in c.same_stretches.ensures ∙ both_some a.s.now a.t.now a.e a.g _ _ c.in-Some.is c.in-Some-field.is
 
-pub returns-then-e-g : goal.returns-then-e-g
-returns-then-e-g c = let a = c.args in other-number a.s.now a.t.now a.e a.g (not-false a.e.has c.if-not-e.false) (not-false a.g.has c.if-not-g.false) c.if-e-g.true
+pub returns-in-None-field : goal.returns-in-None-field
+returns-in-None-field c = let a = c.args in left_alone a.s.now a.t.now a.e a.g _ c.in-Some.is c.in-None-field.is
 
-pub returns-then-len-g : goal.returns-then-len-g
-returns-then-len-g c = let a = c.args in other_length a.s.now a.t.now a.e a.g (not-false a.e.has c.if-not-e.false) (not-false a.g.has c.if-not-g.false) c.if-e-g.false c.requires.len_in_bounds c.requires.len_in_bounds_2 c.if-len-g.true
-
-pub returns : goal.returns
-returns c = let a = c.args in by_bytes a.s.now a.t.now a.e a.g c.same_bytes.result (not-false a.e.has c.if-not-e.false) (not-false a.g.has c.if-not-g.false) c.if-e-g.false c.if-len-g.false c.same_bytes.ensures
+pub returns-in-None : goal.returns-in-None
+returns-in-None c = let a = c.args in right_by a.s.now a.t.now a.e a.g _ c.in-None.is c.is_none.ensures

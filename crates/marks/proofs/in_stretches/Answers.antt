@@ -1,5 +1,4 @@
 -- The bits, joined as the definition joins them.
-use borrow.Author.Rules.{rules}
 use Rattle.marks.specs.Bases.{stretched}
 use Rattle.marks.proofs.in_stretches.Goals as goal
 

@@ -1,25 +1,26 @@
 -- Refused by the edition; in stretches; else the sum of its first and last fields.
 use mathlib.Core.Path.{◌≡◌, refl, sym, ◌∙◌}
 use native.Mathlib.Omega.{arith}
-use borrow.Author.Rules.{rules}
 use Rattle.meaning.specs.Editions.{unreadable}
+use Rattle.laws.specs.Reasons.{number-some}
 use Rattle.marks.specs.Bases.{plain-parts, marked_refused, sample-marked}
 use Rattle.marks.specs.Marks.{as-stretched, one-weight, unreadable-most}
 use Rattle.sums.specs.Sums.{first_small, last-small, sums-given}
 use Rattle.marks.proofs.sample_mark.Goals as goal
 
 pub overflow_add-result : goal.overflow_add-result
-overflow_add-result c = let e = c.unreadable-why.ensures in let h = unreadable-most c.args.known c.args.a 9 0 in omega (arith, e, h)
+overflow_add-result c = let e = c.number.ensures ∙ c.in-Err.ensures in let h = unreadable-most c.args.known c.args.a 9 0 in omega (arith, e, h)
 
-pub returns-then-why-ne0 : goal.returns-then-why-ne0
-returns-then-why-ne0 c =
+pub returns-in-Err : goal.returns-in-Err
+returns-in-Err c =
     let a = c.args in
-    let e = c.unreadable-why.ensures in
+    let e = c.number.ensures ∙ c.in-Err.ensures in
     let h = unreadable-most a.known a.a 9 0 in
-    marked_refused a.known a.a 9 c.unreadable-why.result (λ q. omega (arith, q)) e c.if-why-ne0.true (omega (arith, e, h))
+    let n = number-some c.in-Err.why in
+    marked_refused a.known a.a 9 c.number.result (λ q. omega (arith, q)) e (λ q. n (sym c.number.ensures ∙ q)) (omega (arith, e, h))
 
 pub returns-then-in_stretches : goal.returns-then-in_stretches
-returns-then-in_stretches c = let a = c.args in as-stretched a.known a.a 9 refl (sym c.unreadable-why.ensures ∙ c.if-why-ne0.false)
+returns-then-in_stretches c = let a = c.args in as-stretched a.known a.a 9 refl (sym c.in_default.ensures)
 
 pub overflow_add-result-2 : goal.overflow_add-result-2
 overflow_add-result-2 c =
@@ -36,7 +37,7 @@ overflow_add-result-3 c =
 pub returns : goal.returns
 returns c =
     let a = c.args in
-    let u : unreadable a.known a.a 9 0 ≡ 0 = sym c.unreadable-why.ensures ∙ c.if-why-ne0.false in
+    let u : unreadable a.known a.a 9 0 ≡ 0 = sym c.in_default.ensures in
     let p = plain-parts a.a (sym c.in_stretches.ensures ∙ c.if-in_stretches.false) in
     let g = sums-given a.a a.sums.now c.requires in
     let f = first_small a.a a.sums.now c.requires in

@@ -16,6 +16,7 @@ or_dirty-requires c =
 pub returns : goal.returns
 returns c =
     let s = c.args in
-    c.or_dirty.ensures
+    c.answer_number.ensures
+    ∙ c.or_dirty.ensures
     ∙ or-dirty editions s.edition _ s.bytes.now _ c.check-answer.ensures
     ∙ ap (λ (a : Attributes). record_check editions s.edition a s.bytes.now) c.attributes-a.ensures

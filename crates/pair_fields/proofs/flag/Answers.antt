@@ -1,36 +1,66 @@
--- `pair_fields::flag` meets its contract: a type without a name has no field more; else the flags are the last, and record check's 44 tells them.
-use mathlib.Core.Path.{◌≡◌, sym, ap₂, ◌∙◌}
+-- `pair_fields::flag` meets its contract: a type without a name has no field more; else the flags are the last.
+use mathlib.Core.Path.{◌≡◌, refl, sym, ap, ◌∙◌}
+use mathlib.Core.Bool.{Bool, true, false, not, beq}
 use Prim.Native.Nat.{ℕ}
-use lib.Dec.{eqb}
+use native.Mathlib.Omega.{arith}
+use Rattle.std.specs.Prelude.{Option, unwrap_or}
 use Rattle.table.specs.Flags.{flag_at}
-use borrow.Author.Rules.{rules}
 use Rattle.laws.specs.Bytes.{apart}
-use Rattle.pair_fields.specs.Fields.{settled-stands, settled-less, pair-accepted, flag-nameless, flag-test, flag-number}
+use Rattle.pair_fields.specs.States.{pos_of, settled_at, settled-at}
+use Rattle.pair_fields.specs.Fields.{settled-stands, settled-less, flag-nameless, flags-same, flags-other, flag-number}
 use Rattle.pair_fields.proofs.flag.Goals as goal
 
-pub returns-then-flag_at-eq0 : goal.returns-then-flag_at-eq0
-returns-then-flag_at-eq0 c =
-    let a = c.args in
-    let z = flag-nameless a.x.now a.y.now a.p c.requires.ready c.requires.done_value.0 c.requires.done_value.1.1 c.requires.done_value.1.0 (sym c.flag_at.ensures ∙ c.if-flag_at-eq0.true) in record { fields_stand = settled-stands a.x.now a.y.now _ _ a.p.k _ c.settled.result c.settled.ensures (sym z) (λ e. absurd (apart (sym e ∙ z))); result_bound = settled-less a.x.now a.y.now a.p c.settled.result _ _ c.settled.ensures c.requires.done_value.0 }
+two-same : (u v : Bool) → not (beq u v) ≡ false → u ≡ v
+two-same true true e = refl
+two-same true false e = absurd (apart (sym e))
+two-same false true e = absurd (apart (sym e))
+two-same false false e = refl
 
-pub or_dirty-requires : goal.or_dirty-requires
-or_dirty-requires c z =
-    let a = c.args in
-    (pair-accepted a.x.now a.y.now a.p.kind a.p.misc a.p.a c.requires.ready.pair).0
+two-differ : (u v : Bool) → not (beq u v) ≡ true → (u ≡ v → ⊥)
+two-differ true true e = λ q. apart e
+two-differ true false e = λ q. apart (sym q)
+two-differ false true e = λ q. apart q
+two-differ false false e = λ q. apart e
 
-pub or_dirty-requires-2 : goal.or_dirty-requires-2
-or_dirty-requires-2 c z =
+pub returns-in_default-clause-fields_stand : goal.returns-in_default-clause-fields_stand
+returns-in_default-clause-fields_stand c =
     let a = c.args in
-    (pair-accepted a.x.now a.y.now a.p.kind a.p.misc a.p.a c.requires.ready.pair).1
+    let n = ap (λ (o : Option ℕ). unwrap_or o 0) (sym c.in_default.is) ∙ c.flag_at.ensures.value in
+    let z = flag-nameless a.x.now a.y.now (pos_of a.p) c.requires.ready refl c.requires.last_value.1 c.requires.last_value.0 (sym n) in
+    settled-stands a.x.now a.y.now _ _ 0 true (settled_at 0 true) (settled-at 0 true) (sym z) (λ e. absurd (apart (sym e ∙ z)))
 
-pub returns : goal.returns
-returns c =
+pub returns-in_default-clause-result_bound : goal.returns-in_default-clause-result_bound
+returns-in_default-clause-result_bound c =
     let a = c.args in
-    let n : flag_at a.p.kind ≡ 0 → ⊥ = λ e. c.if-flag_at-eq0.false (c.flag_at.ensures ∙ e) in
-    let d = c.or_dirty.ensures in
-    let g = c.or_dirty-2.ensures in
-    let t = ap₂ (λ (m k : ℕ). eqb m k) d g ∙ flag-test a.x.now a.y.now a.p c.requires.ready c.requires.done_value.0 c.requires.done_value.1.1 c.requires.done_value.1.0 n in record {
-      fields_stand = settled-stands a.x.now a.y.now _ _ a.p.k _ c.settled-2.result c.settled-2.ensures t
-          (λ e. flag-number a.x.now a.y.now a.p c.requires.ready c.requires.done_value.0 c.requires.done_value.1.1 c.requires.done_value.1.0 n e);
-      result_bound = settled-less a.x.now a.y.now a.p c.settled-2.result _ _ c.settled-2.ensures c.requires.done_value.0;
-    }
+    settled-less a.x.now a.y.now (pos_of a.p) (settled_at 0 true) _ _ (settled-at 0 true) refl
+
+pub returns-then-is_dirty-clause-fields_stand : goal.returns-then-is_dirty-clause-fields_stand
+returns-then-is_dirty-clause-fields_stand c =
+    let a = c.args in
+    let n = ap (λ (o : Option ℕ). unwrap_or o 0) (sym c.in-Some.is) ∙ c.flag_at.ensures.value in
+    let p = c.in-Some.ensures.some in
+    let m : flag_at a.p.kind ≡ 0 → ⊥ = λ q. omega (arith, q, n, p) in
+    let r = c.requires in
+    let z = flags-other a.x.now a.y.now (pos_of a.p) r.ready refl r.last_value.1 r.last_value.0 m (λ e. two-differ _ _ c.if-is_dirty.true (c.is_dirty.ensures ∙ e ∙ sym c.is_dirty-2.ensures)) in
+    settled-stands a.x.now a.y.now _ _ a.p.k false (settled_at a.p.k false) (settled-at a.p.k false) (sym z)
+    (λ e. flag-number a.x.now a.y.now (pos_of a.p) r.ready refl r.last_value.1 r.last_value.0 m e)
+
+pub returns-then-is_dirty-clause-result_bound : goal.returns-then-is_dirty-clause-result_bound
+returns-then-is_dirty-clause-result_bound c =
+    let a = c.args in
+    settled-less a.x.now a.y.now (pos_of a.p) (settled_at a.p.k false) _ _ (settled-at a.p.k false) refl
+
+pub returns-clause-fields_stand : goal.returns-clause-fields_stand
+returns-clause-fields_stand c =
+    let a = c.args in
+    let n = ap (λ (o : Option ℕ). unwrap_or o 0) (sym c.in-Some.is) ∙ c.flag_at.ensures.value in
+    let p = c.in-Some.ensures.some in
+    let m : flag_at a.p.kind ≡ 0 → ⊥ = λ q. omega (arith, q, n, p) in
+    let r = c.requires in
+    let z = flags-same a.x.now a.y.now (pos_of a.p) r.ready refl r.last_value.1 r.last_value.0 m (sym c.is_dirty.ensures ∙ two-same _ _ c.if-is_dirty.false ∙ c.is_dirty-2.ensures) in
+    settled-stands a.x.now a.y.now _ _ 0 true (settled_at 0 true) (settled-at 0 true) (sym z) (λ e. absurd (apart (sym e ∙ z)))
+
+pub returns-clause-result_bound : goal.returns-clause-result_bound
+returns-clause-result_bound c =
+    let a = c.args in
+    settled-less a.x.now a.y.now (pos_of a.p) (settled_at 0 true) _ _ (settled-at 0 true) refl

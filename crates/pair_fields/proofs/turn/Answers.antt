@@ -1,65 +1,48 @@
 -- `pair_fields::turn` meets its contract: both walks pass the row's item; equal fields lead on, and others are the first that differ.
-use mathlib.Core.Path.{◌≡◌, sym, subst}
+use mathlib.Core.Path.{refl, sym, subst}
+use mathlib.Core.Bool.{false}
 use Prim.Native.Nat.{◌<◌}
-use native.Mathlib.Omega.{arith}
-use lib.Seq.{length-take-le}
-use borrow.Author.Rules.{rules}
-use Rattle.pair_fields.specs.declared.Pos.{Pos}
-use Rattle.pair_fields.specs.Inner.{is_alike, is_field, to_go, moved, FieldsStand}
+use Rattle.std.specs.Prelude.{Ok}
 use Rattle.laws.specs.Numbers.{small_of}
-use Rattle.pair_fields.specs.Fields.{differs-stands, settled-less, end-in, row-needs, row_other, row_same, row-less}
+use Rattle.item_pairs.specs.Passed.{both_of}
+use Rattle.pair_fields.specs.Inner.{Pos, is_alike, is_field, to_go, FieldsStand}
+use Rattle.pair_fields.specs.States.{pos_of, settled_at, settled-at}
+use Rattle.pair_fields.specs.Fields.{differs-stands, settled-less, row-needs, row_other, row_same, row-less}
 use Rattle.pair_fields.proofs.turn.Goals as goal
 
-pub item_at-i-requires : goal.item_at-i-requires
-item_at-i-requires c =
-    let w = c.requires.ready.within in
-    let l = c.requires.done_value.1 in
-    omega (arith, w, l)
-
-pub slice_bounds-pass_item-end : goal.slice_bounds-pass_item-end
-slice_bounds-pass_item-end c =
-    sym (length-take-le c.args.p.end c.args.x.now (end-in c.args.x.now c.args.y.now c.args.p c.requires.ready c.requires.done_value.0).0)
-
-pub slice_bounds-pass_item-end-2 : goal.slice_bounds-pass_item-end-2
-slice_bounds-pass_item-end-2 c =
-    sym (length-take-le c.args.p.end c.args.y.now (end-in c.args.x.now c.args.y.now c.args.p c.requires.ready c.requires.done_value.0).1)
-
-pub pass_item-b-requires : goal.pass_item-b-requires
-pass_item-b-requires c =
+pub pass_item-requires-clause-c_value : goal.pass_item-requires-clause-c_value
+pass_item-requires-clause-c_value c =
     let a = c.args in
-    let n = row-needs a.x.now a.y.now a.p c.requires.ready c.requires.done_value.0 c.item_at-i.result c.item_at-i.ensures c.requires.done_value.1 in
-    record { at_in_bounds = n.0; why_value = n.1.0; c_value = n.1.1 }
+    (row-needs a.x.now a.y.now (pos_of a.p) c.requires.ready refl c.item_at-i.result c.item_at-i.ensures c.requires.row_value).1.1
 
-pub moved-requires : goal.moved-requires
-moved-requires c =
-    let r = c.requires.ready in
-    let w = r.within in
-    let f = r.few in
-    let l = c.requires.done_value.1 in
-    (omega (arith, w, f, l), omega (arith, w, l))
-
-pub returns-then-b : goal.returns-then-b
-returns-then-b c =
+pub returns-in-Ok-clause-fields_stand : goal.returns-in-Ok-clause-fields_stand
+returns-in-Ok-clause-fields_stand c =
     let a = c.args in
     let i = c.item_at-i in
-    let q = c.pass_item-b in
     let x = small_of a.x.now c.type_inv.x in
     let y = small_of a.y.now c.type_inv.y in
-    let e : c.moved.result ≡ moved a.p q.result = c.moved.ensures in record {
-      fields_stand = subst (FieldsStand (is_alike a.p a.x.now a.y.now) (is_field a.p a.x.now a.y.now) a.x.now a.y.now) (sym e)
-          (row_same a.x.now a.y.now a.p c.requires.ready c.requires.done_value.0 i.result i.ensures c.requires.done_value.1 x y q.result q.ensures c.if-b.true);
-      result_bound = subst (λ (r : Pos). to_go r < to_go a.p) (sym e)
-          (row-less a.x.now a.y.now a.p c.requires.ready c.requires.done_value.0 i.result i.ensures c.requires.done_value.1 x y q.result q.ensures);
-    }
+    subst (FieldsStand (is_alike (pos_of a.p) a.x.now a.y.now) (is_field (pos_of a.p) a.x.now a.y.now) a.x.now a.y.now) (sym c.moved.ensures)
+    (row_same a.x.now a.y.now (pos_of a.p) c.requires.ready refl i.result i.ensures c.requires.row_value x y (both_of (Ok c.in-Ok.b)) c.in-Ok.ensures refl)
 
-pub returns : goal.returns
-returns c =
+pub returns-in-Ok-clause-result_bound : goal.returns-in-Ok-clause-result_bound
+returns-in-Ok-clause-result_bound c =
     let a = c.args in
     let i = c.item_at-i in
-    let q = c.pass_item-b in
     let x = small_of a.x.now c.type_inv.x in
-    let y = small_of a.y.now c.type_inv.y in record {
-      fields_stand = differs-stands a.x.now a.y.now _ _ a.p.k c.settled.result c.settled.ensures
-          (row_other a.x.now a.y.now a.p c.requires.ready c.requires.done_value.0 i.result i.ensures c.requires.done_value.1 x y q.result q.ensures c.if-b.false);
-      result_bound = settled-less a.x.now a.y.now a.p c.settled.result _ _ c.settled.ensures c.requires.done_value.0;
-    }
+    let y = small_of a.y.now c.type_inv.y in
+    subst (λ (r : Pos). to_go r < to_go (pos_of a.p)) (sym c.moved.ensures)
+    (row-less a.x.now a.y.now (pos_of a.p) c.requires.ready refl i.result i.ensures c.requires.row_value x y (both_of (Ok c.in-Ok.b)) c.in-Ok.ensures)
+
+pub returns-in-Err-clause-fields_stand : goal.returns-in-Err-clause-fields_stand
+returns-in-Err-clause-fields_stand c =
+    let a = c.args in
+    let i = c.item_at-i in
+    let x = small_of a.x.now c.type_inv.x in
+    let y = small_of a.y.now c.type_inv.y in
+    differs-stands a.x.now a.y.now _ _ a.p.k (settled_at a.p.k false) (settled-at a.p.k false)
+    (row_other a.x.now a.y.now (pos_of a.p) c.requires.ready refl i.result i.ensures c.requires.row_value x y _ c.in-Err.ensures refl)
+
+pub returns-in-Err-clause-result_bound : goal.returns-in-Err-clause-result_bound
+returns-in-Err-clause-result_bound c =
+    let a = c.args in
+    settled-less a.x.now a.y.now (pos_of a.p) (settled_at a.p.k false) _ _ (settled-at a.p.k false) refl

@@ -1,6 +1,5 @@
 -- `pairs::same_record` meets its contract: unlike lengths are unlike bytes; else all bytes of both are compared.
 use mathlib.Core.Path.{◌∙◌}
-use borrow.Author.Rules.{rules}
 use Rattle.pairs.specs.Start.{other_length, whole-bytes}
 use Rattle.pairs.proofs.same_record.Goals as goal
 

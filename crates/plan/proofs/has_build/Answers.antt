@@ -3,7 +3,6 @@ use mathlib.Core.Path.{◌∙◌, ap}
 use mathlib.Core.Bool.{Bool, ◌&&◌}
 use Prim.Native.Nat.{ℕ}
 use lib.Dec.{eqb}
-use borrow.Author.Rules.{rules}
 use Rattle.meaning.specs.Bytes.{bit}
 use Rattle.meaning.specs.Records.{misc_of}
 use Rattle.plan.proofs.has_build.Goals as goal
@@ -12,4 +11,4 @@ pub returns : goal.returns
 unfolding misc_of
 returns c =
     let a = c.args in
-    ap (λ (b : Bool). eqb a.kind 10 && b) (c.has_bit.ensures ∙ ap (λ (n : ℕ). bit n 14) c.u16_at.ensures.0)
+    ap (λ (b : Bool). eqb a.r.kind 10 && b) (c.has_bit.ensures ∙ ap (λ (n : ℕ). bit n 14) c.u16_at.ensures.0)

@@ -1,12 +1,11 @@
--- `put::zero_at` meets its contract: the loop has put j zeros. Assumes nothing.
-use mathlib.Core.Path.{◌≡◌, sym, ap, ◌∙◌}
-use mathlib.Core.List.{List}
-use Prim.Native.Nat.{ℕ, ◌+◌, ◌-◌, ◌≤◌}
-use native.Mathlib.Omega.{arith}
-use lib.ListN.{length, set, length-replicate}
-use borrow.Author.Rules.{rules}
-use Rattle.meaning.specs.Bytes.{put, zeros}
-use Rattle.put.proofs.Laws.{put-not, put-nil, put-snoc, length-put, zeros-snoc}
+-- What does not fit leaves the slice; what fits is put between what stands before it and after it.
+use Rattle.std.proofs.Common.{◌≡◌, refl, sym, ap, ◌∙◌, arith, List, [], ◌∷◌, ℕ, ◌++◌, ◌+◌, ◌-◌, length, take, drop, length-set, length-take-le, length-drop, take_all}
+use Rattle.std.proofs.Math.Seq.{take-length}
+use Rattle.std.proofs.Math.ListN.{replicate-append-replicate}
+use Rattle.std.proofs.lemmas.List.{length-replicate, take_more_set}
+use Rattle.std.proofs.lemmas.Slice.{put_mid-paste}
+use Rattle.meaning.specs.Bytes.{zeros}
+use Rattle.laws.specs.Put.{put-not, put-fits}
 use Rattle.put.proofs.zero_at.Goals as goal
 
 pub returns-then-dst-at : goal.returns-then-dst-at
@@ -15,35 +14,30 @@ returns-then-dst-at c = sym (put-not _ _ _ (omega (arith, length-replicate {A = 
 pub returns-then-dst-at-2 : goal.returns-then-dst-at-2
 returns-then-dst-at-2 c = sym (put-not _ _ _ (omega (arith, length-replicate {A = ℕ} c.args.k 0)))
 
-pub loop-j-init : goal.loop-j-init
-loop-j-init c = (sym (put-nil _ _ (omega arith)), omega arith, omega arith)
+pub loop-byte-init : goal.loop-byte-init
+loop-byte-init c =
+    let at = c.args.at in
+    let m = length-take-le (at + c.args.k - at) (drop at c.args.dst.now) (omega (arith, length-drop at c.args.dst.now)) in
+    (m ∙ omega arith, refl)
 
-pub bounds-dst-at : goal.bounds-dst-at
-bounds-dst-at c =
-    let l = c.loop-j in
-    let a = c.args in
-    omega (arith, ap length l.invariant.0, length-put a.dst.now a.at (zeros l.j))
-
-pub loop-j-preserved : goal.loop-j-preserved
-loop-j-preserved c =
-    let a = c.args in
-    let l = c.loop-j in
-    let z : List ℕ = zeros l.j in
-    let n : length z ≡ l.j = length-replicate l.j 0 in (
-      ap (λ (d : List ℕ). set d (a.at + l.j) 0) l.invariant.0
-          ∙ ap (λ (k : ℕ). set (put a.dst.now a.at z) (a.at + k) 0) (sym n)
-          ∙ put-snoc a.dst.now a.at z 0 (omega arith)
-          ∙ ap (put a.dst.now a.at) (zeros-snoc l.j),
-      omega arith,
-      omega arith,
+pub loop-byte-preserved : goal.loop-byte-preserved
+loop-byte-preserved c =
+    let l = c.loop-byte in (
+      length-set l.byte-items l.byte-index 0 ∙ l.invariant.0,
+      take_more_set l.byte-items l.byte-index 0 (omega (arith, l.invariant.0, c.loop-byte-test.true))
+          ∙ ap (λ (z : List ℕ). z ++ 0 ∷ []) l.invariant.1
+          ∙ replicate-append-replicate l.byte-index 1 0,
     )
-
-pub shape_of-dst : goal.shape_of-dst
-shape_of-dst c = ap length c.loop-j.invariant.0 ∙ length-put _ _ _
 
 pub returns : goal.returns
 returns c =
-    let l = c.loop-j in
-    let a = c.args in
-    let e : l.j ≡ a.k = omega arith in
-    l.invariant.0 ∙ ap (λ (k : ℕ). put a.dst.now a.at (zeros k)) e
+    let d = c.args.dst.now in
+    let at = c.args.at in
+    let k = c.args.k in
+    let l = c.loop-byte in
+    let n : length (zeros k) ≡ k = length-replicate {A = ℕ} k 0 in
+    let i : l.byte-index ≡ k = omega (arith, l.invariant.0, c.loop-byte-test.false) in
+    let z : l.byte-items ≡ zeros k = sym (take_all l.byte-index l.byte-items (omega (arith, l.invariant.0, i))) ∙ l.invariant.1 ∙ ap zeros i in
+    put_mid-paste at _ d _ (zeros k) (length (zeros k)) z (omega (arith, n)) refl
+    ∙ ap (λ (r : List ℕ). take at d ++ r ++ drop (at + length (zeros k)) d) (take-length (zeros k))
+    ∙ sym (put-fits d at (zeros k) (omega (arith, n)))

@@ -1,5 +1,5 @@
 -- Three ways: past the ring, before its end, across it; the definition has no case, and each is one of its laws.
-use Rattle.std.proofs.Common.{ℕ, ◌-◌, List, length, take, drop, sym, ap, ◌∙◌, arith, length-drop, length-take-le, take_all, rules}
+use Rattle.std.proofs.Common.{ℕ, ◌-◌, List, length, take, drop, sym, ap, ◌∙◌, arith, length-drop, length-take-le, take_all}
 use Rattle.meaning.specs.Bytes.{put}
 use Rattle.replay.specs.Replay.{put_round}
 use Rattle.replay.proofs.Round.{round-past, round_whole}

@@ -2,9 +2,7 @@
 use mathlib.Core.Path.{sym, ◌∙◌}
 use Prim.Native.Nat.{◌+◌, ◌*◌}
 use native.Mathlib.Omega.{arith}
-use borrow.Author.Tests.{not-true, not-false}
 use Rattle.same_parts.proofs.Laws.{span-past, four-no, res-none, res-is}
-use borrow.Author.Rules.{rules}
 use Rattle.same_parts.proofs.around_res.Goals as goal
 
 pub returns-then-not-has_bit : goal.returns-then-not-has_bit

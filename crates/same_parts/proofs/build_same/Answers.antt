@@ -2,10 +2,8 @@
 use mathlib.Core.Path.{sym, ap, ◌∙◌}
 use Prim.Native.Nat.{ℕ, ◌+◌}
 use native.Mathlib.Omega.{arith}
-use borrow.Author.Tests.{not-true, not-false}
 use Rattle.same_parts.specs.Parts.{same_span}
 use Rattle.same_parts.proofs.Laws.{span-there, build-no, build-other, build-is}
-use borrow.Author.Rules.{rules}
 use Rattle.same_parts.proofs.build_same.Goals as goal
 
 pub returns-then-not-same_span : goal.returns-then-not-same_span

@@ -2,7 +2,6 @@
 use mathlib.Core.Path.{◌∙◌}
 use native.Mathlib.Omega.{arith}
 use Rattle.same_parts.proofs.Laws.{name-none, name-is}
-use borrow.Author.Rules.{rules}
 use Rattle.same_parts.proofs.name_same.Goals as goal
 
 pub returns-then-s-from : goal.returns-then-s-from

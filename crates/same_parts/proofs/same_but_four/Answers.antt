@@ -3,9 +3,7 @@ use mathlib.Core.Path.{sym, ◌∙◌}
 use Prim.Native.Nat.{◌+◌}
 use native.Mathlib.Omega.{arith}
 use lib.ListN.{length}
-use borrow.Author.Tests.{not-true, not-false}
 use Rattle.same_parts.proofs.Laws.{span-back, span-there, four-no, four_is}
-use borrow.Author.Rules.{rules}
 use Rattle.same_parts.proofs.same_but_four.Goals as goal
 
 pub returns-then-not-same_span : goal.returns-then-not-same_span

@@ -1,7 +1,6 @@
 -- `same_parts::same_span` meets its contract: where the bytes are there they are compared.
 use mathlib.Core.Path.{◌∙◌}
 use Rattle.same_parts.proofs.Laws.{span-back, span-past, span-past-right, span-is}
-use borrow.Author.Rules.{rules}
 use Rattle.same_parts.proofs.same_span.Goals as goal
 
 pub returns-then-j-i : goal.returns-then-j-i

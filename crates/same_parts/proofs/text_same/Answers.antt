@@ -3,7 +3,6 @@ use mathlib.Core.Path.{ap₂, ◌∙◌}
 use Prim.Native.Nat.{◌+◌}
 use native.Mathlib.Omega.{arith}
 use Rattle.same_parts.proofs.Laws.{text-none, text-is}
-use borrow.Author.Rules.{rules}
 use Rattle.same_parts.proofs.text_same.Goals as goal
 
 pub returns-then-s-lt20 : goal.returns-then-s-lt20

@@ -1,20 +1,20 @@
--- `shapes::zero_from` meets its contract: the loop passes bytes that are not zero, so the zero it stops at is the first. Assumes nothing.
-use native.Mathlib.Omega.{arith}
-use mathlib.Core.Path.{◌≡◌, refl}
-use Prim.Native.Nat.{◌≤◌, ◌+◌, ◌-◌}
-use lib.ListN.{length, drop}
+-- `shapes::zero_from` meets its contract: the search stops at the first zero, or the end is given. Assumes nothing.
+use Rattle.std.proofs.Common.{rules, tests, arith, ap, ◌∙◌, ◌≡◌, ◌-◌, drop, take, length, take_all}
+use lib.ListN.{length-drop}
+use Rattle.std.proofs.lemmas.Iterator.{YieldsList-from_slice}
+use Rattle.std.proofs.lemmas.Iterator.Search.{position_from_yields_List}
 use Rattle.meaning.specs.Bytes.{zero_in}
-use Rattle.laws.specs.Shapes.{zero-here, zero-on, zero-end}
+use Rattle.shapes.proofs.Zeros.{is_zero, zero-found, zero-most}
 use Rattle.shapes.proofs.zero_from.Goals as goal
 
-pub loop-i-init : goal.loop-i-init
-loop-i-init c = (c.requires, omega arith, refl)
-
-pub returns-then-s-i-eq0 : goal.returns-then-s-i-eq0
-returns-then-s-i-eq0 c = let s = c.args.s.now in let i = c.loop-i.i in omega (arith, zero-here s i (omega arith) c.if-s-i-eq0.true)
-
-pub loop-i-preserved : goal.loop-i-preserved
-loop-i-preserved c = let s = c.args.s.now in let i = c.loop-i.i in omega (arith, zero-on s i (omega arith) c.if-s-i-eq0.false)
-
 pub returns : goal.returns
-returns c = let s = c.args.s.now in omega (arith, zero-end s c.loop-i.i (omega arith))
+returns c =
+    let a = c.args in
+    let d = length-drop a.at a.s.now in
+    let e : take (length a.s.now - a.at) (drop a.at a.s.now) ≡ drop a.at a.s.now = take_all _ _ (omega (arith, d)) in
+    let f = position_from_yields_List is_zero _ _ c.position.result c.position.ensures.ran (YieldsList-from_slice (take (length c.args.s.now - c.args.at) (drop c.args.at c.args.s.now)) (search rules)) (λ x b q k. search (rules, tests)) in
+    let z = zero-found _ c.position.result f ∙ ap zero_in e in
+    let u = c.unwrap_or.ensures in
+    let m = zero-most (drop a.at a.s.now) in
+    let r = c.requires in
+    (omega (arith, z, u, m, r, d), omega (arith, z, u, m, r, d))

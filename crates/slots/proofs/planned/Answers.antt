@@ -1,12 +1,10 @@
 -- What edition and attributes fix of the event at the index.
-use mathlib.Core.Path.{refl, subst}
-use mathlib.Core.List.{List, [], ◌∷◌}
-use Prim.Native.Nat.{ℕ}
+use mathlib.Core.Path.{refl, subst, ◌∙◌}
 use native.Mathlib.Omega.{arith}
 use borrow.Author.Rules.{rules}
 use Rattle.meaning.specs.declared.Attributes.{Attributes}
-use Rattle.meaning.specs.Events.{events_of}
-use Rattle.laws.specs.Lookup.{rows-length}
+use Rattle.slots.specs.declared.Slot.{Slot}
+use Rattle.slots.specs.declared.State.TheVariants.{InTable}
 use Rattle.sums.specs.Sums.{trail-small, sums-given}
 use Rattle.slots.specs.Slots.{narrow, unpacks, Planned, filled-found}
 use Rattle.slots.proofs.planned.Goals as goal
@@ -32,8 +30,17 @@ pub returns : goal.returns
 returns c =
     let a = c.args in
     let m = c.sums-sums in
-    let s : List ℕ =
-    a.id ∷ 2 ∷ c.unreadable-why.result ∷ c.sample_mark-sample.result ∷ c.read_mark-read.result ∷ a.i ∷ c.packed-early.result ∷ c.packed-late.result ∷ [] in
-    filled-found a.known (events_of a.rows.now) a.id c.requires.lt_samples a.i c.requires.i_value s (omega (arith, c.requires.i_in_bounds, rows-length a.rows.now)) refl refl refl
+    let s : Slot =
+    record {
+      identifier = a.id;
+      state = InTable;
+      why = c.answer_number-why.result;
+      sample = c.sample_mark-sample.result;
+      read = c.read_mark-read.result;
+      index = a.i;
+      early = c.packed-early.result;
+      late = c.packed-late.result;
+    } in
+    filled-found a.known a.events.now a.id c.requires.lt_samples a.i c.requires.i_value s (omega (arith, c.requires.i_in_bounds)) refl refl refl
     (subst (λ (x : Attributes). Planned a.known x s) c.attributes_at-a.ensures
-    (record { why = c.unreadable-why.ensures; sample = c.sample_mark-sample.ensures; read = c.read_mark-read.ensures; sums = unpacks _ m.result m.ensures _ _ c.packed-early.ensures c.packed-late.ensures }))
+    (record { why = c.answer_number-why.ensures ∙ c.unreadable.ensures; sample = c.sample_mark-sample.ensures; read = c.read_mark-read.ensures; sums = unpacks _ m.result m.ensures _ _ c.packed-early.ensures c.packed-late.ensures }))

@@ -1,20 +1,25 @@
 -- `twins::same_but` meets its contract: the body is read alike, so the record is accepted; then the trailer, and the flags.
 use mathlib.Core.Path.{◌≡◌, refl, sym, ap, ap₂, ◌∙◌}
-use mathlib.Core.Bool.{Bool, true, false}
+use mathlib.Core.Bool.{Bool, true, false, not, cond, beq, ◌&&◌}
 use mathlib.Core.List.{List}
-use Prim.Native.Nat.{ℕ, ◌+◌, ◌-◌, ◌%◌, ◌≤◌}
+use Prim.Native.Nat.{ℕ, ◌-◌, ◌%◌}
 use native.Mathlib.Omega.{arith}
 use lib.ListN.{length, take}
 use lib.Seq.{length-take-le}
 use lib.Dec.{eqb}
 use Rattle.meaning.specs.declared.Attributes.{Attributes}
 use Rattle.meaning.specs.Schema.{trailer}
-use Rattle.meaning.specs.Records.{room}
+use Rattle.meaning.specs.Records.{room, flag_by}
+use Rattle.record.specs.Into.{name_dirty, or_dirty}
 use Rattle.same_parts.specs.Parts.{around_res, body_same}
 use Rattle.twins.specs.Same.{trail_bits, body_end, trail_before}
 use Rattle.twins.proofs.Whole.{room-there, body-accepted}
 use Rattle.twins.proofs.Laws.{but-body, but-trail, but-flags}
 use Rattle.twins.proofs.same_but.Goals as goal
+
+bits-are : (kind : ℕ) (a : Attributes) → cond (a.all && not (eqb kind 9)) a.sample 0 ≡ trail_bits kind a
+unfolding trail_bits
+bits-are kind a = refl
 
 -- what the test of the body says, where n is the trailer's length
 body : (xs ys : List ℕ) (kind misc : ℕ) (a : Attributes) (n : ℕ) (r b : Bool) → n ≡ room (trailer kind a) → r ≡ body_same (take (length xs - n) xs) (take (length xs - n) ys) kind misc a.sample → r ≡ b
@@ -47,13 +52,24 @@ returns-then-not-around_res c =
     let a = c.args in
     but-trail a.x.now a.y.now a.kind a.misc a.a
     (body a.x.now a.y.now a.kind a.misc a.a _ _ _ c.trailer_room.ensures.0 c.body_same.ensures c.if-not-body_same.false)
-    (trail a.x.now a.y.now a.kind a.a _ _ _ _ c.trailer_bits.ensures c.trailer_room.ensures.0 c.around_res.ensures c.if-not-around_res.true)
+    (trail a.x.now a.y.now a.kind a.a _ _ _ _ (c.trailer_bits.ensures ∙ bits-are a.kind a.a) c.trailer_room.ensures.0 c.around_res.ensures c.if-not-around_res.true)
 
-pub or_dirty-requires-2 : goal.or_dirty-requires-2
-or_dirty-requires-2 c q =
+-- the flags are the same where record check's answers are
+two-flags : (u v : Bool) → beq u v ≡ eqb (cond (eqb (cond u 1 0) 0) 0 44) (cond (eqb (cond v 1 0) 0) 0 44)
+two-flags true true = refl
+two-flags true false = refl
+two-flags false true = refl
+two-flags false false = refl
+
+by-flags : (xs ys : List ℕ) (a : Attributes) (u v : Bool) → u ≡ name_dirty a xs → v ≡ name_dirty a ys → beq u v ≡ eqb (or_dirty 0 a xs) (or_dirty 0 a ys)
+unfolding or_dirty flag_by
+by-flags xs ys a u v p q = ap₂ beq p q ∙ two-flags (name_dirty a xs) (name_dirty a ys)
+
+pub is_dirty-requires-2 : goal.is_dirty-requires-2
+is_dirty-requires-2 c =
     let a = c.args in
     record {
-      kind-is = refl;
+      kind-is = c.requires.y-kind;
       eights = ap (λ (n : ℕ). n % 8) c.requires.long ∙ c.requires.eights;
       answer-is = body-accepted a.x.now a.y.now a.kind a.misc a.a c.requires (body a.x.now a.y.now a.kind a.misc a.a _ _ _ c.trailer_room.ensures.0 c.body_same.ensures c.if-not-body_same.false);
     }
@@ -61,7 +77,7 @@ or_dirty-requires-2 c q =
 pub returns : goal.returns
 returns c =
     let a = c.args in
-    ap₂ (λ (m n : ℕ). eqb m n) c.or_dirty.ensures c.or_dirty-2.ensures
+    by-flags a.x.now a.y.now a.a _ _ c.is_dirty.ensures c.is_dirty-2.ensures
     ∙ but-flags a.x.now a.y.now a.kind a.misc a.a
     (body a.x.now a.y.now a.kind a.misc a.a _ _ _ c.trailer_room.ensures.0 c.body_same.ensures c.if-not-body_same.false)
-    (trail a.x.now a.y.now a.kind a.a _ _ _ _ c.trailer_bits.ensures c.trailer_room.ensures.0 c.around_res.ensures c.if-not-around_res.false)
+    (trail a.x.now a.y.now a.kind a.a _ _ _ _ (c.trailer_bits.ensures ∙ bits-are a.kind a.a) c.trailer_room.ensures.0 c.around_res.ensures c.if-not-around_res.false)

@@ -1,8 +1,7 @@
--- `wire::u16_at` meets its contract: a number is its two halves. Assumes nothing.
-use native.Mathlib.Omega.{arith}
-use Rattle.wire.proofs.Laws.{halves}
-use borrow.Author.Rules.{rules}
+-- The bytes at the place, as the machine's number.
+use Rattle.std.proofs.Common.{rules, ◌∙◌}
+use Rattle.wire.proofs.Laws.{number-of}
 use Rattle.wire.proofs.u16_at.Goals as goal
 
 pub returns : goal.returns
-returns c = let a = c.args in omega (arith, halves 1 a.s.now a.at)
+returns c = (c.from_le_bytes.ensures ∙ number-of 1 c.args.s.now c.args.at _ c.bytes_at.ensures, search rules)

@@ -1,7 +1,6 @@
 -- `wire::u8_at` meets its contract: a number of one byte is the byte. Assumes nothing.
 use native.Mathlib.Omega.{arith}
 use Rattle.wire.proofs.Laws.{number-one}
-use borrow.Author.Rules.{rules}
 use Rattle.wire.proofs.u8_at.Goals as goal
 
 pub returns : goal.returns

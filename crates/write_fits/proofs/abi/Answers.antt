@@ -3,13 +3,11 @@ use mathlib.Core.Path.{refl, sym, ap, ◌∙◌}
 use mathlib.Core.Bool.{false, cond}
 use Prim.Native.Nat.{ℕ}
 use lib.Dec.{eqb}
-use borrow.Author.Tests.{not-true, not-false}
 use Rattle.meaning.specs.Bytes.{ones}
 use Rattle.meaning.specs.Values.{slot, slot_told, last_told, before_told}
 use Rattle.writer_forms.specs.Forms.{top, shape_form, number_form}
 use Rattle.laws.specs.Numbers.{small_of}
 use Rattle.write_fits.specs.Items.{by-plain, off-number, word_at}
-use borrow.Author.Rules.{rules}
 use Rattle.write_fits.proofs.abi.Goals as goal
 
 pub returns-then-not-on : goal.returns-then-not-on

@@ -1,12 +1,10 @@
 -- `write_fits::bytes` meets its contract: a list by its own count. Assumes nothing.
 use mathlib.Core.Path.{refl, ap₂}
 use Prim.Native.Nat.{ℕ}
-use borrow.Author.Tests.{not-true, not-false}
 use Rattle.meaning.specs.Values.{slot, slot_told, last_told, before_told}
 use Rattle.writer_forms.specs.Forms.{shape_form}
 use Rattle.laws.specs.Numbers.{small_of}
 use Rattle.write_fits.specs.Items.{by-list, off-counted, word_at, word_after}
-use borrow.Author.Rules.{rules}
 use Rattle.write_fits.proofs.bytes.Goals as goal
 
 pub returns-then-not-on : goal.returns-then-not-on

@@ -2,13 +2,11 @@
 use mathlib.Core.Path.{refl, ap}
 use mathlib.Core.Bool.{false}
 use Prim.Native.Nat.{ℕ}
-use borrow.Author.Tests.{not-true, not-false}
 use Rattle.meaning.specs.Items.{bytes}
 use Rattle.meaning.specs.Values.{slot, slot_told, last_told, before_told}
 use Rattle.writer_forms.specs.Forms.{top, shape_form, number_form}
 use Rattle.laws.specs.Numbers.{small_of}
 use Rattle.write_fits.specs.Items.{by-plain, off-number, word_at}
-use borrow.Author.Rules.{rules}
 use Rattle.write_fits.proofs.count.Goals as goal
 
 pub returns-then-not-on : goal.returns-then-not-on
@@ -19,4 +17,4 @@ pub returns : goal.returns
 unfolding shape_form slot_told last_told before_told
 returns c =
     let a = c.args in
-    by-plain (small_of _ c.type_inv.source) (λ k. (c.type_inv.ws k).fits) c.requires.0 c.if-not-on.false (ap (λ (v : ℕ). number_form (bytes a.width) (top (bytes a.width)) false v a.c.n) (word_at c.args.ws.now c.args.w)) (ap (λ (v : ℕ). slot v 0 0) (word_at c.args.ws.now c.args.w)) (word_at c.args.ws.now c.args.w) refl c.largest.ensures c.width_of.ensures.0 c.past.ensures
+    by-plain (small_of _ c.type_inv.source) (λ k. (c.type_inv.ws k).fits) c.requires.0 c.if-not-on.false (ap (λ (v : ℕ). number_form (bytes a.width) (top (bytes a.width)) false v a.c.n) (word_at c.args.ws.now c.args.w)) (ap (λ (v : ℕ). slot v 0 0) (word_at c.args.ws.now c.args.w)) (word_at c.args.ws.now c.args.w) refl c.largest.ensures c.bytes.ensures.0 c.past.ensures

@@ -1,11 +1,9 @@
 -- `write_fits::ignored` meets its contract: so many zero bytes. Assumes nothing.
 use mathlib.Core.Path.{refl}
-use borrow.Author.Tests.{not-true, not-false}
 use Rattle.meaning.specs.Values.{slot_told, last_told, before_told}
 use Rattle.writer_forms.specs.Forms.{shape_form}
 use Rattle.laws.specs.Numbers.{small_of}
 use Rattle.write_fits.specs.Items.{by-blank, off-free}
-use borrow.Author.Rules.{rules}
 use Rattle.write_fits.proofs.ignored.Goals as goal
 
 pub returns-then-not-on : goal.returns-then-not-on

@@ -2,12 +2,10 @@
 use mathlib.Core.Path.{refl, ap}
 use mathlib.Core.Bool.{false}
 use Prim.Native.Nat.{ℕ}
-use borrow.Author.Tests.{not-true, not-false}
 use Rattle.meaning.specs.Values.{slot, slot_told, last_told, before_told}
 use Rattle.writer_forms.specs.Forms.{shape_form, number_form}
 use Rattle.laws.specs.Numbers.{small_of}
 use Rattle.write_fits.specs.Items.{by-plain, off-number, word_at}
-use borrow.Author.Rules.{rules}
 use Rattle.write_fits.proofs.limit.Goals as goal
 
 pub returns-then-not-on : goal.returns-then-not-on

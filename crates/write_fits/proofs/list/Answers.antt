@@ -6,7 +6,6 @@ use native.Mathlib.Omega.{arith}
 use Rattle.write_fits.specs.Steps.{refused}
 use Rattle.write_fits.specs.Items.{stay, list-none, list-some, list-within}
 use Rattle.write_fits.proofs.Laws.{product-most}
-use borrow.Author.Rules.{rules}
 use Rattle.write_fits.proofs.list.Goals as goal
 
 pub returns-then-count-room : goal.returns-then-count-room

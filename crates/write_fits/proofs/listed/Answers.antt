@@ -1,13 +1,12 @@
 -- `write_fits::listed` meets its contract: a list, and zero bytes after it. Assumes nothing.
-use mathlib.Core.Path.{refl, sym, ap}
+use mathlib.Core.Path.{◌≡◌, refl, ap}
 use Prim.Native.Nat.{ℕ, ◌-◌}
-use borrow.Author.Tests.{not-true, not-false}
+use native.Mathlib.Omega.{arith}
 use Rattle.meaning.specs.Values.{slot, slot_told, last_told, before_told}
 use Rattle.writer_forms.specs.Forms.{shape_form, list_form}
 use Rattle.laws.specs.Numbers.{small_of}
 use Rattle.write_fits.specs.Steps.{state_of}
 use Rattle.write_fits.specs.Items.{by-list, off-free, word_at}
-use borrow.Author.Rules.{rules}
 use Rattle.write_fits.proofs.listed.Goals as goal
 
 pub returns-then-not-on : goal.returns-then-not-on
@@ -18,4 +17,5 @@ pub returns : goal.returns
 unfolding shape_form slot_told last_told before_told
 returns c =
     let a = c.args in
-    by-list (small_of _ c.type_inv.source) (λ k. (c.type_inv.ws k).fits) c.requires.0 c.if-not-on.false (ap (λ (n : ℕ). list_form (state_of a.c) 1 n (20 - n)) (sym c.smaller-want.ensures.0)) (ap (λ (v : ℕ). slot 0 v c.args.c.told) (word_at c.args.ws.now c.args.w)) refl refl c.list.ensures
+    let e : 20 - (20 - a.c.n) ≡ c.min-want.result = omega (arith, c.min-want.ensures) in
+    by-list (small_of _ c.type_inv.source) (λ k. (c.type_inv.ws k).fits) c.requires.0 c.if-not-on.false (ap (λ (n : ℕ). list_form (state_of a.c) 1 n (20 - n)) e) (ap (λ (v : ℕ). slot 0 v c.args.c.told) (word_at c.args.ws.now c.args.w)) refl refl c.list.ensures

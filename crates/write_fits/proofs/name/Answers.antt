@@ -4,14 +4,12 @@ use mathlib.Core.Bool.{Bool, cond}
 use Prim.Native.Nat.{ℕ, ◌+◌, ◌-◌, ◌*◌, ◌%◌}
 use native.Mathlib.Omega.{arith}
 use lib.ListN.{length, take, drop, get_or}
-use borrow.Author.Tests.{not-true, not-false}
 use Rattle.meaning.specs.Bytes.{nonzero}
 use Rattle.meaning.specs.Values.{slot, slot_told, last_told, before_told}
 use Rattle.writer_forms.specs.Forms.{shape_form, name_form}
 use Rattle.laws.specs.Numbers.{small_of}
 use Rattle.write_fits.specs.Steps.{refused, state_of}
 use Rattle.write_fits.specs.Items.{stay, by_name, off-counted, word_at, word_after, list-within, name-none, name-far, name-some}
-use borrow.Author.Rules.{rules}
 use Rattle.write_fits.proofs.name.Goals as goal
 
 pub returns-then-not-on : goal.returns-then-not-on

@@ -1,7 +1,6 @@
 -- `write_fits::none` meets its contract: a word that is not 0 is refused. Assumes nothing.
 use mathlib.Core.Path.{sym, ◌∙◌}
 use borrow.Author.Tests.{eq-eqb, ne_eqb}
-use borrow.Author.Rules.{rules}
 use Rattle.write_fits.proofs.none.Goals as goal
 
 pub returns-then-v-eq0 : goal.returns-then-v-eq0

@@ -5,8 +5,7 @@ use Prim.Native.Nat.{ℕ}
 use Rattle.meaning.specs.declared.Shape.TheVariants.{Times}
 use Rattle.meaning.specs.Schema.{item}
 use Rattle.write_fits.specs.Steps.{tried-as}
-use borrow.Author.Rules.{rules}
 use Rattle.write_fits.proofs.values.Goals as goal
 
 pub returns : goal.returns
-returns c = tried-as (ap (λ (k : ℕ). item c.args.on (Times k) ∷ []) c.group_bytes.ensures.0) c.times.ensures
+returns c = tried-as (ap (λ (k : ℕ). item c.args.on (Times k) ∷ []) c.group_bytes.ensures.value) c.times.ensures

@@ -4,7 +4,6 @@ use mathlib.Core.Bool.{false, cond}
 use Prim.Native.Nat.{ℕ, ◌+◌}
 use native.Mathlib.Omega.{arith}
 use lib.Dec.{eqb}
-use borrow.Author.Tests.{not-true, not-false}
 use Rattle.meaning.specs.Bytes.{ones}
 use Rattle.meaning.specs.Values.{slot, slot_told, last_told, before_told}
 use Rattle.writer_forms.specs.Forms.{top, shape_form, number_form}
@@ -12,7 +11,6 @@ use Rattle.laws.specs.Numbers.{small_of}
 use Rattle.write_fits.specs.Steps.{walked}
 use Rattle.write_fits.specs.Items.{word_at}
 use Rattle.write_puts.proofs.Shapes.{off, number-room, number-most, number_put}
-use borrow.Author.Rules.{rules}
 use Rattle.write_puts.proofs.abi.Goals as goal
 
 pub returns-then-not-on : goal.returns-then-not-on

@@ -4,7 +4,6 @@ use Prim.Native.Nat.{ℕ, ◌+◌, ◌-◌}
 use native.Mathlib.Omega.{arith}
 use lib.ListN.{take, drop}
 use Rattle.meaning.specs.Bytes.{put}
-use borrow.Author.Rules.{rules}
 use Rattle.write_puts.proofs.copy.Goals as goal
 
 pub returns : goal.returns

@@ -4,14 +4,12 @@ use Prim.Native.Nat.{ℕ}
 use native.Mathlib.Omega.{arith}
 use native.Mathlib.Nat.{mul-one}
 use lib.ListN.{take, drop, get_or}
-use borrow.Author.Tests.{not-true, not-false}
 use Rattle.meaning.specs.Bytes.{put}
 use Rattle.meaning.specs.Values.{slot, slot_told, last_told, before_told}
 use Rattle.writer_forms.specs.Forms.{shape_form}
 use Rattle.laws.specs.Numbers.{small_of}
 use Rattle.write_fits.specs.Items.{stay, word_at}
 use Rattle.write_puts.proofs.Shapes.{off, list_inside, bare-most, bare-put}
-use borrow.Author.Rules.{rules}
 use Rattle.write_puts.proofs.earlier.Goals as goal
 
 pub returns-then-not-on : goal.returns-then-not-on

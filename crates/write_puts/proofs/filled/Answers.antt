@@ -4,7 +4,7 @@ use mathlib.Core.Bool.{Bool, false, cond}
 use Prim.Native.Nat.{ℕ}
 use native.Mathlib.Omega.{arith}
 use native.Mathlib.Nat.{add-zero}
-use borrow.Author.Tests.{not-true, not-false, eq-eqb, ne_eqb}
+use borrow.Author.Tests.{eq-eqb, ne_eqb}
 use Rattle.meaning.specs.Bytes.{spell}
 use Rattle.meaning.specs.Values.{slot, slot_told, last_told, before_told}
 use Rattle.laws.specs.Put.{put-nil}
@@ -13,7 +13,6 @@ use Rattle.laws.specs.Numbers.{small_of}
 use Rattle.write_fits.specs.Steps.{walked}
 use Rattle.write_fits.specs.Items.{word_at}
 use Rattle.write_puts.proofs.Shapes.{off, number-room, number-most, number_put}
-use borrow.Author.Rules.{rules}
 use Rattle.write_puts.proofs.filled.Goals as goal
 
 pub returns-then-not-on : goal.returns-then-not-on

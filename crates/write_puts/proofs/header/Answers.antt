@@ -1,6 +1,5 @@
 -- `write_puts::header` meets its contract: three numbers, one after the other. Assumes nothing.
 use Rattle.writer_items.specs.Header.{header-put}
-use borrow.Author.Rules.{rules}
 use Rattle.write_puts.proofs.header.Goals as goal
 
 pub returns : goal.returns

@@ -3,7 +3,6 @@ use mathlib.Core.Path.{refl, ap}
 use mathlib.Core.Bool.{false}
 use Prim.Native.Nat.{ℕ}
 use lib.ListN.{get_or}
-use borrow.Author.Tests.{not-true, not-false}
 use Rattle.meaning.specs.Values.{slot, slot_told, last_told, before_told}
 use Rattle.writer_forms.specs.Forms.{shape_form, number_form}
 use Rattle.laws.specs.Numbers.{small_of}
@@ -11,7 +10,6 @@ use Rattle.write_fits.specs.declared.Walked.{Walked}
 use Rattle.write_fits.specs.Steps.{walked}
 use Rattle.write_fits.specs.Items.{word_at}
 use Rattle.write_puts.proofs.Shapes.{off, number-room, number-most, number_put}
-use borrow.Author.Rules.{rules}
 use Rattle.write_puts.proofs.limit.Goals as goal
 
 pub returns-then-not-on : goal.returns-then-not-on
@@ -21,10 +19,10 @@ pub store-requires : goal.store-requires
 unfolding shape_form slot_told last_told before_told
 store-requires c = number-room (small_of _ c.type_inv.source) (λ k. (c.type_inv.ws k).fits) c.requires.0 c.if-not-on.false (ap (λ (v : ℕ). number_form 1 20 false v c.args.c.old) (word_at c.args.ws.now c.args.w)) (ap (λ (v : ℕ). slot v 0 0) (word_at c.args.ws.now c.args.w))
 
-pub past-d-requires : goal.past-d-requires
+pub past-requires : goal.past-requires
 unfolding shape_form slot_told last_told before_told
-past-d-requires c = number-most (small_of _ c.type_inv.source) (λ k. (c.type_inv.ws k).fits) c.requires.0 c.if-not-on.false (ap (λ (v : ℕ). number_form 1 20 false v c.args.c.old) (word_at c.args.ws.now c.args.w)) (ap (λ (v : ℕ). slot v 0 0) (word_at c.args.ws.now c.args.w))
+past-requires c = number-most (small_of _ c.type_inv.source) (λ k. (c.type_inv.ws k).fits) c.requires.0 c.if-not-on.false (ap (λ (v : ℕ). number_form 1 20 false v c.args.c.old) (word_at c.args.ws.now c.args.w)) (ap (λ (v : ℕ). slot v 0 0) (word_at c.args.ws.now c.args.w))
 
 pub returns : goal.returns
 unfolding shape_form slot_told last_told before_told
-returns c = number_put (small_of _ c.type_inv.source) (λ k. (c.type_inv.ws k).fits) c.requires.0 c.if-not-on.false (ap (λ (v : ℕ). number_form 1 20 false v c.args.c.old) (word_at c.args.ws.now c.args.w)) (ap (λ (v : ℕ). slot v 0 0) (word_at c.args.ws.now c.args.w)) (word_at c.args.ws.now c.args.w) refl c.store.ensures (ap (λ (d : Walked). walked d.at (get_or c.args.ws.now c.args.w 0) c.args.c.old (get_or c.args.ws.now c.args.w 0) c.args.c.before c.args.c.bad) c.past-d.ensures)
+returns c = number_put (small_of _ c.type_inv.source) (λ k. (c.type_inv.ws k).fits) c.requires.0 c.if-not-on.false (ap (λ (v : ℕ). number_form 1 20 false v c.args.c.old) (word_at c.args.ws.now c.args.w)) (ap (λ (v : ℕ). slot v 0 0) (word_at c.args.ws.now c.args.w)) (word_at c.args.ws.now c.args.w) refl c.store.ensures (ap (λ (d : Walked). walked d.at (get_or c.args.ws.now c.args.w 0) d.old (get_or c.args.ws.now c.args.w 0) d.before d.bad) c.past.ensures)

@@ -5,7 +5,6 @@ use Prim.Native.Nat.{ℕ, ◌+◌, ◌-◌, ◌*◌}
 use native.Mathlib.Omega.{arith}
 use native.Mathlib.Nat.{mul-one}
 use lib.ListN.{length, take, drop, get_or, length-replicate}
-use borrow.Author.Tests.{not-true, not-false}
 use Rattle.meaning.specs.Bytes.{zeros}
 use Rattle.meaning.specs.Values.{slot, slot_told, last_told, before_told}
 use Rattle.writer_forms.specs.Forms.{shape_form}
@@ -13,7 +12,6 @@ use Rattle.laws.specs.Numbers.{small_of}
 use Rattle.write_fits.specs.Items.{stay, word_at}
 use Rattle.write_puts.proofs.Stores.{two-puts, part-long}
 use Rattle.write_puts.proofs.Shapes.{off, list_inside, list-most, list-room, list_put, list-wanted}
-use borrow.Author.Rules.{rules}
 use Rattle.write_puts.proofs.listed.Goals as goal
 
 pub returns-then-not-on : goal.returns-then-not-on
@@ -24,9 +22,9 @@ unfolding shape_form slot_told last_told before_told
 copy-requires c =
     let i = list_inside (small_of _ c.type_inv.source) (λ k. (c.type_inv.ws k).fits) c.requires.0 c.if-not-on.false refl (ap (λ (v : ℕ). slot 0 v c.args.c.told) (word_at c.args.ws.now c.args.w)) in let m = list-most (small_of _ c.type_inv.source) (λ k. (c.type_inv.ws k).fits) c.requires.0 c.if-not-on.false refl (ap (λ (v : ℕ). slot 0 v c.args.c.told) (word_at c.args.ws.now c.args.w)) in let g = list-wanted (small_of _ c.type_inv.source) (λ k. (c.type_inv.ws k).fits) c.requires.0 c.if-not-on.false refl (ap (λ (v : ℕ). slot 0 v c.args.c.told) (word_at c.args.ws.now c.args.w)) (omega arith) in omega (arith, i)
 
-pub overflow_add-at : goal.overflow_add-at
+pub overflow_add-c : goal.overflow_add-c
 unfolding shape_form slot_told last_told before_told
-overflow_add-at c =
+overflow_add-c c =
     let i = list_inside (small_of _ c.type_inv.source) (λ k. (c.type_inv.ws k).fits) c.requires.0 c.if-not-on.false refl (ap (λ (v : ℕ). slot 0 v c.args.c.told) (word_at c.args.ws.now c.args.w)) in let m = list-most (small_of _ c.type_inv.source) (λ k. (c.type_inv.ws k).fits) c.requires.0 c.if-not-on.false refl (ap (λ (v : ℕ). slot 0 v c.args.c.told) (word_at c.args.ws.now c.args.w)) in let g = list-wanted (small_of _ c.type_inv.source) (λ k. (c.type_inv.ws k).fits) c.requires.0 c.if-not-on.false refl (ap (λ (v : ℕ). slot 0 v c.args.c.told) (word_at c.args.ws.now c.args.w)) (omega arith) in omega (arith, m)
 
 pub overflow_sub-many : goal.overflow_sub-many

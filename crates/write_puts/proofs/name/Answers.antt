@@ -5,7 +5,6 @@ use Prim.Native.Nat.{ℕ, ◌+◌, ◌-◌, ◌*◌, ◌%◌}
 use native.Mathlib.Omega.{arith}
 use native.Mathlib.Nat.{mul-one}
 use lib.ListN.{length, take, drop, get_or, length-replicate}
-use borrow.Author.Tests.{not-true, not-false}
 use Rattle.meaning.specs.Bytes.{zeros}
 use Rattle.meaning.specs.Values.{slot, slot_told, last_told, before_told}
 use Rattle.writer_forms.specs.Forms.{shape_form, name_form}
@@ -14,7 +13,6 @@ use Rattle.write_fits.specs.Steps.{state_of}
 use Rattle.write_fits.specs.Items.{stay, word_at, word_after}
 use Rattle.write_puts.proofs.Stores.{two-puts, part-long}
 use Rattle.write_puts.proofs.Shapes.{off, name-inside, name-most, name-room, name-put}
-use borrow.Author.Rules.{rules}
 use Rattle.write_puts.proofs.name.Goals as goal
 
 pub returns-then-not-on : goal.returns-then-not-on
@@ -30,9 +28,9 @@ unfolding shape_form slot_told last_told before_told
 copy-requires c =
     let i = name-inside (small_of _ c.type_inv.source) (λ k. (c.type_inv.ws k).fits) c.requires.0 c.if-not-on.false (ap (λ (k : ℕ). name_form (state_of c.args.c) k (8 - (c.args.c.at + k) % 8)) (word_after c.args.ws.now c.args.w)) (ap₂ (λ (v k : ℕ). slot 0 v k) (word_at c.args.ws.now c.args.w) (word_after c.args.ws.now c.args.w)) in let m = name-most (small_of _ c.type_inv.source) (λ k. (c.type_inv.ws k).fits) c.requires.0 c.if-not-on.false (ap (λ (k : ℕ). name_form (state_of c.args.c) k (8 - (c.args.c.at + k) % 8)) (word_after c.args.ws.now c.args.w)) (ap₂ (λ (v k : ℕ). slot 0 v k) (word_at c.args.ws.now c.args.w) (word_after c.args.ws.now c.args.w)) in omega (arith, i)
 
-pub overflow_add-at : goal.overflow_add-at
+pub overflow_add-c : goal.overflow_add-c
 unfolding shape_form slot_told last_told before_told
-overflow_add-at c =
+overflow_add-c c =
     let i = name-inside (small_of _ c.type_inv.source) (λ k. (c.type_inv.ws k).fits) c.requires.0 c.if-not-on.false (ap (λ (k : ℕ). name_form (state_of c.args.c) k (8 - (c.args.c.at + k) % 8)) (word_after c.args.ws.now c.args.w)) (ap₂ (λ (v k : ℕ). slot 0 v k) (word_at c.args.ws.now c.args.w) (word_after c.args.ws.now c.args.w)) in let m = name-most (small_of _ c.type_inv.source) (λ k. (c.type_inv.ws k).fits) c.requires.0 c.if-not-on.false (ap (λ (k : ℕ). name_form (state_of c.args.c) k (8 - (c.args.c.at + k) % 8)) (word_after c.args.ws.now c.args.w)) (ap₂ (λ (v k : ℕ). slot 0 v k) (word_at c.args.ws.now c.args.w) (word_after c.args.ws.now c.args.w)) in omega (arith, m)
 
 pub overflow_add-many-2 : goal.overflow_add-many-2

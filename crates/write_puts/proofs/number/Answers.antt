@@ -2,13 +2,11 @@
 use mathlib.Core.Path.{refl, ap, ◌∙◌}
 use Prim.Native.Nat.{ℕ}
 use native.Mathlib.Omega.{arith}
-use borrow.Author.Tests.{not-true, not-false}
 use Rattle.meaning.specs.Values.{slot, slot_told, last_told, before_told}
 use Rattle.writer_forms.specs.Forms.{shape_form}
 use Rattle.laws.specs.Numbers.{small_of}
 use Rattle.write_fits.specs.Items.{stay, word_at}
 use Rattle.write_puts.proofs.Shapes.{off, number-room, number-most, number_put}
-use borrow.Author.Rules.{rules}
 use Rattle.write_puts.proofs.number.Goals as goal
 
 pub returns-then-not-on : goal.returns-then-not-on
@@ -20,8 +18,8 @@ store-requires c = number-room (small_of _ c.type_inv.source) (λ k. (c.type_inv
 
 pub past-requires : goal.past-requires
 unfolding shape_form slot_told last_told before_told
-past-requires c = let h = number-most (small_of _ c.type_inv.source) (λ k. (c.type_inv.ws k).fits) c.requires.0 c.if-not-on.false refl (ap (λ (v : ℕ). slot v 0 0) (word_at c.args.ws.now c.args.w)) in let k = c.width_of.ensures.0 in omega (arith, h, k)
+past-requires c = let h = number-most (small_of _ c.type_inv.source) (λ k. (c.type_inv.ws k).fits) c.requires.0 c.if-not-on.false refl (ap (λ (v : ℕ). slot v 0 0) (word_at c.args.ws.now c.args.w)) in let k = c.bytes.ensures.0 in omega (arith, h, k)
 
 pub returns : goal.returns
 unfolding shape_form slot_told last_told before_told
-returns c = number_put (small_of _ c.type_inv.source) (λ k. (c.type_inv.ws k).fits) c.requires.0 c.if-not-on.false refl (ap (λ (v : ℕ). slot v 0 0) (word_at c.args.ws.now c.args.w)) refl refl c.store.ensures (c.past.ensures ∙ ap (λ (k : ℕ). stay k c.args.c) c.width_of.ensures.0)
+returns c = number_put (small_of _ c.type_inv.source) (λ k. (c.type_inv.ws k).fits) c.requires.0 c.if-not-on.false refl (ap (λ (v : ℕ). slot v 0 0) (word_at c.args.ws.now c.args.w)) refl refl c.store.ensures (c.past.ensures ∙ ap (λ (k : ℕ). stay k c.args.c) c.bytes.ensures.0)

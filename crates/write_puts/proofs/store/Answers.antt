@@ -5,7 +5,6 @@ use Rattle.meaning.specs.declared.Width.{Width}
 use Rattle.meaning.specs.Bytes.{spell, put}
 use Rattle.meaning.specs.Items.{bytes}
 use Rattle.write_puts.proofs.Stores.{put_byte}
-use borrow.Author.Rules.{rules}
 use Rattle.write_puts.proofs.store.Goals as goal
 
 pub bounds-d-at : goal.bounds-d-at

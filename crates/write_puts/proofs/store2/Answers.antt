@@ -3,7 +3,6 @@ use native.Mathlib.Omega.{arith}
 use lib.ListN.{length-set}
 use Prim.Native.Nat.{◌%◌}
 use Rattle.write_puts.proofs.Stores.{put_two}
-use borrow.Author.Rules.{rules}
 use Rattle.write_puts.proofs.store2.Goals as goal
 
 pub bounds-d-at-2 : goal.bounds-d-at-2

@@ -4,7 +4,6 @@ use native.Mathlib.Omega.{arith}
 use Rattle.laws.specs.Bytes.{length-spell}
 use Rattle.meaning.specs.Bytes.{spell}
 use Rattle.write_puts.proofs.Stores.{two-puts, halves4}
-use borrow.Author.Rules.{rules}
 use Rattle.write_puts.proofs.store4.Goals as goal
 
 pub returns : goal.returns

@@ -5,11 +5,10 @@ use Prim.Native.Nat.{ℕ}
 use Rattle.meaning.specs.declared.Shape.TheVariants.{Times}
 use Rattle.meaning.specs.Schema.{item}
 use Rattle.write_puts.specs.Puts.{ready-as, placed-as}
-use borrow.Author.Rules.{rules}
 use Rattle.write_puts.proofs.values.Goals as goal
 
 pub times-requires : goal.times-requires
-times-requires c = (ready-as (ap (λ (k : ℕ). item c.args.on (Times k) ∷ []) (sym c.group_bytes.ensures.0)) c.requires.0, c.requires.1)
+times-requires c = (ready-as (ap (λ (k : ℕ). item c.args.on (Times k) ∷ []) (sym c.group_bytes.ensures.value)) c.requires.0, c.requires.1)
 
 pub returns : goal.returns
-returns c = placed-as (ap (λ (k : ℕ). item c.args.on (Times k) ∷ []) c.group_bytes.ensures.0) c.times.ensures
+returns c = placed-as (ap (λ (k : ℕ). item c.args.on (Times k) ∷ []) c.group_bytes.ensures.value) c.times.ensures

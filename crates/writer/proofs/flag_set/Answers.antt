@@ -1,12 +1,13 @@
 -- `writer::flag_set` meets its contract: a type without a name has no flag; of the others its word is looked at. Assumes nothing.
-use mathlib.Core.Path.{sym, ◌∙◌}
+use Rattle.std.proofs.Common.{sym, arith}
 use Rattle.writer.specs.Answers.{set-none, set-some}
-use borrow.Author.Rules.{rules}
 use Rattle.writer.proofs.flag_set.Goals as goal
 
-pub returns-then-at-eq0 : goal.returns-then-at-eq0
-returns-then-at-eq0 c = set-none c.args.ws.now c.args.kind (sym c.flag_at-at.ensures ∙ c.if-at-eq0.true)
+pub returns-in-Some : goal.returns-in-Some
+returns-in-Some c =
+    let e = c.in-Some.ensures in
+    let some = e.some in
+    set-some c.args.ws.now c.args.kind _ _ e.value (λ z. omega (arith, z, some)) c.word.ensures
 
-pub returns : goal.returns
-returns c =
-    set-some c.args.ws.now c.args.kind _ _ c.flag_at-at.ensures c.if-at-eq0.false c.word.ensures
+pub returns-in-None : goal.returns-in-None
+returns-in-None c = set-none c.args.ws.now c.args.kind (sym c.in-None.ensures.value)

@@ -1,27 +1,28 @@
--- `writer_items::advance` meets its contract: bytes and pad are compared before they are added, so the sum does not wrap, and the end is the form's. Assumes nothing.
-use mathlib.Core.Path.{◌∙◌}
-use native.Mathlib.Omega.{arith}
+-- `writer_items::advance` meets its contract: the sum is held below the largest number, and the end is the form's. Assumes nothing.
+use Rattle.std.proofs.Common.{◌≡◌, ℕ, ◌+◌, ap, ◌∙◌, arith}
+use Rattle.meaning.specs.Items.{cursor}
+use Rattle.meaning.specs.Reasons.{cursor_of}
+use Rattle.writer_forms.specs.Forms.{form_of}
 use Rattle.writer_words.specs.Tellings.{slot_of}
-use Rattle.writer_items.proofs.Tried.{past_end, before-end}
-use borrow.Author.Rules.{rules}
+use Rattle.writer_items.proofs.Tried.{past_end, before-end, bytes-few}
 use Rattle.writer_items.proofs.advance.Goals as goal
 
-pub returns-then-bytes-gt-MOST_BYTES : goal.returns-then-bytes-gt-MOST_BYTES
-returns-then-bytes-gt-MOST_BYTES c =
+pub overflow_add-c-2 : goal.overflow_add-c-2
+overflow_add-c-2 c =
     let a = c.args in
-    c.unfit.ensures ∙ past_end a.f (slot_of a.s) a.c c.list_bytes-bytes.result c.list_bytes-bytes.ensures (omega (arith, c.if-bytes-gt-MOST_BYTES.true))
+    let few = bytes-few (form_of a.f) (slot_of a.s) c.requires.2 in
+    omega (arith, few, c.list_bytes.ensures)
 
-pub returns-then-f-gt-MOST_BYTES : goal.returns-then-f-gt-MOST_BYTES
-returns-then-f-gt-MOST_BYTES c =
+pub returns-then-at-gt-MOST_BYTES : goal.returns-then-at-gt-MOST_BYTES
+returns-then-at-gt-MOST_BYTES c =
     let a = c.args in
-    c.unfit-then-f-gt-MOST_BYTES.ensures ∙ past_end a.f (slot_of a.s) a.c c.list_bytes-bytes.result c.list_bytes-bytes.ensures (omega (arith, c.if-f-gt-MOST_BYTES.true))
-
-pub returns-then-end-gt-MOST_BYTES : goal.returns-then-end-gt-MOST_BYTES
-returns-then-end-gt-MOST_BYTES c =
-    let a = c.args in
-    c.unfit-then-end-gt-MOST_BYTES.ensures ∙ past_end a.f (slot_of a.s) a.c c.list_bytes-bytes.result c.list_bytes-bytes.ensures c.if-end-gt-MOST_BYTES.true
+    let few = bytes-few (form_of a.f) (slot_of a.s) c.requires.2 in
+    past_end (form_of a.f) (slot_of a.s) (cursor_of a.c) c.list_bytes.result c.list_bytes.ensures (omega arith)
 
 pub returns : goal.returns
 returns c =
     let a = c.args in
-    before-end a.f (slot_of a.s) a.c c.list_bytes-bytes.result c.list_bytes-bytes.ensures (omega (arith, c.if-end-gt-MOST_BYTES.false))
+    let few = bytes-few (form_of a.f) (slot_of a.s) c.requires.2 in
+    let end : c.saturating_add-at.result ≡ a.c.at + ((form_of a.f).width + c.list_bytes.result + a.f.pad) = omega arith in
+    ap (λ (n : ℕ). cursor n a.f.n a.f.old 0) end
+    ∙ before-end (form_of a.f) (slot_of a.s) (cursor_of a.c) c.list_bytes.result c.list_bytes.ensures (omega (arith, end))

@@ -1,18 +1,17 @@
 -- `writer_items::list_bytes` meets its contract: the product was bounded by the caller; without a list it is 0. Assumes nothing.
-use native.Mathlib.Omega.{arith}
+use Rattle.std.proofs.Common.{ℕ, ◌*◌, sym, ap, ◌∙◌}
+use Rattle.writer_forms.specs.Forms.{form_of}
 use Rattle.writer_words.specs.Tellings.{slot_of}
 use Rattle.writer_items.proofs.Tried.{list_on, list-off}
 use Rattle.writer_items.proofs.list_bytes.Goals as goal
 
-pub overflow_mul-result : goal.overflow_mul-result
-overflow_mul-result c = omega (arith, c.requires c.if-list.true)
-
-pub returns-then-list : goal.returns-then-list
-returns-then-list c =
+pub returns-in-Some : goal.returns-in-Some
+returns-in-Some c =
     let a = c.args in
-    list_on a.f (slot_of a.s) c.if-list.true
+    let e = c.in-Some.ensures in
+    ap (λ (u : ℕ). a.s.count * u) e.value ∙ list_on (form_of a.f) (slot_of a.s) (sym e.listed)
 
-pub returns-else-list : goal.returns-else-list
-returns-else-list c =
+pub returns-in-None : goal.returns-in-None
+returns-in-None c =
     let a = c.args in
-    list-off a.f (slot_of a.s) c.if-list.false
+    list-off (form_of a.f) (slot_of a.s) (sym c.in-None.ensures.listed)

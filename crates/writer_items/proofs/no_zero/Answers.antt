@@ -6,7 +6,6 @@ use lib.ListN.{length}
 use lib.Dec.{eqb}
 use Rattle.meaning.specs.Bytes.{zero_in}
 use Rattle.writer_items.proofs.Tests.{no-zeros}
-use borrow.Author.Rules.{rules}
 use Rattle.writer_items.proofs.no_zero.Goals as goal
 
 pub returns : goal.returns

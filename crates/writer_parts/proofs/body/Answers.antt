@@ -1,6 +1,5 @@
 -- `writer_parts::body` meets its contract: the table's part of a type stands for the type's fields. Assumes nothing.
 use Rattle.writer_parts.proofs.Laws.{body-lays}
-use borrow.Author.Rules.{rules}
 use Rattle.writer_parts.proofs.body.Goals as goal
 
 pub returns : goal.returns

@@ -1,68 +1,53 @@
 -- `writer_parts::put_all` meets its contract: the bytes that are still to come, put where the state says, make the whole (`Putting`). Assumes nothing.
-use mathlib.Core.Path.{refl}
-use Prim.Native.Nat.{◌-◌}
-use native.Mathlib.Omega.{arith}
-use Rattle.writer_words.specs.Tellings.{slot_of}
+use Rattle.std.proofs.Common.{◌≡◌, ℕ, ◌+◌, subst, arith}
 use Rattle.laws.specs.Numbers.{small_of}
-use Rattle.writer_items.specs.Fitting.{inside-source}
-use Rattle.writer_parts.proofs.Putting.{Putting, Ready, ready, put_on, put-end}
-use borrow.Author.Rules.{rules}
+use Rattle.meaning.specs.Reasons.{cursor_of}
+use Rattle.writer_forms.specs.Forms.{form_of}
+use Rattle.writer_words.specs.Tellings.{slot_of}
+use Rattle.writer_parts.proofs.Putting.{Putting, put-start, ready, put_on, put-end}
+use Rattle.writer_parts.specs.Rows.{before-to, here, at-end}
 use Rattle.writer_parts.proofs.put_all.Goals as goal
 
-pub loop-k-init : goal.loop-k-init
-loop-k-init c =
-    let p = c.requires in
-    record { same = refl; fine = p.4; room = p.5; long = refl; within = record { rows = p.0; words = omega (arith, p.2) }; place = p.3 }
-
-pub item_here-i-requires : goal.item_here-i-requires
-item_here-i-requires c = record { k_lt_all_rows = omega (arith, c.loop-k-test.true, c.requires.1); all_value = c.all_rows-all.ensures }
+pub loop-row-init : goal.loop-row-init
+loop-row-init c =
+    let a = c.args in
+    let r = c.requires in
+    put-start a.source.now a.ws.now a.p a.first (cursor_of a.start) a.buffer.now r.0 r.2 r.3 r.4 r.5
 
 pub given_by-s-requires : goal.given_by-s-requires
-given_by-s-requires c = omega (arith, c.loop-k.invariant.within.words, c.loop-k-test.true, c.requires.1)
+given_by-s-requires c =
+    let w = c.loop-row.invariant.within in
+    let k = before-to c.args.p c.all_rows-all.result c.all_rows-all.ensures c.requires.1 c.loop-row.row-index c.loop-row-test.true in
+    omega (arith, w.words, k, c.requires.1)
 
-pub put_item-requires : goal.put_item-requires
-put_item-requires c =
+pub put_item-c-requires : goal.put_item-c-requires
+put_item-c-requires c =
     let a = c.args in
-    let l = c.loop-k in
+    let l = c.loop-row in
+    let k = before-to a.p c.all_rows-all.result c.all_rows-all.ensures c.requires.1 l.row-index c.loop-row-test.true in
+    let i = here a.p c.all_rows-all.result c.all_rows-all.ensures c.requires.1 l.row-index c.loop-row-test.true _ c.item-i.ensures in
     let r =
-    ready a.source.now a.ws.now a.p a.first a.start a.buffer.now l.k l.t l.c l.buffer l.invariant
-    c.item_here-i.result (slot_of c.given_by-s.result) c.of_item-f.result c.item_here-i.ensures c.given_by-s.ensures c.of_item-f.ensures c.loop-k-test.true c.requires.1
+    ready a.source.now a.ws.now a.p a.first (cursor_of a.start) a.buffer.now _ l.t (cursor_of l.c) l.buffer l.invariant
+    c.item-i.result (slot_of c.given_by-s.result) (form_of c.of_item-f.result) i c.given_by-s.ensures c.of_item-f.ensures k c.requires.1
     (small_of a.source.now c.type_inv.source) (omega (arith, c.given_by-s.type_inv)) in
     (r.width, r.inside, r.room)
 
-pub advance-c-requires : goal.advance-c-requires
-advance-c-requires c =
+pub loop-row-preserved : goal.loop-row-preserved
+loop-row-preserved c =
     let a = c.args in
-    let l = c.loop-k in
-    let r =
-    ready a.source.now a.ws.now a.p a.first a.start a.buffer.now l.k l.t l.c l.buffer l.invariant
-    c.item_here-i.result (slot_of c.given_by-s.result) c.of_item-f.result c.item_here-i.ensures c.given_by-s.ensures c.of_item-f.ensures c.loop-k-test.true c.requires.1
-    (small_of a.source.now c.type_inv.source) (omega (arith, c.given_by-s.type_inv)) in
-    (c.loop-k.invariant.place, r.width, λ l. let h = inside-source c.of_item-f.result a.source.now (slot_of c.given_by-s.result) r.inside l in omega (arith, h, c.well_formed))
-
-pub after-t-requires : goal.after-t-requires
-after-t-requires c = omega (arith, c.loop-k.invariant.within.words, c.loop-k-test.true, c.requires.1)
-
-pub overflow_add-k : goal.overflow_add-k
-overflow_add-k c = omega (arith, c.loop-k-test.true, c.requires.1)
-
-pub loop-k-smaller : goal.loop-k-smaller
-loop-k-smaller c = omega (arith, c.loop-k-test.true)
-
-pub loop-k-preserved : goal.loop-k-preserved
-loop-k-preserved c =
-    let a = c.args in
-    let l = c.loop-k in
-    put_on a.source.now a.ws.now a.p a.first a.start a.buffer.now l.k l.t l.c l.buffer l.invariant
-    c.item_here-i.result (slot_of c.given_by-s.result) c.of_item-f.result c.item_here-i.ensures c.given_by-s.ensures c.of_item-f.ensures c.loop-k-test.true c.requires.1
-    (small_of a.source.now c.type_inv.source) (omega (arith, c.given_by-s.type_inv)) _ c.advance-c.result c.after-t.result
-    c.put_item.ensures c.advance-c.ensures c.after-t.ensures
-
-pub shape_of-buffer : goal.shape_of-buffer
-shape_of-buffer c = c.loop-k.invariant.long
+    let l = c.loop-row in
+    let k = before-to a.p c.all_rows-all.result c.all_rows-all.ensures c.requires.1 l.row-index c.loop-row-test.true in
+    let i = here a.p c.all_rows-all.result c.all_rows-all.ensures c.requires.1 l.row-index c.loop-row-test.true _ c.item-i.ensures in
+    let n : a.p.from + l.row-index + 1 ≡ a.p.from + (l.row-index + 1) = omega arith in
+    subst (λ (x : ℕ). Putting a.source.now a.ws.now a.p a.first (cursor_of a.start) a.buffer.now x c.after-t.result (cursor_of c.put_item-c.result) c.put_item-c.new.buffer) n
+    (put_on a.source.now a.ws.now a.p a.first (cursor_of a.start) a.buffer.now _ l.t (cursor_of l.c) l.buffer l.invariant
+    c.item-i.result (slot_of c.given_by-s.result) (form_of c.of_item-f.result) i c.given_by-s.ensures c.of_item-f.ensures k c.requires.1
+    (small_of a.source.now c.type_inv.source) (omega (arith, c.given_by-s.type_inv)) _ (cursor_of c.put_item-c.result) c.after-t.result
+    c.put_item-c.ensures.buffer_after c.put_item-c.ensures.next c.after-t.ensures)
 
 pub returns : goal.returns
 returns c =
     let a = c.args in
-    let l = c.loop-k in
-    put-end a.source.now a.ws.now a.p a.first a.start a.buffer.now l.k l.t l.c l.buffer l.invariant c.loop-k-test.false
+    let l = c.loop-row in
+    put-end a.source.now a.ws.now a.p a.first (cursor_of a.start) a.buffer.now _ l.t (cursor_of l.c) l.buffer l.invariant
+    (at-end a.p c.all_rows-all.result c.all_rows-all.ensures c.requires.1 l.row-index c.loop-row-test.false)

@@ -1,6 +1,5 @@
 -- `writer_record::put_header` meets its contract: three numbers, one after the other. Assumes nothing.
 use Rattle.writer_items.specs.Header.{header-put}
-use borrow.Author.Rules.{rules}
 use Rattle.writer_record.proofs.put_header.Goals as goal
 
 pub returns : goal.returns

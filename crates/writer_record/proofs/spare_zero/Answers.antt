@@ -1,7 +1,6 @@
 -- `writer_record::spare_zero` meets its contract: the words after the body's and the one after the trailer's are those that the type does not have. Assumes nothing.
 use Rattle.writer_parts.specs.Parts.{items_from}
 use Rattle.writer_record.specs.Spare.{spare-is}
-use borrow.Author.Rules.{rules}
 use Rattle.writer_record.proofs.spare_zero.Goals as goal
 
 pub returns : goal.returns

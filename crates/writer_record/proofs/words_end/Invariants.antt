@@ -1,12 +1,7 @@
-use mathlib.Core.Path.{refl}
-use Prim.Native.Nat.{◌-◌}
-use native.Mathlib.Omega.{arith}
-use borrow.Author.Rules.{rules}
-use Rattle.writer_record.specs.Spare.{Summing, sum-on, sum-end}
+use Rattle.std.proofs.Common.{◌+◌}
+use Rattle.writer_record.specs.Spare.{Summing}
 use Rattle.writer_record.proofs.words_end.Given as goal
 
-abbrev pub invariant-loop-k : goal.invariant-loop-k
-invariant-loop-k l = Summing l.p l.first l.k l.end
-
-abbrev pub decreases-loop-k : goal.decreases-loop-k
-decreases-loop-k l = l.to - l.k
+-- words so far and words still to come are the part's
+abbrev pub invariant-loop-row : goal.invariant-loop-row
+invariant-loop-row l = Summing l.p l.first (l.p.from + l.row-index) l.end

@@ -1,17 +1,22 @@
--- `writer_words::after` meets its contract: the two counts are `cond`s of the table of tellings, and a shape has at most two words. Assumes nothing.
-use mathlib.Core.Path.{ap}
-use native.Mathlib.Omega.{arith}
-use Rattle.writer_words.specs.declared.Telling.{Telling}
-use Rattle.writer_words.proofs.Laws.{after_is, many-most}
-use borrow.Author.Rules.{rules}
+-- `writer_words::after` meets its contract: the two counts are `cond`s of the table of tellings. Assumes nothing.
+use Rattle.std.proofs.lemmas.Bool.{not-true, not-false}
+use Rattle.writer_words.proofs.Laws.{after_off, after_on, after_same}
 use Rattle.writer_words.proofs.after.Goals as goal
 
-pub overflow_add-result : goal.overflow_add-result
-overflow_add-result c =
-    let e = ap (λ (k : Telling). k.many) c.telling_of-k.ensures in
-    omega (arith, e, many-most c.args.i.shape, c.requires)
+pub returns-then-not-i : goal.returns-then-not-i
+returns-then-not-i c = let a = c.args in after_off a.ws.now a.t a.i _ c.words_of.ensures.0 (not-true a.i.on c.if-not-i.true)
 
-pub returns : goal.returns
-returns c =
+pub returns-in-LastCount : goal.returns-in-LastCount
+returns-in-LastCount c =
     let a = c.args in
-    after_is a.ws.now a.t a.i c.telling_of-k.result c.word-first.result _ _ c.telling_of-k.ensures c.word-first.ensures c.choose.ensures c.choose-2.ensures
+    after_on a.ws.now a.t a.i _ c.words_of.ensures.0 (not-false a.i.on c.if-not-i.false) _ _ c.in-LastCount.ensures c.word.ensures
+
+pub returns-in-NextCount : goal.returns-in-NextCount
+returns-in-NextCount c =
+    let a = c.args in
+    after_on a.ws.now a.t a.i _ c.words_of.ensures.0 (not-false a.i.on c.if-not-i.false) _ _ c.in-NextCount.ensures c.word-in-NextCount.ensures
+
+pub returns-in-Unspoken : goal.returns-in-Unspoken
+returns-in-Unspoken c =
+    let a = c.args in
+    after_same a.ws.now a.t a.i _ c.words_of.ensures.0 (not-false a.i.on c.if-not-i.false) c.wording_of.result c.wording_of.ensures c.in-Unspoken.is

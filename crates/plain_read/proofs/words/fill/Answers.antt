@@ -1,58 +1,65 @@
 -- `plain_read::words::fill` meets its contract: the loop has put the words of the rows so far. Assumes nothing.
-use mathlib.Core.Path.{ap, ◌∙◌}
-use Prim.Native.Nat.{◌-◌}
+use mathlib.Core.Path.{sym, ap, ◌∙◌}
 use native.Mathlib.Omega.{arith}
-use borrow.Author.Rules.{rules}
+use Rattle.meaning.specs.States.{Cursor}
 use Rattle.meaning.specs.declared.Item.{Item}
 use Rattle.meaning.specs.Items.{step}
+use Rattle.meaning.specs.Reasons.{cursor_of, stepped}
 use Rattle.meaning.specs.Values.{slot_item, tell}
-use Rattle.fields.specs.Told.{told_of}
 use Rattle.table.specs.Rows.{item_of}
-use Rattle.plain_read.proofs.Filling.{Filling, filling-start, filling-fine, filling-room, filling-next, filling-end}
+use Rattle.plain_read.proofs.Filling.{filling-start, filling-fine, filling-room, filling-next, filling-end, step_ok}
 use Rattle.plain_read.proofs.words.fill.Goals as goal
 
-pub loop-k-init : goal.loop-k-init
-loop-k-init c = let a = c.args in let g = c.requires in filling-start (item_of a.a a.misc a.kind) a.s.now a.from a.to a.first a.out.now a.start g.0 g.1 g.2
+pub loop-row-init : goal.loop-row-init
+loop-row-init c = let a = c.args in filling-start (item_of a.a a.misc a.kind) a.s.now a.own.now (cursor_of a.first) a.out.now a.start c.requires
 
-pub item_lent-i-requires : goal.item_lent-i-requires
-item_lent-i-requires c = record { k_lt_all_rows = omega arith; all_value = c.all_rows-all.ensures }
-
-pub told-t-requires : goal.told-t-requires
-told-t-requires c =
+pub told-told-requires : goal.told-told-requires
+told-told-requires c =
     let a = c.args in
-    let l = c.loop-k in
+    let l = c.loop-row in
     let f = item_of a.a a.misc a.kind in
-    ap (λ (i : Item). (step a.s.now i l.c).why) c.item_lent-i.ensures ∙ filling-fine f a.s.now a.from a.to a.first a.out.now a.start l.out l.c l.k l.at l.invariant c.loop-k-test.true
+    ap (λ (i : Item). (step a.s.now i (cursor_of l.spot)).why) c.item_of-item.ensures
+    ∙ filling-fine f a.s.now a.own.now (cursor_of a.first) a.out.now a.start l.out (cursor_of l.spot) l.row-index l.at l.invariant (omega arith)
 
 pub place-requires : goal.place-requires
 place-requires c =
     let a = c.args in
-    let l = c.loop-k in
+    let l = c.loop-row in
     let f = item_of a.a a.misc a.kind in
-    filling-room f a.s.now a.from a.to a.first a.out.now a.start l.out l.c l.k l.at l.invariant c.loop-k-test.true _ (c.told-t.ensures ∙ ap (λ (i : Item). told_of (tell i.shape (slot_item a.s.now i l.c))) c.item_lent-i.ensures)
+    filling-room f a.s.now a.own.now (cursor_of a.first) a.out.now a.start l.out (cursor_of l.spot) l.row-index l.at l.invariant (omega arith) c.told-told.result
+    (c.told-told.ensures ∙ ap (λ (i : Item). tell i.shape (slot_item a.s.now i (cursor_of l.spot))) c.item_of-item.ensures)
 
 pub overflow_add-at : goal.overflow_add-at
 overflow_add-at c =
     let a = c.args in
-    let l = c.loop-k in
+    let l = c.loop-row in
     let f = item_of a.a a.misc a.kind in
-    let g = filling-room f a.s.now a.from a.to a.first a.out.now a.start l.out l.c l.k l.at l.invariant c.loop-k-test.true _ (c.told-t.ensures ∙ ap (λ (i : Item). told_of (tell i.shape (slot_item a.s.now i l.c))) c.item_lent-i.ensures) in
-    omega (arith, g.1, l.invariant.long, c.well_formed)
+    let g =
+    filling-room f a.s.now a.own.now (cursor_of a.first) a.out.now a.start l.out (cursor_of l.spot) l.row-index l.at l.invariant (omega arith) c.told-told.result
+    (c.told-told.ensures ∙ ap (λ (i : Item). tell i.shape (slot_item a.s.now i (cursor_of l.spot))) c.item_of-item.ensures) in
+    omega (arith, g, l.invariant.long, c.well_formed, c.count-at.ensures.0)
 
-pub loop-k-preserved : goal.loop-k-preserved
-loop-k-preserved c =
+pub unwrap-spot-requires : goal.unwrap-spot-requires
+unwrap-spot-requires c =
     let a = c.args in
-    let l = c.loop-k in
+    let l = c.loop-row in
     let f = item_of a.a a.misc a.kind in
-    filling-next f a.s.now a.from a.to a.first a.out.now a.start l.out l.c l.k l.at l.invariant c.loop-k-test.true _ _ _ (c.told-t.ensures ∙ ap (λ (i : Item). told_of (tell i.shape (slot_item a.s.now i l.c))) c.item_lent-i.ensures) c.place.ensures
-    (c.step-c.ensures ∙ ap (λ (i : Item). step a.s.now i l.c) c.item_lent-i.ensures)
+    step_ok l.spot c.step.result
+    (ap (λ (d : Cursor). d.why) c.step.ensures ∙ ap (λ (i : Item). (step a.s.now i (cursor_of l.spot)).why) c.item_of-item.ensures
+    ∙ filling-fine f a.s.now a.own.now (cursor_of a.first) a.out.now a.start l.out (cursor_of l.spot) l.row-index l.at l.invariant (omega arith))
 
-pub shape_of-out : goal.shape_of-out
-shape_of-out c = c.loop-k.invariant.long
+pub loop-row-preserved : goal.loop-row-preserved
+loop-row-preserved c =
+    let a = c.args in
+    let l = c.loop-row in
+    let f = item_of a.a a.misc a.kind in
+    filling-next f a.s.now a.own.now (cursor_of a.first) a.out.now a.start l.out (cursor_of l.spot) l.row-index l.at l.invariant (omega arith) c.told-told.result _ _ _
+    (c.told-told.ensures ∙ ap (λ (i : Item). tell i.shape (slot_item a.s.now i (cursor_of l.spot))) c.item_of-item.ensures) c.place.ensures
+    (ap (stepped l.spot) (sym c.unwrap-spot.ensures) ∙ c.step.ensures ∙ ap (λ (i : Item). step a.s.now i (cursor_of l.spot)) c.item_of-item.ensures) c.count-at.ensures.0
 
 pub returns : goal.returns
 returns c =
     let a = c.args in
-    let l = c.loop-k in
+    let l = c.loop-row in
     let f = item_of a.a a.misc a.kind in
-    filling-end f a.s.now a.from a.to a.first a.out.now a.start l.out l.c l.k l.at l.invariant c.loop-k-test.false
+    filling-end f a.s.now a.own.now (cursor_of a.first) a.out.now a.start l.out (cursor_of l.spot) l.row-index l.at l.invariant (omega arith)

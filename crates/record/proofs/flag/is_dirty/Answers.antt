@@ -1,16 +1,17 @@
 -- `record::flag::is_dirty` meets its contract: a type without a name has no flag; of the others the fields' last eight bytes say it. Assumes nothing.
-use mathlib.Core.Path.{sym, ◌∙◌}
+use mathlib.Core.Path.{sym}
 use native.Mathlib.Omega.{arith}
 use Prim.Native.Nat.{ℕ, ◌-◌}
 use lib.ListN.{length}
 use lib.Seq.{length-take-le}
 use Rattle.record.specs.Flag.{trailer-there, dirty-none, dirty-some}
-use borrow.Author.Rules.{rules}
+use Rattle.record.proofs.Dirty.{no-word, some-word}
 use Rattle.record.proofs.flag.is_dirty.Goals as goal
 
-pub returns-then-flag_at-eq0 : goal.returns-then-flag_at-eq0
-returns-then-flag_at-eq0 c =
-    dirty-none c.args.a c.args.r.now c.args.kind c.requires (sym c.flag_at.ensures ∙ c.if-flag_at-eq0.true)
+pub returns-then-is_none : goal.returns-then-is_none
+returns-then-is_none c =
+    let f = c.flag_at in
+    dirty-none c.args.a c.args.r.now c.args.kind c.requires (no-word f.result _ c.if-is_none.ensures f.ensures.value)
 
 pub overflow_sub-end : goal.overflow_sub-end
 overflow_sub-end c =
@@ -34,4 +35,5 @@ stale_from-requires c =
 
 pub returns : goal.returns
 returns c =
-    dirty-some c.args.a c.args.r.now c.args.kind c.requires (λ z. c.if-flag_at-eq0.false (c.flag_at.ensures ∙ z)) _ c.trailer_room.ensures.0 _ c.stale_from.ensures
+    let f = c.flag_at in
+    dirty-some c.args.a c.args.r.now c.args.kind c.requires (some-word f.result _ c.if-is_none.ensures f.ensures.value f.ensures.some) _ c.trailer_room.ensures.0 _ c.stale_from.ensures

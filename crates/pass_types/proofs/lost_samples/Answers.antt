@@ -1,0 +1,14 @@
+-- `pass_types::lost_samples` meets its contract: each call passes the next item of the list and leaves what the item after it asks. Assumes nothing.
+-- Written by tools/chains.py from the rows of crate table.
+use mathlib.Core.Path.{refl}
+use Rattle.meaning.specs.Values.{tell}
+use Rattle.pass.specs.Laws.{start, done, head₁, next₁}
+use Rattle.pass_types.proofs.lost_samples.Goals as goal
+
+pub number-requires : goal.number-requires
+unfolding tell
+number-requires g c = head₁ g.P.Pass.laws refl (start c.requires)
+
+pub returns : goal.returns
+unfolding tell
+returns g c = done g.P.Pass.laws (next₁ g.P.Pass.laws refl (start c.requires) c.number.ensures)
